@@ -1,0 +1,8 @@
+-- arrays, loops, statements, items
+pub mod Table
+-- what a loop refers to, and where two references meet
+pub mod References
+-- the memory, and what one iteration does to it
+pub mod Bodies
+-- the plain run
+pub mod PlainRun

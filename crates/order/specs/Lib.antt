@@ -1,0 +1,16 @@
+-- lists: members, order, permutations
+pub mod Lists
+-- when two orders of the same actions leave the same state
+pub mod Reorder
+-- plans and schedules: what any schedule does, and in what order
+pub mod Machine
+-- every complete schedule leaves what the plain order leaves; and there is one
+pub mod Plain
+pub mod Exists
+-- the same where a turn is one step of an action
+pub mod Steps
+pub mod Fine
+-- plans told by numbers: phases, processors, keys
+pub mod Rows
+-- which actions commute
+pub mod Memory
