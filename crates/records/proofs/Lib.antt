@@ -1,0 +1,2 @@
+-- what the proofs of several functions cite
+pub mod Laws

@@ -1,0 +1,117 @@
+use Rattle.records.specs.History.{advanced}
+use native.Mathlib.Omega.{arith}
+use Rattle.records.specs.declared.Record.{Record}
+use Rattle.records.specs.Clear.{Room}
+use mathlib.Core.Path.{subst}
+use Rattle.records.proofs.Laws.{operands-one}
+use borrow.Author.Needs.{needs}
+use Rattle.records.proofs.Summary.advance.Statement.{statement}
+use Rattle.records.proofs.Summary.advance.Tie as tie
+
+enum-told : tie.Need-enum-told
+enum-told c = search needs
+
+enum-known-r : tie.Need-enum-known-r
+enum-known-r c = search needs
+
+with-array-requires : tie.Need-with-array-requires
+with-array-requires c κs = subst (λ (x : Record). Room x (c .before .before .before .args .self)) (c .before .r .given .1) (c .before .before .before .pre)
+
+enum-known-r-2 : tie.Need-enum-known-r-2
+enum-known-r-2 c = search needs
+
+with-loop-requires : tie.Need-with-loop-requires
+with-loop-requires c κs = subst (λ (x : Record). Room x (c .before .before .before .args .self)) (c .before .r2 .given .1) (c .before .before .before .pre)
+
+enum-told-2 : tie.Need-enum-told-2
+enum-told-2 c = search needs
+
+add-with-item : tie.Need-add-with-item
+add-with-item c = let room = subst (λ (x : Record). Room x (c .before .before .before .args .self)) (c .before .enum-told2 .given .1) (c .before .before .before .pre) in omega (arith, room .1)
+
+with-item-requires : tie.Need-with-item-requires
+with-item-requires c κs = let room = subst (λ (x : Record). Room x (c .before .before .before .args .self)) (c .before .enum-told2 .given .1) (c .before .before .before .pre) in room .0
+
+enum-told-3 : tie.Need-enum-told-3
+enum-told-3 c = search needs
+
+add-with-item-2 : tie.Need-add-with-item-2
+add-with-item-2 c = let room = subst (λ (x : Record). Room x (c .before .before .before .args .self)) (c .before .enum-told3 .given .1) (c .before .before .before .pre) in omega (arith, room .1)
+
+with-item-requires-2 : tie.Need-with-item-requires-2
+with-item-requires-2 c κs = let room = subst (λ (x : Record). Room x (c .before .before .before .args .self)) (c .before .enum-told3 .given .1) (c .before .before .before .pre) in room .0
+
+enum-known-r-3 : tie.Need-enum-known-r-3
+enum-known-r-3 c = search needs
+
+operands-of-requires : tie.Need-operands-of-requires
+operands-of-requires c κs = search needs
+
+sub-with-item : tie.Need-sub-with-item
+sub-with-item c = let room = subst (λ (x : Record). Room x (c .before .before .before .before .before .args .self)) (c .before .before .before .r3 .given .1) (c .before .before .before .before .before .pre) in omega (arith, room .1, c .before .operands-of .ensures)
+
+add-with-item-3 : tie.Need-add-with-item-3
+add-with-item-3 c = omega (arith, operands-one (c .before .before .before .r3 .given .0 .0), c .before .operands-of .ensures)
+
+with-item-requires-3 : tie.Need-with-item-requires-3
+with-item-requires-3 c κs = let room = subst (λ (x : Record). Room x (c .before .before .before .before .before .args .self)) (c .before .before .before .r3 .given .1) (c .before .before .before .before .before .pre) in room .0
+
+enum-told-4 : tie.Need-enum-told-4
+enum-told-4 c = search needs
+
+returns : tie.Need-returns
+unfolding advanced
+returns c = rw (c .enum-told .given .1)
+
+returns-2 : tie.Need-returns-2
+unfolding advanced
+returns-2 c = rw (c .before .before .r .given .1) (c .with-array .ensures)
+
+returns-3 : tie.Need-returns-3
+unfolding advanced
+returns-3 c = rw (c .before .before .r2 .given .1) (c .with-loop .ensures)
+
+returns-4 : tie.Need-returns-4
+unfolding advanced
+returns-4 c = rw (c .before .before .enum-told2 .given .1) (c .with-item .ensures)
+
+returns-5 : tie.Need-returns-5
+unfolding advanced
+returns-5 c = rw (c .before .before .enum-told3 .given .1) (c .with-item2 .ensures)
+
+returns-6 : tie.Need-returns-6
+unfolding advanced
+returns-6 c = rw (c .before .before .before .before .r3 .given .1, ← (c .before .before .operands-of .ensures)) (c .with-item3 .ensures)
+
+returns-7 : tie.Need-returns-7
+unfolding advanced
+returns-7 c = rw (c .enum-told4 .given .1)
+
+pub advance-spec : {M : Type 1} → statement M
+advance-spec =
+    tie.close
+    (tie.spec
+    enum-told
+    enum-known-r
+    with-array-requires
+    enum-known-r-2
+    with-loop-requires
+    enum-told-2
+    add-with-item
+    with-item-requires
+    enum-told-3
+    add-with-item-2
+    with-item-requires-2
+    enum-known-r-3
+    operands-of-requires
+    sub-with-item
+    add-with-item-3
+    with-item-requires-3
+    enum-told-4
+    returns
+    returns-2
+    returns-3
+    returns-4
+    returns-5
+    returns-6
+    returns-7)

@@ -1,0 +1,76 @@
+-- The records before a place, the latest first, and what the tests look at in them.
+use Prim.Native.Nat.{ℕ, _+_, _-_}
+use mathlib.Core.Bool.{Bool, true, false, cond}
+use mathlib.Core.List.{List, [], _∷_, _++_}
+use lib.Dec.{eqb}
+use Rattle.records.specs.declared.Record.{Record}
+use Rattle.records.specs.declared.Record.the-variants.{Unknown, Array, Loop, Read, Constant, Operation, End}
+use Rattle.records.specs.declared.Summary.{Summary}
+
+-- how many waiting numbers an operation takes: 5, negate, takes one
+unfoldable pub operands : ℕ → ℕ
+operands o = cond (eqb o 5) 1 2
+
+-- one array more; a new loop, with an empty body; one item more in the latest body
+unfoldable pub withArray : ℕ → Summary → Summary
+withArray n t = record {
+  arrays = t .arrays + 1;
+  elements = t .elements + n;
+  loops = t .loops;
+  first = t .first;
+  last = t .last;
+  items = t .items;
+  waiting = t .waiting;
+}
+
+unfoldable pub withLoop : ℕ → ℕ → Summary → Summary
+withLoop first last t = record {
+  arrays = t .arrays;
+  elements = t .elements;
+  loops = t .loops + 1;
+  first = first;
+  last = last;
+  items = 0;
+  waiting = 0;
+}
+
+unfoldable pub withItem : ℕ → Summary → Summary
+withItem waiting t = record {
+  arrays = t .arrays;
+  elements = t .elements;
+  loops = t .loops;
+  first = t .first;
+  last = t .last;
+  items = t .items + 1;
+  waiting = waiting;
+}
+
+-- what a record adds: a read or a constant adds a waiting number, an operation takes one or two and adds one
+unfoldable pub advanced : Record → Summary → Summary
+advanced Unknown t = t
+advanced (Array n) t = withArray n t
+advanced (Loop f l q o) t = withLoop f l t
+advanced (Read q o) t = withItem (t .waiting + 1) t
+advanced (Constant n) t = withItem (t .waiting + 1) t
+advanced (Operation o) t = withItem (t .waiting - operands o + 1) t
+advanced End t = t
+
+-- before the first record. (One waits: no body is unfinished. 32 items: no body has room.)
+unfoldable pub blank : Summary
+blank = record { arrays = 0; elements = 0; loops = 0; first = 0; last = 0; items = 32; waiting = 1 }
+
+-- the counts of arrays, elements and loops; the latest loop's first and last, its items and how many numbers wait after them
+unfoldable pub summary : List Record → Summary
+summary [] = blank
+summary (r ∷ rs) = advanced r (summary rs)
+
+-- the arrays' lengths, in their order
+unfoldable pub lengths : List Record → List ℕ
+lengths [] = []
+lengths (Unknown ∷ rs) = lengths rs
+lengths (Array n ∷ rs) = lengths rs ++ (n ∷ [])
+lengths (Loop f l q o ∷ rs) = lengths rs
+lengths (Read q o ∷ rs) = lengths rs
+lengths (Constant n ∷ rs) = lengths rs
+lengths (Operation o ∷ rs) = lengths rs
+lengths (End ∷ rs) = lengths rs

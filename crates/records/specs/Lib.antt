@@ -1,0 +1,10 @@
+-- numbers in a row of bytes, and the kinds of records
+pub mod Bytes
+-- the records before a place, and what the tests look at in them
+pub mod History
+-- the tests of one record
+pub mod Grounds
+-- what is known of a record that meets no ground
+pub mod Clear
+-- the three ways that the tests of a record end
+pub mod Outcome
