@@ -4,7 +4,7 @@ use native.Mathlib.Omega.{arith}
 use mathlib.Core.Path.{_≡_, refl, sym, ap, subst, _∙_}
 use mathlib.Core.Bool.{Bool, true, false}
 use mathlib.Core.List.{List}
-use lib.ListN.{length}
+use lib.ListN.{length, getD}
 use lib.Dec.{eqb, leb, ltb, eqb·suc-zero}
 use borrow.Author.Tests.{ltb-false, leb-false, eqb-false, eqb-true}
 use Rattle.records.specs.declared.Kind.{Kind}
@@ -15,7 +15,7 @@ use Rattle.records.specs.declared.Summary.{Summary}
 use Rattle.records.specs.declared.Tested.{Tested}
 use Rattle.records.specs.declared.Tested.the-variants.{Refused, Passed, Ended}
 use Rattle.records.specs.Bytes.{byte, kindOf, bodyLength, recordOf, recordAt}
-use Rattle.records.specs.Grounds.{_if_else_, orElse, early, fields, ground, passed, pick, tested}
+use Rattle.records.specs.Grounds.{_if_else_, orElse, early, edge, fields, ground, passed, pick, tested}
 use Rattle.records.specs.Clear.{Clear, clear-of}
 
 -- a whole record that meets no ground
@@ -99,3 +99,27 @@ module _ (s : List ℕ) (at : ℕ) (t : Summary) (ns : List ℕ) where
 
   pub ended-whole : (n : ℕ) → tested s at t ns ≡ Ended n → Whole s at t ns End n
   ended-whole n e = subst Outcome e outcome
+
+-- the tests look only at the lengths of arrays that there are
+module _ (t : Summary) (ns ms : List ℕ) (same : (q : ℕ) → q < t .arrays → getD ns q 0 ≡ getD ms q 0) where
+  at-array : (q : ℕ) (test : ℕ → ℕ) → (5 if leb (t .arrays) q else test (getD ns q 0)) ≡ (5 if leb (t .arrays) q else test (getD ms q 0))
+  at-array q test = go (leb (t .arrays) q) refl
+    where
+      go : (b : Bool) → leb (t .arrays) q ≡ b → (5 if b else test (getD ns q 0)) ≡ (5 if b else test (getD ms q 0))
+      go true e = refl
+      go false e = ap test (same q (leb-false _ _ e))
+
+  fields-same : (r : Record) → fields r t ns ≡ fields r t ms
+  unfolding fields
+  fields-same Unknown = refl
+  fields-same (Array n) = refl
+  fields-same (Loop f l q o) =
+      ap (λ (g : ℕ). 3 if ltb 131071 l else 3 if ltb l f else g) (at-array q (λ n. 3 if ltb 510 o else edge f l o n))
+  fields-same (Read q o) = at-array q (λ n. 3 if ltb 510 o else 6 if leb 8 (t .waiting) else edge (t .first) (t .last) o n)
+  fields-same (Constant n) = refl
+  fields-same (Operation o) = refl
+  fields-same End = refl
+
+  pub tested-same : (s : List ℕ) (at : ℕ) → tested s at t ns ≡ tested s at t ms
+  unfolding tested ground
+  tested-same s at = rw (fields-same (recordAt s at))

@@ -1,0 +1,2 @@
+-- the invariant of the reading, and its turns
+pub mod Turns

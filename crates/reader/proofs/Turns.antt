@@ -1,0 +1,106 @@
+-- The invariant of the reading, and the turns of its loop.
+use Prim.Native.Nat.{ℕ, zero, suc, _+_, _-_, _≤_, _<_}
+use native.Mathlib.Omega.{arith}
+use mathlib.Core.Path.{_≡_, refl, sym, ap, subst, _∙_}
+use mathlib.Core.List.{List, [], _∷_}
+use lib.ListN.{length, getD, take}
+use lib.Seq.{getD-take}
+use borrow.Author.Tests.{lt-ltb, le-ltb}
+use Rattle.records.specs.declared.Record.{Record}
+use Rattle.records.specs.declared.Record.the-variants as rec
+use Rattle.records.specs.declared.Summary.{Summary}
+use Rattle.records.specs.declared.Tested.{Tested}
+use Rattle.records.specs.declared.Tested.the-variants as found
+use Rattle.records.specs.History.{summary, lengths, advanced, blank}
+use Rattle.records.specs.Grounds.{tested}
+use Rattle.records.specs.Clear.{Clear, Room, clear-room}
+use Rattle.records.specs.Outcome.{Whole, passed-whole, ended-whole, tested-same}
+use Rattle.reader.specs.declared.Reading.{Reading}
+use Rattle.reader.specs.declared.Reading.the-variants.{Refused, Accepted}
+use Rattle.reader.specs.Reading.{Answer, accepted, refused, follow, readFrom, reading, tableOf, loopsOf}
+use Rattle.reader.specs.Columns.{Columns, answer, kept, rowsAfter, tableAt, loopsFrom, Places}
+use Rattle.reader.specs.Stored.{Stored, Sized, Filled, stored-all, stored-start, kept-stored}
+
+-- the records before `at` have been read, and the rest from there gives the whole reading
+pub record Inv (s : List ℕ) (c : Columns) (t : Summary) (at rows : ℕ) : Type 0 where
+  pub rs : List Record
+  pub left : ℕ
+  pub summed : t ≡ summary rs
+  pub rest : readFrom left s at rs ≡ reading s
+  pub here : at ≤ length s
+  pub fuel : length s < at + left
+  pub stored : Stored c rs rows
+
+pub start : (s : List ℕ) (c : Columns) (t : Summary) → t ≡ blank → Sized c → getD (c .starts) 0 0 ≡ 0 → Inv s c t 0 0
+unfolding reading summary
+start s c t e z f = record {
+  rs = [];
+  left = suc (length s);
+  summed = e;
+  rest = refl;
+  here = omega arith;
+  fuel = omega arith;
+  stored = stored-start c z f;
+}
+
+module _ (s : List ℕ) (c : Columns) (t : Summary) (at rows : ℕ) (inv : Inv s c t at rows) where
+  open Inv inv using (rs, left, summed, rest, here, fuel, stored)
+
+  pub places : Places t rows
+  places = rw summed (record { arrays = stored .kept .few-arrays; loops = stored .kept .few-loops; rows = stored .kept .few-rows })
+
+  lens-same : (q : ℕ) → q < summary rs .arrays → getD (c .lens) q 0 ≡ getD (lengths rs) q 0
+  lens-same q l = sym (getD-take (summary rs .arrays) (c .lens) q 0 l) ∙ ap (λ (ns : List ℕ). getD ns q 0) (stored .lens)
+
+  -- what the code found is what the definition finds
+  module _ (x : Tested) (answered : x ≡ tested s at t (c .lens)) where
+    find : tested s at (summary rs) (lengths rs) ≡ x
+    find =
+        sym (answered ∙ ap (λ (u : Summary). tested s at u (c .lens)) summed ∙ tested-same (summary rs) (c .lens) (lengths rs) lens-same s at)
+
+    -- a turn of the definition
+    turn : (y : Tested) → x ≡ y → follow s at rs (λ r n. readFrom (left - 1) s n (r ∷ rs)) y ≡ reading s
+    unfolding readFrom
+    turn y e = let f : left ≡ suc (left - 1) = omega arith in rw (find, e) at (subst (λ (n : ℕ). readFrom n s at rs ≡ reading s) f rest)
+
+    pub turn-refused : (g : ℕ) → x ≡ found.Refused g → answer (Refused g at) c ≡ reading s
+    unfolding answer follow
+    turn-refused g e = turn (found.Refused g) e
+
+    pub turn-tail : (n : ℕ) → x ≡ found.Ended n → n < length s → answer (Refused 8 n) c ≡ reading s
+    unfolding answer follow
+    turn-tail n e l = rw (lt-ltb _ _ l) at (turn (found.Ended n) e)
+
+    pub turn-ended : (n a l : ℕ) → x ≡ found.Ended n → length s ≤ n → a ≡ t .arrays → l ≡ t .loops
+        → (answer (Accepted a l rows) c ≡ reading s) × Filled (Accepted a l rows) c
+    unfolding answer follow
+    turn-ended n a l e h f g = (table ∙ rw (le-ltb _ _ h) at (turn (found.Ended n) e), (stored .sized, rw (f, g, summed) (stored .kept)))
+      where
+        table : accepted (tableAt c a l) ≡ accepted (tableOf rs)
+        table = rw (f, g, summed, stored .lens, stored-all c rs rows stored)
+
+    module _ (r : Record) (n : ℕ) (e : x ≡ found.Passed r n) where
+      whole : Whole s at (summary rs) (lengths rs) r n × (r ≡ rec.End → ⊥)
+      whole = passed-whole s at (summary rs) (lengths rs) r n (find ∙ e)
+
+      pub passed-room : Room r t
+      passed-room = rw summed (clear-room r (summary rs) (lengths rs) (whole .0 .clear))
+
+      -- the place after a record is further on
+      pub further : (at < n) × (n ≤ length s)
+      further = let w = whole .0 in (omega (arith, w .next), w .fits)
+
+      pub passed-places : Places t rows × (rowsAfter r rows ≤ 528)
+      passed-places = (places, kept-stored c rs rows stored r (whole .0 .clear) (whole .1) .kept .few-rows)
+
+      pub turn-passed : (d : Columns) (u : Summary) (m : ℕ) → d ≡ kept r t rows c → u ≡ advanced r t → m ≡ rowsAfter r rows → Inv s d u n m
+      unfolding summary follow
+      turn-passed d u m f g h = record {
+        rs = r ∷ rs;
+        left = left - 1;
+        summed = g ∙ ap (advanced r) summed;
+        rest = turn (found.Passed r n) e;
+        here = further .1;
+        fuel = omega (arith, further .0);
+        stored = rw (f, h, summed) (kept-stored c rs rows stored r (whole .0 .clear) (whole .1));
+      }

@@ -1,0 +1,118 @@
+use native.Mathlib.Omega.{arith}
+use borrow.Author.Needs.{needs}
+use denote.Ref.{now}
+use lib.ListN.{length, set, length-set}
+use Prim.Native.Nat.{_-_}
+use Rattle.reader.specs.Columns.{columns}
+use Rattle.reader.proofs.Turns.{Inv, start, places, turn-refused, turn-tail, turn-ended, passed-room, further, passed-places, turn-passed}
+use lib.Seq.{getD-set-same}
+use Rattle.reader.proofs.read_table.Statement.{statement}
+use Rattle.reader.proofs.read_table.Tie as tie
+
+abbrev Inv-loop : tie.InvT-loop
+Inv-loop s lens₀ firsts₀ lasts₀ starts₀ kinds₀ arrays₀ values₀ t₀ at₀ rows₀ lens firsts lasts starts kinds arrays values t at rows =
+    Inv s (columns lens firsts lasts starts kinds arrays values) t at rows
+
+abbrev μ-loop : tie.MeasureT-loop
+μ-loop s lens₀ firsts₀ lasts₀ starts₀ kinds₀ arrays₀ values₀ t₀ at₀ rows₀ lens firsts lasts starts kinds arrays values t at rows =
+    length s - at
+
+blank-requires : tie.Need-blank-requires Inv-loop μ-loop
+blank-requires c κs = search needs
+
+element-write-starts : tie.Need-element-write-starts Inv-loop μ-loop
+element-write-starts c = search needs
+
+loop-holds : tie.Need-loop-holds Inv-loop μ-loop
+loop-holds c = let a = c .before .before .args in
+    start (a .s .now) (columns (a .lens .now) (a .firsts .now) (a .lasts .now) (set (a .starts .now) 0 0) (a .kinds .now) (a .arrays .now) (a .values .now))
+    (c .blank .result) (c .blank .ensures)
+    (record { lens = c .before .before .pre .lens; firsts = c .before .before .pre .firsts; lasts = c .before .before .pre .lasts; starts = simp length-set (c .before .before .pre .starts); kinds = c .before .before .pre .kinds; arrays = c .before .before .pre .arrays; values = c .before .before .pre .values })
+    (getD-set-same (a .starts .now) 0 0 0 (omega (arith, c .before .before .pre .starts)))
+
+read-record-requires : tie.Need-read-record-requires Inv-loop μ-loop
+read-record-requires c κs = let l = c .before .loop in
+    let s = now (c .before .before .before .before .args .s) in
+    let d = columns (l .lens) (l .firsts) (l .lasts) (l .starts) (l .kinds) (l .arrays) (l .values) in
+    places s d (l .t) (l .at) (l .rows) (l .inv) .arrays
+
+enum-known-found : tie.Need-enum-known-found Inv-loop μ-loop
+enum-known-found c = search needs
+
+returns : tie.Need-returns Inv-loop μ-loop
+returns c = let l = c .before .before .before .before .before .loop in
+    let s = now (c .before .before .before .before .before .before .before .before .args .s) in
+    let d = columns (l .lens) (l .firsts) (l .lasts) (l .starts) (l .kinds) (l .arrays) (l .values) in
+    (turn-refused s d (l .t) (l .at) (l .rows) (l .inv) (c .before .before .before .read-record .result) (c .before .before .before .read-record .ensures) (c .before .found .given .0 .0) (c .before .found .given .1), tt)
+
+enum-known-found-2 : tie.Need-enum-known-found-2 Inv-loop μ-loop
+enum-known-found-2 c = search needs
+
+keep-requires : tie.Need-keep-requires Inv-loop μ-loop
+keep-requires c κs = let l = c .before .before .before .before .before .before .before .before .before .before .before .before .loop in
+    let s = now (c .before .before .before .before .before .before .before .before .before .before .before .before .before .before .before .args .s) in
+    let d = columns (l .lens) (l .firsts) (l .lasts) (l .starts) (l .kinds) (l .arrays) (l .values) in
+    (passed-room s d (l .t) (l .at) (l .rows) (l .inv) (c .before .before .before .before .before .before .before .before .before .before .read-record .result) (c .before .before .before .before .before .before .before .before .before .before .read-record .ensures) (c .before .before .before .before .before .before .before .before .found2 .given .0 .0) (c .before .before .before .before .before .before .before .before .found2 .given .0 .1 .0) (c .before .before .before .before .before .before .before .before .found2 .given .1), passed-places s d (l .t) (l .at) (l .rows) (l .inv) (c .before .before .before .before .before .before .before .before .before .before .read-record .result) (c .before .before .before .before .before .before .before .before .before .before .read-record .ensures) (c .before .before .before .before .before .before .before .before .found2 .given .0 .0) (c .before .before .before .before .before .before .before .before .found2 .given .0 .1 .0) (c .before .before .before .before .before .before .before .before .found2 .given .1))
+
+advance-requires : tie.Need-advance-requires Inv-loop μ-loop
+advance-requires c κs = let l = c .before .before .before .before .before .before .before .before .before .before .before .before .before .loop in
+    let s = now (c .before .before .before .before .before .before .before .before .before .before .before .before .before .before .before .before .args .s) in
+    let d = columns (l .lens) (l .firsts) (l .lasts) (l .starts) (l .kinds) (l .arrays) (l .values) in
+    passed-room s d (l .t) (l .at) (l .rows) (l .inv) (c .before .before .before .before .before .before .before .before .before .before .before .read-record .result) (c .before .before .before .before .before .before .before .before .before .before .before .read-record .ensures) (c .before .before .before .before .before .before .before .before .before .found2 .given .0 .0) (c .before .before .before .before .before .before .before .before .before .found2 .given .0 .1 .0) (c .before .before .before .before .before .before .before .before .before .found2 .given .1)
+
+loop-less : tie.Need-loop-less Inv-loop μ-loop
+loop-less c = let l = c .before .before .before .before .before .before .before .before .before .before .before .before .before .before .loop in
+    let s = now (c .before .before .before .before .before .before .before .before .before .before .before .before .before .before .before .before .before .args .s) in
+    let d = columns (l .lens) (l .firsts) (l .lasts) (l .starts) (l .kinds) (l .arrays) (l .values) in
+    let f = further s d (l .t) (l .at) (l .rows) (l .inv) (c .before .before .before .before .before .before .before .before .before .before .before .before .read-record .result) (c .before .before .before .before .before .before .before .before .before .before .before .before .read-record .ensures) (c .before .before .before .before .before .before .before .before .before .before .found2 .given .0 .0) (c .before .before .before .before .before .before .before .before .before .before .found2 .given .0 .1 .0) (c .before .before .before .before .before .before .before .before .before .before .found2 .given .1) in
+    omega (arith, f)
+
+loop-again : tie.Need-loop-again Inv-loop μ-loop
+loop-again c = let l = c .before .before .before .before .before .before .before .before .before .before .before .before .before .before .loop in
+    let s = now (c .before .before .before .before .before .before .before .before .before .before .before .before .before .before .before .before .before .args .s) in
+    let d = columns (l .lens) (l .firsts) (l .lasts) (l .starts) (l .kinds) (l .arrays) (l .values) in
+    turn-passed s d (l .t) (l .at) (l .rows) (l .inv) (c .before .before .before .before .before .before .before .before .before .before .before .before .read-record .result) (c .before .before .before .before .before .before .before .before .before .before .before .before .read-record .ensures) (c .before .before .before .before .before .before .before .before .before .before .found2 .given .0 .0) (c .before .before .before .before .before .before .before .before .before .before .found2 .given .0 .1 .0) (c .before .before .before .before .before .before .before .before .before .before .found2 .given .1) _ _ _ (c .before .keep .ensures .1) (c .advance .ensures) (c .before .keep .ensures .0)
+
+enum-known-found-3 : tie.Need-enum-known-found-3 Inv-loop μ-loop
+enum-known-found-3 c = search needs
+
+returns-2 : tie.Need-returns-2 Inv-loop μ-loop
+returns-2 c = let l = c .before .before .before .before .before .before .loop in
+    let s = now (c .before .before .before .before .before .before .before .before .before .args .s) in
+    let d = columns (l .lens) (l .firsts) (l .lasts) (l .starts) (l .kinds) (l .arrays) (l .values) in
+    (turn-tail s d (l .t) (l .at) (l .rows) (l .inv) (c .before .before .before .before .read-record .result) (c .before .before .before .before .read-record .ensures) (c .before .before .found3 .given .0 .0) (c .before .before .found3 .given .1) (c .if1 .taken), tt)
+
+wide-requires : tie.Need-wide-requires Inv-loop μ-loop
+wide-requires c κs = search needs
+
+wide-requires-2 : tie.Need-wide-requires-2 Inv-loop μ-loop
+wide-requires-2 c κs = search needs
+
+returns-3 : tie.Need-returns-3 Inv-loop μ-loop
+returns-3 c = let l = c .before .before .before .before .before .before .before .before .loop in
+    let s = now (c .before .before .before .before .before .before .before .before .before .before .before .args .s) in
+    let d = columns (l .lens) (l .firsts) (l .lasts) (l .starts) (l .kinds) (l .arrays) (l .values) in
+    turn-ended s d (l .t) (l .at) (l .rows) (l .inv) (c .before .before .before .before .before .before .read-record .result) (c .before .before .before .before .before .before .read-record .ensures) (c .before .before .before .before .found3 .given .0 .0) _ _ (c .before .before .before .before .found3 .given .1) (c .before .before .if1 .left) (c .before .wide .ensures .0) (c .wide2 .ensures .0)
+
+pub read-table-spec : {M : Type 1} → statement M
+read-table-spec =
+    tie.close
+    (tie.spec
+    Inv-loop
+    μ-loop
+    blank-requires
+    element-write-starts
+    loop-holds
+    read-record-requires
+    enum-known-found
+    returns
+    enum-known-found-2
+    keep-requires
+    advance-requires
+    loop-less
+    loop-again
+    enum-known-found-3
+    returns-2
+    wide-requires
+    wide-requires-2
+    returns-3)

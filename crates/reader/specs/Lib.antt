@@ -1,0 +1,6 @@
+-- the reading of a whole table
+pub mod Reading
+-- a table as it is kept in columns
+pub mod Columns
+-- the columns hold what was read
+pub mod Stored

@@ -1,0 +1,54 @@
+-- The reading of a table: records from left to right, each tested after those before it.
+use Prim.Native.Nat.{ℕ, zero, suc}
+use mathlib.Core.Bool.{Bool, true, false}
+use mathlib.Core.List.{List, [], _∷_, _++_}
+use lib.ListN.{length}
+use lib.Dec.{ltb}
+use Rattle.records.specs.declared.Record.{Record}
+use Rattle.records.specs.declared.Record.the-variants.{Unknown, Array, Loop, Read, Constant, Operation, End}
+use Rattle.records.specs.declared.Tested.{Tested}
+use Rattle.records.specs.declared.Tested.the-variants.{Refused, Passed, Ended}
+use Rattle.records.specs.History.{summary, lengths}
+use Rattle.records.specs.Grounds.{tested}
+use Rattle.model.specs.Table.{Item, read, constant, operation, Table}
+use Rattle.model.specs.Table.{Loop as LoopOf}
+
+-- the loops of the records before a place, the latest record first; xs are the items that follow
+unfoldable pub loopsOf : List Record → List Item → List LoopOf
+loopsOf [] xs = []
+loopsOf (Unknown ∷ rs) xs = loopsOf rs xs
+loopsOf (Array n ∷ rs) xs = loopsOf rs xs
+loopsOf (Loop f l q o ∷ rs) xs =
+    loopsOf rs [] ++ (record { first = f; last = l; body = record { array = q; offset = o; items = xs } ∷ [] } ∷ [])
+loopsOf (Read q o ∷ rs) xs = loopsOf rs (read q o ∷ xs)
+loopsOf (Constant n ∷ rs) xs = loopsOf rs (constant n ∷ xs)
+loopsOf (Operation o ∷ rs) xs = loopsOf rs (operation o ∷ xs)
+loopsOf (End ∷ rs) xs = loopsOf rs xs
+
+-- the table that records make
+abbrev pub tableOf : List Record → Table
+tableOf rs = record { lengths = lengths rs; loops = loopsOf rs [] }
+
+-- a table, or a refusal with its number and its place
+pub data Answer : Type 0 where
+  accepted : Table → Answer
+  refused : (number place : ℕ) → Answer
+
+abbrev pub choose : Bool → Answer → Answer → Answer
+choose true a b = a
+choose false a b = b
+
+-- after the tests of the record at a place: a ground refuses there; past the end record bytes left over are 8
+unfoldable pub follow : List ℕ → ℕ → List Record → (Record → ℕ → Answer) → Tested → Answer
+follow s at rs more (Refused g) = refused g at
+follow s at rs more (Passed r n) = more r n
+follow s at rs more (Ended n) = choose (ltb n (length s)) (refused 8 n) (accepted (tableOf rs))
+
+-- from a place on, after the records rs
+unfoldable pub readFrom : ℕ → List ℕ → ℕ → List Record → Answer
+readFrom zero s at rs = refused 1 at
+readFrom (suc f) s at rs = follow s at rs (λ r n. readFrom f s n (r ∷ rs)) (tested s at (summary rs) (lengths rs))
+
+-- every record has a byte, so the length and one more bounds the number of records
+unfoldable pub reading : List ℕ → Answer
+reading s = readFrom (suc (length s)) s 0 []
