@@ -29,21 +29,26 @@ columns ns fs ls ss ks qs vs = record { lens = ns; firsts = fs; lasts = ls; star
 unfoldable pub itemOf : ℕ → ℕ → ℕ → Item
 itemOf kind q v = cond (eqb kind 3) (read q v) (cond (eqb kind 4) (constant v) (operation v))
 
-module _ (c : Columns) where
+-- in the columns of kinds, arrays and values
+module _ (ks qs vs : List ℕ) where
   abbrev pub itemAt : ℕ → Item
-  itemAt r = itemOf (getD (c .kinds) r 0) (getD (c .arrays) r 0) (getD (c .values) r 0)
+  itemAt r = itemOf (getD ks r 0) (getD qs r 0) (getD vs r 0)
 
   -- the n items from row r on
   unfoldable pub itemsFrom : ℕ → ℕ → List Item
   itemsFrom r zero = []
   itemsFrom r (suc n) = itemAt r ∷ itemsFrom (suc r) n
 
+module _ (c : Columns) where
+  abbrev pub itemsIn : ℕ → ℕ → List Item
+  itemsIn = itemsFrom (c .kinds) (c .arrays) (c .values)
+
   -- a statement: its destination's row, then its items up to the row `past`
   abbrev pub statementAt : ℕ → ℕ → Statement
   statementAt r past = record {
     array = getD (c .arrays) r 0;
     offset = getD (c .values) r 0;
-    items = itemsFrom (suc r) (past - suc r);
+    items = itemsIn (suc r) (past - suc r);
   }
 
   abbrev pub loopAt : ℕ → Loop

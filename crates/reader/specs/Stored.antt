@@ -18,7 +18,7 @@ use Rattle.model.specs.Table.{Item, read, constant, operation, Loop}
 use Rattle.reader.specs.declared.Reading.{Reading}
 use Rattle.reader.specs.declared.Reading.the-variants.{Refused, Accepted}
 use Rattle.reader.specs.Reading.{loopsOf}
-use Rattle.reader.specs.Columns.{Columns, itemOf, itemAt, itemsFrom, statementAt, loopAt, loopsFrom, withRow, withBounds, withLength, kept, rowsAfter}
+use Rattle.reader.specs.Columns.{Columns, itemOf, itemAt, itemsFrom, itemsIn, statementAt, loopAt, loopsFrom, withRow, withBounds, withLength, kept, rowsAfter}
 
 -- the columns' own lengths
 pub record Sized (c : Columns) : Type 0 where
@@ -51,12 +51,15 @@ Filled (Refused g p) c = Unit {0}
 Filled (Accepted a l r) c = Sized c × Kept c a l r
 
 -- LAWS OF THE COLUMNS
-items-snoc : (c : Columns) (r n : ℕ) → itemsFrom c r (suc n) ≡ itemsFrom c r n ++ (itemAt c (r + n) ∷ [])
+abbrev itemIn : Columns → ℕ → Item
+itemIn c = itemAt (c .kinds) (c .arrays) (c .values)
+
+items-snoc : (c : Columns) (r n : ℕ) → itemsIn c r (suc n) ≡ itemsIn c r n ++ (itemIn c (r + n) ∷ [])
 unfolding itemsFrom
-items-snoc c r zero = let e : r ≡ r + 0 = omega arith in ap (λ (k : ℕ). itemAt c k ∷ []) e
+items-snoc c r zero = let e : r ≡ r + 0 = omega arith in ap (λ (k : ℕ). itemIn c k ∷ []) e
 items-snoc c r (suc n) =
     let e : suc r + n ≡ r + suc n = omega arith in
-    ap (λ (l : List Item). itemAt c r ∷ l) (items-snoc c (suc r) n ∙ ap (λ (k : ℕ). itemsFrom c (suc r) n ++ (itemAt c k ∷ [])) e)
+    ap (λ (l : List Item). itemIn c r ∷ l) (items-snoc c (suc r) n ∙ ap (λ (k : ℕ). itemsIn c (suc r) n ++ (itemIn c k ∷ [])) e)
 
 loops-snoc : (c : Columns) (k n : ℕ) → loopsFrom c k (suc n) ≡ loopsFrom c k n ++ (loopAt c (k + n) ∷ [])
 unfolding loopsFrom
@@ -77,7 +80,7 @@ record Agree (c d : Columns) (n past : ℕ) : Type 0 where
   values : (r : ℕ) → r < past → getD (c .values) r 0 ≡ getD (d .values) r 0
 
 module _ (c d : Columns) (m past : ℕ) (a : Agree c d m past) where
-  items-agree : (r n : ℕ) → r + n ≤ past → itemsFrom c r n ≡ itemsFrom d r n
+  items-agree : (r n : ℕ) → r + n ≤ past → itemsIn c r n ≡ itemsIn d r n
   unfolding itemsFrom
   items-agree r zero h = refl
   items-agree r (suc n) h =
@@ -111,7 +114,7 @@ loopWith c k past xs = record {
   body = record {
     array = getD (c .arrays) (getD (c .starts) k 0) 0;
     offset = getD (c .values) (getD (c .starts) k 0) 0;
-    items = itemsFrom c (suc (getD (c .starts) k 0)) (past - suc (getD (c .starts) k 0)) ++ xs;
+    items = itemsIn c (suc (getD (c .starts) k 0)) (past - suc (getD (c .starts) k 0)) ++ xs;
   } ∷ [];
 }
 
@@ -138,7 +141,7 @@ unfolding shown
 shown-all c zero rows e = sym (loops-none c 0)
 shown-all c (suc m) rows e =
     let z : 0 + m ≡ m = omega arith in
-    let l : loopWith c m rows [] ≡ loopAt c m = rw (append-nil (itemsFrom c (suc (getD (c .starts) m 0)) (rows - suc (getD (c .starts) m 0))), e) in
+    let l : loopWith c m rows [] ≡ loopAt c m = rw (append-nil (itemsIn c (suc (getD (c .starts) m 0)) (rows - suc (getD (c .starts) m 0))), e) in
     ap (λ (x : Loop). loopsFrom c 0 m ++ (x ∷ [])) l ∙ sym (loops-snoc c 0 m ∙ ap (λ (k : ℕ). loopsFrom c 0 m ++ (loopAt c k ∷ [])) z)
 
 pub stored-all : (c : Columns) (rs : List Record) (rows : ℕ) → Stored c rs rows → loopsOf rs [] ≡ loopsFrom c 0 (summary rs .loops)
@@ -194,13 +197,13 @@ module _ (c d : Columns) (j rows kind q v : ℕ) (g : Grown c d j rows kind q v)
 
   -- the items of loop j, with one more
   items-grown : (x : Item) (xs : List Item) (st n : ℕ) → itemOf kind q v ≡ x → suc st + n ≡ rows
-      → itemsFrom c (suc st) n ++ (x ∷ xs) ≡ itemsFrom d (suc st) (suc n) ++ xs
+      → itemsIn c (suc st) n ++ (x ∷ xs) ≡ itemsIn d (suc st) (suc n) ++ xs
   items-grown x xs st n i e =
       ap (λ (l : List Item). l ++ (x ∷ xs)) (items-agree c d j rows (g .agree) (suc st) n (omega arith))
-      ∙ sym (append-assoc (itemsFrom d (suc st) n) (x ∷ []) xs)
-      ∙ ap (λ (l : List Item). l ++ xs) (sym (items-snoc d (suc st) n ∙ ap (λ (y : Item). itemsFrom d (suc st) n ++ (y ∷ [])) last))
+      ∙ sym (append-assoc (itemsIn d (suc st) n) (x ∷ []) xs)
+      ∙ ap (λ (l : List Item). l ++ xs) (sym (items-snoc d (suc st) n ∙ ap (λ (y : Item). itemsIn d (suc st) n ++ (y ∷ [])) last))
     where
-      last : itemAt d (suc st + n) ≡ x
+      last : itemIn d (suc st + n) ≡ x
       last = rw (e, g .kind-is, g .array-is, g .value-is) i
 
   shown-grown : (x : Item) (xs : List Item) → itemOf kind q v ≡ x → getD (c .firsts) j 0 ≡ getD (d .firsts) j 0
@@ -331,7 +334,7 @@ module _ (c : Columns) (rs : List Record) (rows : ℕ) (s : Stored c rs rows) wh
         (λ k h. sym (getD-set-other (c .firsts) n k f 0 (λ z. omega arith))) (λ k h. sym (getD-set-other (c .lasts) n k l 0 (λ z. omega arith)))
         refl refl refl refl
 
-    items-none : (r : ℕ) → itemsFrom e r 0 ≡ []
+    items-none : (r : ℕ) → itemsIn e r 0 ≡ []
     unfolding itemsFrom
     items-none r = refl
 
