@@ -148,7 +148,7 @@ pub stored-all : (c : Columns) (rs : List Record) (rows : ℕ) → Stored c rs r
 stored-all c rs rows s = s .loops [] ∙ shown-all c (summary rs .loops) rows (s .kept .end)
 
 -- the rows of an earlier loop start earlier
-starts-up : (c : Columns) (a n rows : ℕ) → Kept c a n rows → (j k : ℕ) → j ≤ k → k ≤ n → getD (c .starts) j 0 ≤ getD (c .starts) k 0
+pub starts-up : (c : Columns) (a n rows : ℕ) → Kept c a n rows → (j k : ℕ) → j ≤ k → k ≤ n → getD (c .starts) j 0 ≤ getD (c .starts) k 0
 starts-up c a n rows h j zero l m = let e : j ≡ 0 = omega arith in rw e (omega arith)
 starts-up c a n rows h j (suc k) l m = go (ℕ-discrete j (suc k)) (starts-up c a n rows h j k)
   where

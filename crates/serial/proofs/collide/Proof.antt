@@ -1,0 +1,60 @@
+use borrow.Author.Tests.{le-leb, lt-leb, eq-eqb, ne-eqb}
+use Rattle.serial.specs.Serial.{collides}
+use Rattle.serial.proofs.Walks.{near, far}
+use borrow.Author.Needs.{needs}
+use Rattle.serial.proofs.collide.Statement.{statement}
+use Rattle.serial.proofs.collide.Tie as tie
+
+returns : tie.Need-returns
+unfolding collides
+returns c = simp (ne-eqb _ _ (c .if1 .taken))
+
+returns-2 : tie.Need-returns-2
+unfolding collides
+returns-2 c = simp (eq-eqb _ _ (c .before .if1 .left), eq-eqb _ _ (c .if2 .taken))
+
+wide-requires : tie.Need-wide-requires
+wide-requires c κs = search needs
+
+add-if3 : tie.Need-add-if3
+add-if3 c = search needs
+
+wide-requires-2 : tie.Need-wide-requires-2
+wide-requires-2 c κs = search needs
+
+returns-3 : tie.Need-returns-3
+unfolding collides
+returns-3 c = simp (eq-eqb _ _ (c .before .before .before .before .if1 .left), ne-eqb _ _ (c .before .before .before .if2 .left), ← (c .before .before .wide .ensures .0), ← (c .before .wide2 .ensures .0), lt-leb _ _ (c .if3 .taken))
+
+wide-requires-3 : tie.Need-wide-requires-3
+wide-requires-3 c κs = search needs
+
+add-if4 : tie.Need-add-if4
+add-if4 c = search needs
+
+wide-requires-4 : tie.Need-wide-requires-4
+wide-requires-4 c κs = search needs
+
+returns-4 : tie.Need-returns-4
+unfolding collides
+returns-4 c = simp (eq-eqb _ _ (c .before .before .before .before .before .before .before .if1 .left), ne-eqb _ _ (c .before .before .before .before .before .before .if2 .left), le-leb _ _ (near (c .before .before .before .before .before .before .before .before .args .span) (c .before .before .before .before .before .wide .ensures .0) (c .before .before .before .before .wide2 .ensures .0) (c .before .before .before .if3 .left)), lt-leb _ _ (far (c .before .before .before .before .before .before .before .before .args .span) (c .before .before .wide3 .ensures .0) (c .before .wide4 .ensures .0) (c .if4 .taken)))
+
+returns-5 : tie.Need-returns-5
+unfolding collides
+returns-5 c = simp (eq-eqb _ _ (c .before .before .before .before .before .before .before .if1 .left), ne-eqb _ _ (c .before .before .before .before .before .before .if2 .left), le-leb _ _ (near (c .before .before .before .before .before .before .before .before .args .span) (c .before .before .before .before .before .wide .ensures .0) (c .before .before .before .before .wide2 .ensures .0) (c .before .before .before .if3 .left)), le-leb _ _ (near (c .before .before .before .before .before .before .before .before .args .span) (c .before .before .wide3 .ensures .0) (c .before .wide4 .ensures .0) (c .if4 .left)))
+
+pub collide-spec : {M : Type 1} → statement M
+collide-spec =
+    tie.close
+    (tie.spec
+    returns
+    returns-2
+    wide-requires
+    add-if3
+    wide-requires-2
+    returns-3
+    wide-requires-3
+    add-if4
+    wide-requires-4
+    returns-4
+    returns-5)

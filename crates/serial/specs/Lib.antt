@@ -1,0 +1,4 @@
+-- ground 9: the test, and the table through it
+pub mod Serial
+-- ground 9: the statement, and that the test decides it
+pub mod Meeting

@@ -1,0 +1,77 @@
+-- Ground 9: two different iterations of one loop meet at an element, one of them storing. The test, and reading through it.
+use Prim.Native.Nat.{ℕ, zero, suc, _+_, _-_, _<_}
+use mathlib.Core.Path.{_≡_}
+use mathlib.Core.Bool.{Bool, true, false, cond, not, _&&_}
+use mathlib.Core.List.{List, [], _∷_}
+use lib.Dec.{eqb, leb}
+use Rattle.model.specs.Table.{Item, read, constant, operation, Statement, Loop, Table, loop, count}
+use Rattle.reader.specs.Reading.{Answer, accepted, refused, reading}
+use Rattle.reader.specs.Columns.{Columns, loopAt, tableAt}
+use Rattle.reader.specs.Stored.{Sized, Kept}
+use Rattle.serial.specs.declared.Collision.{Collision}
+use Rattle.serial.specs.declared.Collision.the-variants.{Nothing, Read}
+use Rattle.serial.specs.declared.Checked.{Checked}
+use Rattle.serial.specs.declared.Checked.the-variants.{Refused, Serial, Accepted}
+
+-- a read of array b at an offset o meets a store to array a at an offset c in another iteration: the array is one, the offsets differ,
+-- and by no more than the span, last - first
+unfoldable pub collides : ℕ → ℕ → ℕ → ℕ → ℕ → Bool
+collides span a c b o = eqb b a && (not (eqb o c) && (leb o (c + span) && leb c (o + span)))
+
+abbrev pub pick : Bool → Collision → Collision → Collision
+pick true x y = x
+pick false x y = y
+
+-- the first read that collides, where n reads came before
+unfoldable pub hit : ℕ → ℕ → ℕ → List Item → ℕ → Collision
+hit span a c [] n = Nothing
+hit span a c (read b o ∷ xs) n = pick (collides span a c b o) (Read n) (hit span a c xs (n + 1))
+hit span a c (constant k ∷ xs) n = hit span a c xs n
+hit span a c (operation k ∷ xs) n = hit span a c xs n
+
+-- in a loop of one statement
+abbrev pub bodyHit : ℕ → List Statement → Collision
+bodyHit span [] = Nothing
+bodyHit span (s ∷ b) = hit span (s .array) (s .offset) (s .items) 0
+
+unfoldable pub loopHit : Loop → Collision
+loopHit l = bodyHit (l .last - l .first) (l .body)
+
+-- the loops from loop k on: 9 carries the lowest that collides
+abbrev pub afterLoop : ℕ → Collision → Answer → Answer
+afterLoop k Nothing more = more
+afterLoop k (Read n) more = refused 9 k
+
+unfoldable pub serialFrom : Table → ℕ → ℕ → Answer
+serialFrom t k zero = accepted t
+serialFrom t k (suc n) = afterLoop k (loopHit (loop t k)) (serialFrom t (suc k) n)
+
+-- a table, read through 9
+unfoldable pub through : Answer → Answer
+through (refused n p) = refused n p
+through (accepted t) = serialFrom t 0 (count t)
+
+unfoldable pub table : List ℕ → Answer
+table s = through (reading s)
+
+-- what the code's answer says, with the columns that it left
+unfoldable pub answer : Checked → Columns → Answer
+answer (Refused g p) c = refused g p
+answer (Serial k n) c = refused 9 k
+answer (Accepted arrays loops rows) c = accepted (tableAt c arrays loops)
+
+abbrev pub Which : Checked → Columns → ℕ → ℕ → ℕ → Type 0
+Which (Refused g p) c a l rows = ⊥
+Which (Serial k n) c a l rows = (k < l) × (loopHit (loopAt c k) ≡ Read n)
+Which (Accepted b m r) c a l rows = (b ≡ a) × (m ≡ l) × (r ≡ rows)
+
+-- the code's answer on a table in columns that was read: its loop is the lowest that collides, its read the first in that loop
+pub record Lowest (r : Checked) (c : Columns) (a l rows : ℕ) : Type 0 where
+  pub is : answer r c ≡ serialFrom (tableAt c a l) 0 l
+  pub named : Which r c a l rows
+
+-- what is left with the answer: an accepted table's columns, and of 9 that the loop is one of the table, with its first read that collides
+abbrev pub Left : Checked → Columns → List ℕ → Type 0
+Left (Refused g p) c s = Unit {0}
+Left (Serial k n) c s = (a : ℕ) × (l : ℕ) × (reading s ≡ accepted (tableAt c a l)) × (k < l) × (loopHit (loopAt c k) ≡ Read n)
+Left (Accepted a l r) c s = Sized c × Kept c a l r
