@@ -93,6 +93,24 @@ pub fn rearrange(random: &mut Random, bytes: &[u8]) -> Vec<u8> {
     rows.concat()
 }
 
+/// Makes one array, loop or body too many, by the same one over and over: an
+/// array, a loop with its body, or negations behind an item.
+pub fn crowd(random: &mut Random, bytes: &[u8]) -> Vec<u8> {
+    let mut rows = records(bytes);
+    let from = random.below(rows.len());
+    let (after, more) = match rows[from][0] {
+        2 => {
+            let is_item = |row: &&Vec<u8>| matches!(row[0], 3..=5);
+            let items = rows[from + 1..].iter().take_while(is_item).count();
+            (from + items + 1, rows[from..=from + items].concat().repeat(16))
+        }
+        3..=5 => (from + 1, [5, 5].repeat(32)),
+        _ => (from, rows[from].repeat(16)),
+    };
+    rows.insert(after, more);
+    rows.concat()
+}
+
 /// Gives one record fields at or near their limits. Several fields change at
 /// once often enough that the order of the grounds shows.
 pub fn field(random: &mut Random, bytes: &[u8]) -> Vec<u8> {

@@ -1,18 +1,31 @@
 //! A second implementation of the paper, made to be compared with the proved
 //! library, and the calls into that library.
 
+pub mod blocks;
 pub mod bodies;
 pub mod damage;
+pub mod dependence;
 pub mod encoder;
 pub mod examples;
 pub mod join;
+#[cfg(test)]
+mod known;
+pub mod lent;
 pub mod library;
+#[cfg(feature = "planning")]
+pub mod library_planning;
 pub mod limits;
+pub mod listing;
+pub mod lists;
 pub mod measure;
 pub mod outcome;
+pub mod outputs;
+pub mod planner;
+pub mod processors;
 pub mod random;
 pub mod reader;
 pub mod rows;
+pub mod sweeps;
 pub mod table;
 pub mod tables;
 pub mod tally;

@@ -3,9 +3,10 @@
 use vempaldi_checks::damage;
 use vempaldi_checks::encoder::encode;
 use vempaldi_checks::join::{join, together};
+use vempaldi_checks::lent;
 use vempaldi_checks::library;
 use vempaldi_checks::limits;
-use vempaldi_checks::outcome::{agrees, hex};
+use vempaldi_checks::outcome::hex;
 use vempaldi_checks::random::Random;
 use vempaldi_checks::reader::read;
 use vempaldi_checks::table::Table;
@@ -42,29 +43,18 @@ fn every_room(tally: &mut Tally, left: &[u8], right: &[u8]) {
 
 /// The bytes written, the count, the answer, and that nothing else changed.
 fn compare(tally: &mut Tally, left: &[u8], right: &[u8], room: usize) {
-    let before: Vec<u8> = (0..room + 32).map(|at| (at * 7 + 13) as u8).collect();
-    let mut after = before.clone();
-    let (answer, written) = library::join(left, right, &mut after[..room]);
     let expected = join(left, right, room);
-    let mut wanted = before;
-    let mut count = 0;
-    if let Ok(bytes) = &expected {
-        wanted[..bytes.len()].copy_from_slice(bytes);
-        count = bytes.len() as u64;
+    let result = lent::compare(room, &expected, |out| library::join(left, right, out));
+    match result {
+        Ok(answer) => tally.add(answer[0]),
+        Err(report) => {
+            eprintln!("joining: the library and the second implementation disagree");
+            eprintln!("  left     {}", hex(left));
+            eprintln!("  right    {}", hex(right));
+            eprintln!("{report}");
+            std::process::exit(1);
+        }
     }
-    let refusal = expected.err();
-    if !agrees(&answer, refusal.as_ref()) || written != count || after != wanted {
-        eprintln!("joining: the library and the second implementation disagree");
-        eprintln!("  left     {}", hex(left));
-        eprintln!("  right    {}", hex(right));
-        eprintln!("  room     {room}");
-        eprintln!("  library  {answer:?}, {written} bytes written");
-        eprintln!("  expected {refusal:?}, {count} bytes written");
-        eprintln!("  output   {}", hex(&after));
-        eprintln!("  wanted   {}", hex(&wanted));
-        std::process::exit(1);
-    }
-    tally.add(answer[0]);
 }
 
 /// The library's output, read again, has left's arrays and both tables'
@@ -115,12 +105,13 @@ fn other_arrays(random: &mut Random, shape: &Shape, like: &Table) -> Table {
 }
 
 fn broken(random: &mut Random, bytes: &[u8]) -> Vec<u8> {
-    match random.below(6) {
+    match random.below(7) {
         0 => bytes[..random.below(bytes.len())].to_vec(),
         1 => damage::change_byte(random, bytes),
         2 => damage::rearrange(random, bytes),
         3 => damage::insert_byte(random, bytes),
         4 => damage::mostly_kinds(random, 60),
+        5 => damage::crowd(random, bytes),
         _ => damage::field(random, bytes),
     }
 }

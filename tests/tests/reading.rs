@@ -83,11 +83,11 @@ fn damaged(tally: &mut Tally, seed: u64, shape: &Shape, count: usize) {
     let mut other = encode(&tables::any(&mut random, shape));
     for _ in 0..count {
         let bytes = encode(&tables::any(&mut random, shape));
-        for way in 0..7 {
+        for way in 0..8 {
             let once = damage_one_way(&mut random, way, &bytes, &other);
             compare(tally, &once);
             if !once.is_empty() {
-                let again = random.below(7);
+                let again = random.below(8);
                 let twice = damage_one_way(&mut random, again, &once, &other);
                 compare(tally, &twice);
             }
@@ -104,6 +104,7 @@ fn damage_one_way(random: &mut Random, way: usize, bytes: &[u8], other: &[u8]) -
         3 => damage::splice(random, bytes, other),
         4 => damage::splice_records(random, bytes, other),
         5 => damage::rearrange(random, bytes),
+        6 => damage::crowd(random, bytes),
         _ => damage::field(random, bytes),
     }
 }
