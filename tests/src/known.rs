@@ -1,11 +1,15 @@
-//! The known results of the paper that concern planning.
+//! The known results of the paper that concern planning and running.
 
 use crate::blocks::{plan, Range};
+use crate::encoder::Encoder;
 use crate::examples::*;
+use crate::interpreter::plain_run;
 use crate::listing::listing;
 use crate::lists::{lists, Iteration};
+use crate::memories::{bits, own_index};
 use crate::planner::{amounts, threshold};
 use crate::reader::read;
+use crate::stepping::run;
 use crate::sweeps::{sweeps, Sweeps};
 use crate::table::Table;
 
@@ -97,4 +101,47 @@ fn the_example_has_its_lists() {
 #[test]
 fn the_example_sweeps_6_before_and_5_after() {
     assert_eq!(sweeps(&table(&EXAMPLE)), Sweeps { before: 6, after: 5 });
+}
+
+#[test]
+fn the_example_leaves_3_12_and_21() {
+    let table = table(&EXAMPLE);
+    let mut memory = own_index(&table.arrays);
+    plain_run(&EXAMPLE, &mut memory).expect("accepted");
+    let stored = &memory[24..];
+    assert_eq!((stored[1], stored[5], stored[10]), (3.0, 12.0, 21.0));
+}
+
+#[test]
+fn every_order_of_the_example_leaves_the_same() {
+    let start = own_index(&table(&EXAMPLE).arrays);
+    let mut plain = start.clone();
+    plain_run(&EXAMPLE, &mut plain).expect("accepted");
+    for order in [&[][..], &[1; 30], &[0, 1, 0, 1], &[7, 0, 200, 1]] {
+        let mut memory = start.clone();
+        run(&EXAMPLE, 2, order, &mut memory).expect("accepted");
+        assert_eq!(bits(&memory), bits(&plain));
+    }
+}
+
+#[test]
+fn idle_bytes_are_counted() {
+    let start = own_index(&table(&EXAMPLE).arrays);
+    let idle = |order: &[u8]| run(&EXAMPLE, 2, order, &mut start.clone()).expect("accepted");
+    assert_eq!(idle(&[]), 0);
+    // Processor 1 has nine fused iterations and then waits.
+    assert_eq!(idle(&[1; 12]), 3);
+    assert_eq!(idle(&[2, 255, 0]), 2);
+    // Past the barrier processor 0 has two peeled iterations, processor 1
+    // none.
+    let all = [[1; 9], [0; 9]].concat();
+    assert_eq!(idle(&[&all[..], &[1, 0, 0, 0]].concat()), 2);
+}
+
+#[test]
+fn zero_divided_by_zero_is_stored_as_the_paper_says() {
+    let table = Encoder::new().array(1).a_loop(0, 0, 0, 0).constant(0).constant(0).operation(4);
+    let mut memory = [1.0];
+    plain_run(&table.end().bytes, &mut memory).expect("accepted");
+    assert_eq!(memory[0].to_bits(), 0x7FF8_0000_0000_0000);
 }

@@ -7,6 +7,7 @@ pub mod damage;
 pub mod dependence;
 pub mod encoder;
 pub mod examples;
+pub mod interpreter;
 pub mod join;
 #[cfg(test)]
 mod known;
@@ -14,10 +15,13 @@ pub mod lent;
 pub mod library;
 #[cfg(feature = "planning")]
 pub mod library_planning;
+#[cfg(feature = "running")]
+pub mod library_running;
 pub mod limits;
 pub mod listing;
 pub mod lists;
 pub mod measure;
+pub mod memories;
 pub mod outcome;
 pub mod outputs;
 pub mod planner;
@@ -25,6 +29,7 @@ pub mod processors;
 pub mod random;
 pub mod reader;
 pub mod rows;
+pub mod stepping;
 pub mod sweeps;
 pub mod table;
 pub mod tables;

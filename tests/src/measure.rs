@@ -29,11 +29,6 @@ pub fn beside(
     best
 }
 
-/// Nanoseconds for one unit of the work, the best of all rounds.
-pub fn alone(rounds: usize, units: usize, mut work: impl FnMut()) -> f64 {
-    (0..rounds).map(|_| nanoseconds(units, &mut work)).fold(f64::INFINITY, f64::min)
-}
-
 fn nanoseconds(units: usize, work: &mut impl FnMut()) -> f64 {
     let start = Instant::now();
     work();
@@ -43,7 +38,7 @@ fn nanoseconds(units: usize, work: &mut impl FnMut()) -> f64 {
 /// One line of the benchmark.
 pub fn print(name: &str, unit: &str, pair: &Pair) {
     println!(
-        "{name}: library {:.0} ns, second {:.0} ns a {unit}, factor {:.2}",
+        "{name}: library {:.0} ns, second {:.0} ns per {unit}, factor {:.2}",
         pair.library,
         pair.second,
         pair.factor()

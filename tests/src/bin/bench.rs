@@ -6,10 +6,15 @@
 mod planning;
 #[path = "bench/reading.rs"]
 mod reading;
+#[cfg(feature = "running")]
+#[path = "bench/running.rs"]
+mod running;
 
 fn main() {
     println!("factor: the library's time divided by the second implementation's");
     reading::measure();
     #[cfg(feature = "planning")]
     planning::measure();
+    #[cfg(feature = "running")]
+    running::measure();
 }
