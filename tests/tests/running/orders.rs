@@ -4,6 +4,7 @@
 use crate::plans::{planned, Planned};
 use crate::stop::{first_difference, same_bits, stop};
 use vempaldi_checks::damage;
+use vempaldi_checks::encoder::encode;
 use vempaldi_checks::interpreter::plain_run;
 use vempaldi_checks::library_running as library;
 use vempaldi_checks::memories;
@@ -11,6 +12,7 @@ use vempaldi_checks::outcome::{agrees, ACCEPTED};
 use vempaldi_checks::processors;
 use vempaldi_checks::random::Random;
 use vempaldi_checks::stepping::run;
+use vempaldi_checks::tables::{self, Shape};
 use vempaldi_checks::tally::Tally;
 
 const PLANS: u64 = 20_000;
@@ -32,9 +34,24 @@ pub fn compare_all() {
             refused(&mut tally, &mut random, &planned, &order);
         }
     }
+    long_runs(&mut tally);
     tally.print("runs in a caller's order");
     println!("  {idle} idle bytes in all");
     tally.require(&[0, 1, 3, 4, 5, 6, 7, 8, 10, 11, 12], 50);
+}
+
+/// Few runs of larger tables, up to some thousand iterations.
+fn long_runs(tally: &mut Tally) {
+    let shape = Shape { arrays: 8, loops: 16, items: 32, length: 2_000, offset: 3, serial: false };
+    let mut random = Random::new(14);
+    for _ in 0..60 {
+        let table = tables::aligned(&mut random, &shape);
+        let processors = processors::most(&table).min(random.between(2, 64) as u32);
+        let start = memories::any(&mut random, table.elements() as usize);
+        let order: Vec<u8> =
+            (0..2_000).map(|_| random.below(processors as usize + 1) as u8).collect();
+        compare(tally, &encode(&table), processors, &order, &start);
+    }
 }
 
 /// Bytes of which most name processors, in rows of one or mixed; some runs

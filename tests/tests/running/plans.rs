@@ -13,6 +13,9 @@ const NEAR: Shape = Shape { arrays: 4, loops: 6, items: 7, length: 40, offset: 1
 const CHAINED: Shape =
     Shape { arrays: 2, loops: 8, items: 4, length: 60, offset: 2, serial: false };
 
+/// Enough indices for 64 processors.
+const WIDE: Shape = Shape { arrays: 3, loops: 3, items: 4, length: 150, offset: 1, serial: false };
+
 pub struct Planned {
     pub bytes: Vec<u8>,
     pub schedule: Schedule,
@@ -26,7 +29,8 @@ pub fn planned(random: &mut Random) -> Planned {
         if most == 1 && random.chance(3, 4) {
             continue;
         }
-        let processors = random.between(most.min(2), most) as u32;
+        let least = if random.chance(1, 4) { most } else { most.min(2) };
+        let processors = random.between(least, most) as u32;
         let bytes = encode(&table);
         if let Ok(schedule) = Schedule::new(&bytes, processors) {
             return Planned { bytes, schedule };
@@ -35,10 +39,11 @@ pub fn planned(random: &mut Random) -> Planned {
 }
 
 fn a_table(random: &mut Random) -> Table {
-    match random.below(4) {
-        0 => tables::any(random, &SMALL),
-        1 => tables::aligned(random, &SMALL),
-        2 => tables::aligned(random, &NEAR),
-        _ => tables::aligned(random, &CHAINED),
+    match random.below(9) {
+        0 | 1 => tables::any(random, &SMALL),
+        2 | 3 => tables::aligned(random, &SMALL),
+        4 | 5 => tables::aligned(random, &NEAR),
+        6 | 7 => tables::aligned(random, &CHAINED),
+        _ => tables::aligned(random, &WIDE),
     }
 }

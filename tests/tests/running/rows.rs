@@ -17,6 +17,8 @@ const LEAST_OF_EACH: u64 = 10_000;
 #[derive(Default)]
 struct Calls {
     rows: u64,
+    /// Plans for 64 processors, which use every count of the state.
+    widest: u64,
     done: u64,
     waiting: u64,
     finished: u64,
@@ -29,6 +31,7 @@ pub fn compare_all() {
     for _ in 0..PLANS {
         let planned = planned(&mut random);
         let processors = planned.schedule.processors();
+        calls.widest += u64::from(processors == 64);
         for scheduler in schedulers::every(&mut random, processors) {
             row(&mut calls, &mut random, &planned, scheduler);
         }
@@ -37,6 +40,8 @@ pub fn compare_all() {
         "rows of steps: {} complete rows; {} iterations, {} waiting, {} finished, {} refused",
         calls.rows, calls.done, calls.waiting, calls.finished, calls.refused
     );
+    println!("  {} of {PLANS} plans for 64 processors", calls.widest);
+    assert!(calls.widest >= 50, "too few plans for 64 processors");
     for count in [calls.rows, calls.done, calls.waiting, calls.finished, calls.refused] {
         assert!(count >= LEAST_OF_EACH, "too few calls of one kind");
     }
