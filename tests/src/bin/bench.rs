@@ -1,0 +1,20 @@
+//! Measures the library beside the second implementation and prints, for each
+//! kind of work, the time of both and their factor. It asserts nothing.
+
+#[cfg(feature = "planning")]
+#[path = "bench/planning.rs"]
+mod planning;
+#[path = "bench/reading.rs"]
+mod reading;
+#[cfg(feature = "running")]
+#[path = "bench/running.rs"]
+mod running;
+
+fn main() {
+    println!("factor: the library's time divided by the second implementation's");
+    reading::measure();
+    #[cfg(feature = "planning")]
+    planning::measure();
+    #[cfg(feature = "running")]
+    running::measure();
+}

@@ -1,0 +1,172 @@
+//! Planning for 16 processors: shifts, peels, blocks and ranges, which is the
+//! work of the listing.
+
+use std::hint::black_box;
+use vempaldi_checks::blocks::plan;
+use vempaldi_checks::bodies::{self, Setting};
+use vempaldi_checks::encoder::encode;
+use vempaldi_checks::library_planning as library;
+use vempaldi_checks::listing::listing;
+use vempaldi_checks::measure;
+use vempaldi_checks::outputs;
+use vempaldi_checks::random::Random;
+use vempaldi_checks::table::*;
+use vempaldi_checks::tables;
+
+const PROCESSORS: u32 = 16;
+const TABLES: usize = 400;
+const ROUNDS: usize = 20;
+/// Longer than any listing.
+const ROOM: usize = 65_536;
+
+pub fn measure() {
+    let mut random = Random::new(1);
+    let mixed = repeat(TABLES, || accepted(|| mixed(&mut random)));
+    compare("planning 400 mixed tables for 16 processors", &mixed);
+    let full = repeat(16, || accepted(|| tables::full(&mut random, 4, 4)));
+    compare("planning full tables, each array stored once", &full);
+    let dense = repeat(16, || accepted(|| dense(&mut random)));
+    compare("planning full tables, two arrays shared by all loops", &dense);
+    compare_amounts("shifts and peels alone, 400 mixed tables", &mixed);
+    compare_amounts("shifts and peels alone, full tables, each array stored once", &full);
+    compare_amounts("shifts and peels alone, full tables, two arrays shared", &dense);
+    lengths(&mut random);
+}
+
+fn repeat(count: usize, mut make: impl FnMut() -> Table) -> Vec<Table> {
+    (0..count).map(|_| make()).collect()
+}
+
+/// The first table made that has a plan.
+fn accepted(mut make: impl FnMut() -> Table) -> Table {
+    loop {
+        let table = make();
+        if plan(&table, PROCESSORS).is_ok() {
+            return table;
+        }
+    }
+}
+
+fn compare(name: &str, tables: &[Table]) {
+    let made: Vec<Vec<u8>> = tables.iter().map(encode).collect();
+    let mut out = vec![0; ROOM];
+    let pair = measure::beside(
+        ROUNDS,
+        made.len(),
+        || {
+            for table in &made {
+                black_box(library::listing(black_box(table), PROCESSORS, &mut out));
+            }
+        },
+        || {
+            for table in &made {
+                black_box(listing(black_box(table), PROCESSORS));
+            }
+        },
+    );
+    measure::print(name, "table", &pair);
+}
+
+/// Reading the table and finding shifts and peels, without any text.
+fn compare_amounts(name: &str, tables: &[Table]) {
+    let made: Vec<Vec<u8>> = tables.iter().map(encode).collect();
+    let mut out = vec![0; ROOM];
+    let pair = measure::beside(
+        ROUNDS,
+        made.len(),
+        || {
+            for table in &made {
+                black_box(library::shifts_and_peels(black_box(table), &mut out));
+            }
+        },
+        || {
+            for table in &made {
+                black_box(outputs::shifts_and_peels(black_box(table), ROOM)).ok();
+            }
+        },
+    );
+    measure::print(name, "table", &pair);
+}
+
+/// The same tables with loops ten and a hundred times as long: the ranges
+/// are worked out without counting iterations, so the time stays.
+fn lengths(random: &mut Random) {
+    let base = repeat(100, || accepted(|| near(random)));
+    for factor in [1, 10, 100] {
+        let longer: Vec<Table> = base.iter().map(|table| lengthen(table, factor)).collect();
+        compare(&format!("planning the same 100 tables, loops {factor} times as long"), &longer);
+    }
+}
+
+/// 2 to 16 loops of 1 to 32 items over 16 arrays.
+fn mixed(random: &mut Random) -> Table {
+    let arrays = vec![16_384; MOST_ARRAYS];
+    let loops = random.between(2, 16);
+    let loops = (0..loops)
+        .map(|_| {
+            let store = random.below(MOST_ARRAYS) as u8;
+            let items = random.between(1, 32) as usize;
+            a_loop(random, &arrays, 8, 16_000, store, items)
+        })
+        .collect();
+    Table { arrays, loops }
+}
+
+/// Few indices and offsets next to 0, so that the shortest still has a plan.
+fn near(random: &mut Random) -> Table {
+    let arrays = vec![642; 4];
+    let loops = random.between(2, 16);
+    let loops = (0..loops)
+        .map(|_| {
+            let store = random.below(arrays.len()) as u8;
+            let items = random.between(1, 32) as usize;
+            a_loop(random, &arrays, 1, 640, store, items)
+        })
+        .collect();
+    Table { arrays, loops }
+}
+
+fn lengthen(table: &Table, factor: u32) -> Table {
+    let mut longer = table.clone();
+    for length in &mut longer.arrays {
+        *length = (*length - 2) * factor + 2;
+    }
+    for one in &mut longer.loops {
+        one.last *= factor;
+    }
+    longer
+}
+
+/// Every loop stores one of two arrays and reads the other 16 times, so that
+/// nearly every pair of references makes a dependence.
+fn dense(random: &mut Random) -> Table {
+    let arrays = vec![65_536; 2];
+    let loops = (0..MOST_LOOPS)
+        .map(|k| {
+            let (store, read) = ((k % 2) as u8, ((k + 1) % 2) as u8);
+            let operand = |random: &mut Random| {
+                let offset = random.between(-8, 8) as i16;
+                Item::Read(Reference { array: read, offset })
+            };
+            let destination = Reference { array: store, offset: 0 };
+            Loop { first: 8, last: 65_000, destination, items: bodies::full(random, operand) }
+        })
+        .collect();
+    Table { arrays, loops }
+}
+
+/// A loop from `margin` to `last` whose references lie within `margin`.
+fn a_loop(
+    random: &mut Random,
+    arrays: &[u32],
+    margin: u32,
+    last: u32,
+    store: u8,
+    items: usize,
+) -> Loop {
+    let near = i64::from(margin);
+    let destination = Reference { array: store, offset: random.between(-near, near) as i16 };
+    let setting = Setting { arrays, first: margin, last, destination, offset: near, serial: false };
+    let items = bodies::body(random, &setting, items);
+    Loop { first: margin, last, destination, items }
+}

@@ -1,0 +1,109 @@
+//! The plain run, the run in a caller's order, and a single public step.
+
+use std::hint::black_box;
+use vempaldi_checks::blocks::plan;
+use vempaldi_checks::encoder::{encode, Encoder};
+use vempaldi_checks::examples::EXAMPLE;
+use vempaldi_checks::interpreter::plain_run;
+use vempaldi_checks::library_running as library;
+use vempaldi_checks::measure;
+use vempaldi_checks::random::Random;
+use vempaldi_checks::reader::read;
+use vempaldi_checks::stepping::run;
+use vempaldi_checks::tables;
+
+const PROCESSORS: u32 = 16;
+const ITERATIONS: usize = 100_000;
+
+pub fn measure() {
+    let table = two_loops();
+    plain(&table);
+    caller_order(&table);
+    let full = encode(&tables::full(&mut Random::new(1), 4, 4));
+    step("the example, 2 processors", &EXAMPLE, 2);
+    step("two loops of 50,000, 16 processors", &table, PROCESSORS);
+    step("a full table, 16 processors", &full, PROCESSORS);
+}
+
+/// An array has at most 65,536 elements, so the 100,000 iterations are two
+/// loops of 50,000, each with a body of seven items.
+fn two_loops() -> Vec<u8> {
+    let body = |encoder: Encoder, array: u8| {
+        let encoder = encoder.read(array, -1).read(array, 1).operation(1);
+        encoder.read(array, 0).operation(3).constant(2).operation(4)
+    };
+    let encoder = Encoder::new().repeat(3, |e| e.array(50_002));
+    let encoder = body(encoder.a_loop(1, 50_000, 1, 0), 0);
+    body(encoder.a_loop(1, 50_000, 2, 0), 1).end().bytes
+}
+
+/// Numbers between 1 and 2, so that no result grows beyond all bounds.
+fn memory(length: usize) -> Vec<f64> {
+    (0..length).map(|at| 1.0 + (at % 1_000) as f64 / 1_000.0).collect()
+}
+
+/// Keeps the compiler from leaving out the work behind a result.
+fn keep<T>(result: T) {
+    black_box(result);
+}
+
+fn length(table: &[u8]) -> usize {
+    read(table).expect("accepted").elements() as usize
+}
+
+fn plain(table: &[u8]) {
+    let mut found = memory(length(table));
+    let mut wanted = found.clone();
+    let pair = measure::beside(
+        20,
+        ITERATIONS,
+        || keep(library::plain_run(black_box(table), &mut found)),
+        || keep(plain_run(black_box(table), &mut wanted)),
+    );
+    measure::print("plain run, 7 items, 100,000 iterations", "iteration", &pair);
+}
+
+/// Half of the iterations are named by the caller, the rest follow from the
+/// lowest processor on.
+fn caller_order(table: &[u8]) {
+    let mut random = Random::new(2);
+    let order: Vec<u8> =
+        (0..ITERATIONS / 2).map(|_| random.below(PROCESSORS as usize) as u8).collect();
+    let mut found = memory(length(table));
+    let mut wanted = found.clone();
+    let pair = measure::beside(
+        3,
+        ITERATIONS,
+        || keep(library::run(black_box(table), PROCESSORS, &order, &mut found)),
+        || keep(run(black_box(table), PROCESSORS, &order, &mut wanted)),
+    );
+    measure::print("run in a caller's order, 16 processors", "iteration", &pair);
+}
+
+/// The library's step reads and plans its table anew in each call. The second
+/// implementation makes whole lists for a step, which would compare unlike
+/// things; beside it stands its reading and planning alone.
+fn step(name: &str, table: &[u8], processors: u32) {
+    let mut found = memory(length(table));
+    let calls = 100;
+    let pair = measure::beside(
+        5,
+        calls,
+        || {
+            let mut counts = [0; 64];
+            let mut report = [0; 3];
+            for _ in 0..calls {
+                // Where the list of processor 1 is used up, it waits.
+                keep(library::step(table, processors, 1, &mut counts, &mut found, &mut report));
+            }
+        },
+        || {
+            for _ in 0..calls {
+                let table = read(black_box(table)).expect("accepted");
+                keep(plan(&table, processors));
+            }
+        },
+    );
+    let name = format!("a public step, {name} (beside reading and planning alone)");
+    measure::print(&name, "call", &pair);
+}

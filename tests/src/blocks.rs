@@ -1,0 +1,113 @@
+//! Blocks, and the ranges of each loop in each block.
+
+use crate::outcome::Refusal;
+use crate::planner::{amounts, threshold, Amounts};
+use crate::table::Table;
+
+const PROCESSORS: u64 = 10;
+const SHORT: u64 = 11;
+
+pub const MOST_PROCESSORS: u32 = 64;
+
+/// The indices from a to e, both included. With e = a - 1 it is empty.
+#[derive(Clone, Copy, Debug, PartialEq, Eq)]
+pub struct Range {
+    pub a: i64,
+    pub e: i64,
+}
+
+impl Range {
+    pub fn count(&self) -> i64 {
+        (self.e - self.a + 1).max(0)
+    }
+
+    fn cut(self, to: Range) -> Range {
+        Range { a: self.a.max(to.a), e: self.e.min(to.e) }
+    }
+}
+
+pub struct Plan {
+    pub amounts: Vec<Amounts>,
+    pub blocks: Vec<Range>,
+    /// The bounds of each loop.
+    bounds: Vec<Range>,
+}
+
+/// The plan of a table for a number of processors, or ground 10 or 11.
+pub fn plan(table: &Table, processors: u32) -> Result<Plan, Refusal> {
+    if processors == 0 || processors > MOST_PROCESSORS {
+        return Err(Refusal::whole(PROCESSORS));
+    }
+    let amounts = amounts(table);
+    let indices = indices(table);
+    let count = i64::from(processors);
+    if indices.count() < count {
+        return Err(Refusal::whole(SHORT));
+    }
+    let blocks = split(indices, count);
+    let least = threshold(&amounts);
+    if count >= 2 && blocks.iter().any(|block| block.count() < least) {
+        return Err(Refusal::whole(SHORT));
+    }
+    let bounds = table.loops.iter().map(|one| bounds(one.first, one.last)).collect();
+    Ok(Plan { amounts, blocks, bounds })
+}
+
+/// Ground 10 for a processor's own number.
+pub fn number_below(processor: u32, processors: u32) -> Result<(), Refusal> {
+    if processor < processors {
+        Ok(())
+    } else {
+        Err(Refusal::whole(PROCESSORS))
+    }
+}
+
+fn bounds(first: u32, last: u32) -> Range {
+    Range { a: i64::from(first), e: i64::from(last) }
+}
+
+/// From the least first to the greatest last.
+fn indices(table: &Table) -> Range {
+    let first = table.loops.iter().map(|one| one.first).min();
+    let last = table.loops.iter().map(|one| one.last).max();
+    bounds(first.unwrap_or(0), last.unwrap_or(0))
+}
+
+/// The blocks in order; the first (T mod P) have one index more.
+fn split(indices: Range, processors: i64) -> Vec<Range> {
+    let least = indices.count() / processors;
+    let longer = indices.count() % processors;
+    let mut a = indices.a;
+    (0..processors)
+        .map(|b| {
+            let size = least + i64::from(b < longer);
+            let block = Range { a, e: a + size - 1 };
+            a += size;
+            block
+        })
+        .collect()
+}
+
+impl Plan {
+    /// What processor b runs of loop k before the barrier.
+    pub fn fused(&self, b: usize, k: usize) -> Range {
+        let own = self.bounds[k];
+        let Amounts { shift, peel } = self.amounts[k];
+        let Range { a, e } = self.blocks[b];
+        let from = if b == 0 { own.a } else { a + peel };
+        let to = if b + 1 == self.blocks.len() { own.e } else { e - shift };
+        Range { a: from, e: to }.cut(own)
+    }
+
+    /// What processor b runs of loop k past the barrier. The last block has
+    /// nothing there.
+    pub fn peeled(&self, b: usize, k: usize) -> Range {
+        let own = self.bounds[k];
+        let Amounts { shift, peel } = self.amounts[k];
+        let e = self.blocks[b].e;
+        if b + 1 == self.blocks.len() {
+            return Range { a: own.a, e: own.a - 1 };
+        }
+        Range { a: e - shift + 1, e: e + peel }.cut(own)
+    }
+}

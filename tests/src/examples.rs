@@ -1,0 +1,77 @@
+//! Tables that the paper gives in words, typed byte by byte or record by
+//! record.
+
+use crate::encoder::Encoder;
+
+/// The 61 bytes of the example of the listing.
+pub const EXAMPLE: [u8; 61] = [
+    1, 12, 0, 0, 0, // array 0, 12 elements
+    1, 12, 0, 0, 0, // array 1
+    1, 12, 0, 0, 0, // array 2
+    2, 1, 0, 0, 0, 10, 0, 0, 0, 0, 0, 0, // loop 0, 1 to 10, stores A0[i]
+    3, 1, 0, 0, // A1[i]
+    4, 1, 0, 0, 0, // 1
+    5, 1, // add
+    2, 1, 0, 0, 0, 10, 0, 0, 0, 2, 0, 0, // loop 1, 1 to 10, stores A2[i]
+    3, 0, 0xFF, 0xFF, // A0[i-1]
+    3, 0, 1, 0, // A0[i+1]
+    5, 1, // add
+    6, // end
+];
+
+/// 1 to 10, A0 of 21 elements, A0[i] = A0[i + offset].
+pub fn reads_own_array(offset: i16) -> Vec<u8> {
+    Encoder::new().array(21).a_loop(1, 10, 0, 0).read(0, offset).end().bytes
+}
+
+/// What the listing program writes for the example and two processors.
+pub const EXAMPLE_LISTING: &str = "\
+loop 0 0 0
+loop 1 1 1
+block 0 1 5
+block 1 6 10
+fused 0 0 1 5
+fused 0 1 1 4
+fused 1 0 6 10
+fused 1 1 7 10
+peeled 0 1 5 6
+sweeps 6 5
+";
+
+/// Loops over 10 to 49 and arrays of 60: loop k stores array k and reads what
+/// `reads` gives for it, summed.
+pub fn loops_reading(reads: &[&[(u8, i16)]]) -> Vec<u8> {
+    let mut encoder = Encoder::new().repeat(reads.len() + 1, |e| e.array(60));
+    for (k, row) in reads.iter().enumerate() {
+        encoder = encoder.a_loop(10, 49, k as u8, 0).constant(0);
+        for &(array, offset) in row.iter() {
+            encoder = encoder.read(array, offset).operation(1);
+        }
+    }
+    encoder.end().bytes
+}
+
+/// Three loops, each reading the last one's array at -1 and +1.
+pub fn three_loops() -> Vec<u8> {
+    loops_reading(&[&[(3, 0)], &[(0, -1), (0, 1)], &[(1, -1), (1, 1)]])
+}
+
+/// A dependence of distance -1, then one of distance 0.
+pub fn backward_then_zero() -> Vec<u8> {
+    loops_reading(&[&[(3, 0)], &[(0, 1)], &[(1, 0)]])
+}
+
+/// Loop 0 reads A1[i+2], loop 1 stores A1[i].
+pub fn store_follows_read() -> Vec<u8> {
+    loops_reading(&[&[(1, 2)], &[(2, 0)]])
+}
+
+/// Shift 3, peel 0 in one loop; shift 0, peel 2 in another.
+pub fn shift_here_peel_there() -> Vec<u8> {
+    loops_reading(&[&[], &[(0, 3)], &[], &[(2, -2)]])
+}
+
+/// One loop over ten indices, threshold 0.
+pub fn ten_indices() -> Vec<u8> {
+    Encoder::new().array(10).a_loop(0, 9, 0, 0).constant(4).end().bytes
+}

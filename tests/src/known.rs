@@ -1,0 +1,147 @@
+//! The known results of the paper that concern planning and running.
+
+use crate::blocks::{plan, Range};
+use crate::encoder::Encoder;
+use crate::examples::*;
+use crate::interpreter::plain_run;
+use crate::listing::listing;
+use crate::lists::{lists, Iteration};
+use crate::memories::{bits, own_index};
+use crate::planner::{amounts, threshold};
+use crate::reader::read;
+use crate::stepping::run;
+use crate::sweeps::{sweeps, Sweeps};
+use crate::table::Table;
+
+fn table(bytes: &[u8]) -> Table {
+    read(bytes).expect("accepted")
+}
+
+fn shifts_and_peels(bytes: &[u8]) -> Vec<(i64, i64)> {
+    amounts(&table(bytes)).iter().map(|one| (one.shift, one.peel)).collect()
+}
+
+fn threshold_of(bytes: &[u8]) -> i64 {
+    threshold(&amounts(&table(bytes)))
+}
+
+/// The number of the refusal, 0 where the plan is accepted.
+fn number(bytes: &[u8], processors: u32) -> u64 {
+    plan(&table(bytes), processors).err().map_or(0, |refusal| refusal.number)
+}
+
+#[test]
+fn the_example_has_its_listing() {
+    assert_eq!(listing(&EXAMPLE, 2), EXAMPLE_LISTING);
+    assert_eq!(listing(&[], 2), "refused 1 0\n");
+    assert_eq!(listing(&reads_own_array(9), 2), "refused 9 0\n");
+}
+
+#[test]
+fn a_bad_table_is_refused_before_a_bad_number_of_processors() {
+    assert_eq!(listing(&EXAMPLE[..60], 0), "refused 1 60\n");
+    assert_eq!(listing(&EXAMPLE, 0), "refused 10 0\n");
+    assert_eq!(listing(&EXAMPLE, 65), "refused 10 0\n");
+}
+
+#[test]
+fn the_example_has_threshold_2_and_room_for_5_processors() {
+    assert_eq!(threshold_of(&EXAMPLE), 2);
+    assert_eq!(number(&EXAMPLE, 5), 0);
+    assert_eq!(number(&EXAMPLE, 6), 11);
+}
+
+#[test]
+fn three_loops_add_up() {
+    assert_eq!(shifts_and_peels(&three_loops()), [(0, 0), (1, 1), (2, 2)]);
+    assert_eq!(threshold_of(&three_loops()), 4);
+}
+
+#[test]
+fn a_chain_does_not_stop_at_distance_0() {
+    assert_eq!(shifts_and_peels(&backward_then_zero()), [(0, 0), (1, 0), (1, 0)]);
+}
+
+#[test]
+fn a_store_that_follows_a_read_counts() {
+    assert_eq!(shifts_and_peels(&store_follows_read()), [(0, 0), (0, 2)]);
+}
+
+#[test]
+fn the_threshold_is_of_one_loop() {
+    let found = shifts_and_peels(&shift_here_peel_there());
+    assert_eq!(found, [(0, 0), (3, 0), (0, 0), (0, 2)]);
+    assert_eq!(threshold_of(&shift_here_peel_there()), 3);
+}
+
+#[test]
+fn ten_indices_over_three_processors() {
+    let plan = plan(&table(&ten_indices()), 3).expect("accepted");
+    let sizes: Vec<i64> = plan.blocks.iter().map(Range::count).collect();
+    assert_eq!(sizes, [4, 3, 3]);
+    assert_eq!(number(&ten_indices(), 10), 0);
+    assert_eq!(number(&ten_indices(), 11), 11);
+}
+
+#[test]
+fn the_example_has_its_lists() {
+    let plan = plan(&table(&EXAMPLE), 2).expect("accepted");
+    let found = lists(&plan);
+    let row = |pairs: &[(u32, u32)]| -> Vec<Iteration> {
+        pairs.iter().map(|&(loop_number, index)| Iteration { loop_number, index }).collect()
+    };
+    let first = row(&[(0, 1), (0, 2), (1, 1), (0, 3), (1, 2), (0, 4), (1, 3), (0, 5), (1, 4)]);
+    let last = row(&[(0, 6), (0, 7), (0, 8), (1, 7), (0, 9), (1, 8), (0, 10), (1, 9), (1, 10)]);
+    assert_eq!(found[0].fused, first);
+    assert_eq!(found[0].peeled, row(&[(1, 5), (1, 6)]));
+    assert_eq!(found[1].fused, last);
+    assert_eq!(found[1].peeled, row(&[]));
+}
+
+#[test]
+fn the_example_sweeps_6_before_and_5_after() {
+    assert_eq!(sweeps(&table(&EXAMPLE)), Sweeps { before: 6, after: 5 });
+}
+
+#[test]
+fn the_example_leaves_3_12_and_21() {
+    let table = table(&EXAMPLE);
+    let mut memory = own_index(&table.arrays);
+    plain_run(&EXAMPLE, &mut memory).expect("accepted");
+    let stored = &memory[24..];
+    assert_eq!((stored[1], stored[5], stored[10]), (3.0, 12.0, 21.0));
+}
+
+#[test]
+fn every_order_of_the_example_leaves_the_same() {
+    let start = own_index(&table(&EXAMPLE).arrays);
+    let mut plain = start.clone();
+    plain_run(&EXAMPLE, &mut plain).expect("accepted");
+    for order in [&[][..], &[1; 30], &[0, 1, 0, 1], &[7, 0, 200, 1]] {
+        let mut memory = start.clone();
+        run(&EXAMPLE, 2, order, &mut memory).expect("accepted");
+        assert_eq!(bits(&memory), bits(&plain));
+    }
+}
+
+#[test]
+fn idle_bytes_are_counted() {
+    let start = own_index(&table(&EXAMPLE).arrays);
+    let idle = |order: &[u8]| run(&EXAMPLE, 2, order, &mut start.clone()).expect("accepted");
+    assert_eq!(idle(&[]), 0);
+    // Processor 1 has nine fused iterations and then waits.
+    assert_eq!(idle(&[1; 12]), 3);
+    assert_eq!(idle(&[2, 255, 0]), 2);
+    // Past the barrier processor 0 has two peeled iterations, processor 1
+    // none.
+    let all = [[1; 9], [0; 9]].concat();
+    assert_eq!(idle(&[&all[..], &[1, 0, 0, 0]].concat()), 2);
+}
+
+#[test]
+fn zero_divided_by_zero_is_stored_as_the_paper_says() {
+    let table = Encoder::new().array(1).a_loop(0, 0, 0, 0).constant(0).constant(0).operation(4);
+    let mut memory = [1.0];
+    plain_run(&table.end().bytes, &mut memory).expect("accepted");
+    assert_eq!(memory[0].to_bits(), 0x7FF8_0000_0000_0000);
+}

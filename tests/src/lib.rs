@@ -1,0 +1,36 @@
+//! A second implementation of the paper, made to be compared with the proved
+//! library, and the calls into that library.
+
+pub mod blocks;
+pub mod bodies;
+pub mod damage;
+pub mod dependence;
+pub mod encoder;
+pub mod examples;
+pub mod interpreter;
+pub mod join;
+#[cfg(test)]
+mod known;
+pub mod lent;
+pub mod library;
+#[cfg(feature = "planning")]
+pub mod library_planning;
+#[cfg(feature = "running")]
+pub mod library_running;
+pub mod limits;
+pub mod listing;
+pub mod lists;
+pub mod measure;
+pub mod memories;
+pub mod outcome;
+pub mod outputs;
+pub mod planner;
+pub mod processors;
+pub mod random;
+pub mod reader;
+pub mod rows;
+pub mod stepping;
+pub mod sweeps;
+pub mod table;
+pub mod tables;
+pub mod tally;

@@ -1,0 +1,293 @@
+//! Reads a table from its bytes, or finds the ground on which it is refused.
+
+use crate::outcome::Refusal;
+use crate::table::*;
+
+/// The number of a ground. Grounds 1 to 7 are met at the place of the kind byte
+/// of the record at hand, so only their number is handed on.
+type Ground = u64;
+
+const TORN: Ground = 1;
+const KIND: Ground = 2;
+const FIELD: Ground = 3;
+const CROWD: Ground = 4;
+const ARRAY: Ground = 5;
+const BODY: Ground = 6;
+const EDGE: Ground = 7;
+const TAIL: Ground = 8;
+const SERIAL: Ground = 9;
+
+/// The table, or the first ground that it meets.
+pub fn read(bytes: &[u8]) -> Result<Table, Refusal> {
+    let mut reader = Reader { bytes, at: 0, table: Table::default(), elements: 0, waiting: 0 };
+    while !reader.record().map_err(|ground| Refusal::new(ground, reader.at))? {}
+    if reader.at < bytes.len() {
+        return Err(Refusal::new(TAIL, reader.at));
+    }
+    match serial(&reader.table) {
+        Some(refusal) => Err(refusal),
+        None => Ok(reader.table),
+    }
+}
+
+struct Reader<'a> {
+    bytes: &'a [u8],
+    /// The place of the kind byte of the record at hand.
+    at: usize,
+    table: Table,
+    elements: u64,
+    /// The count of numbers that wait in the body at hand.
+    waiting: usize,
+}
+
+impl Reader<'_> {
+    /// Reads one record. True once that was the end record.
+    fn record(&mut self) -> Result<bool, Ground> {
+        let Some(&kind) = self.bytes.get(self.at) else {
+            return Err(TORN);
+        };
+        require(self.in_order(kind), KIND)?;
+        require(self.body_finished(kind), BODY)?;
+        require(self.has_room(kind), CROWD)?;
+        let after = self.at + 1 + body_length(kind);
+        let Some(body) = self.bytes.get(self.at + 1..after) else {
+            return Err(TORN);
+        };
+        match kind {
+            1 => self.array(body)?,
+            2 => self.a_loop(body)?,
+            3 => self.a_read(body)?,
+            4 => self.constant(body)?,
+            5 => self.operation(body)?,
+            _ => {}
+        }
+        self.at = after;
+        Ok(kind == 6)
+    }
+
+    /// A loop before any array is in order here: its destination field is
+    /// what refuses it.
+    fn in_order(&self, kind: u8) -> bool {
+        let in_loop = !self.table.loops.is_empty();
+        match kind {
+            1 => !in_loop,
+            2 => true,
+            3..=6 => in_loop,
+            _ => false,
+        }
+    }
+
+    /// A body ends where the next loop or the end record begins.
+    fn body_finished(&self, kind: u8) -> bool {
+        let ends_body = kind == 6 || (kind == 2 && !self.table.loops.is_empty());
+        !ends_body || self.waiting == 1
+    }
+
+    fn has_room(&self, kind: u8) -> bool {
+        match kind {
+            1 => self.table.arrays.len() < MOST_ARRAYS,
+            2 => self.table.loops.len() < MOST_LOOPS,
+            3..=5 => self.items() < MOST_ITEMS,
+            _ => true,
+        }
+    }
+
+    fn items(&self) -> usize {
+        self.table.loops.last().map_or(0, |open| open.items.len())
+    }
+
+    fn array(&mut self, body: &[u8]) -> Result<(), Ground> {
+        let length = number(body);
+        require((1..=MOST_LENGTH).contains(&length), FIELD)?;
+        self.elements += u64::from(length);
+        require(self.elements <= MOST_ELEMENTS, CROWD)?;
+        self.table.arrays.push(length);
+        Ok(())
+    }
+
+    fn a_loop(&mut self, body: &[u8]) -> Result<(), Ground> {
+        let first = number(&body[0..4]);
+        let last = number(&body[4..8]);
+        require(last <= MOST_LAST && first <= last, FIELD)?;
+        let destination = self.reference(&body[8..11])?;
+        require(self.inside(first, last, destination), EDGE)?;
+        self.table.loops.push(Loop {
+            first,
+            last,
+            destination,
+            items: Vec::with_capacity(MOST_ITEMS),
+        });
+        self.waiting = 0;
+        Ok(())
+    }
+
+    fn a_read(&mut self, body: &[u8]) -> Result<(), Ground> {
+        let reference = self.reference(body)?;
+        self.wait_one_more()?;
+        let (first, last) = self.bounds();
+        require(self.inside(first, last, reference), EDGE)?;
+        self.item(Item::Read(reference));
+        Ok(())
+    }
+
+    fn constant(&mut self, body: &[u8]) -> Result<(), Ground> {
+        self.wait_one_more()?;
+        self.item(Item::Constant(number(body)));
+        Ok(())
+    }
+
+    fn operation(&mut self, body: &[u8]) -> Result<(), Ground> {
+        let operation = match body[0] {
+            1 => Operation::Add,
+            2 => Operation::Subtract,
+            3 => Operation::Multiply,
+            4 => Operation::Divide,
+            5 => Operation::Negate,
+            _ => return Err(FIELD),
+        };
+        let taken = if operation == Operation::Negate { 1 } else { 2 };
+        require(self.waiting >= taken, BODY)?;
+        self.waiting = self.waiting - taken + 1;
+        self.item(Item::Operation(operation));
+        Ok(())
+    }
+
+    /// The array field stands before the offset, so its ground comes first.
+    fn reference(&self, body: &[u8]) -> Result<Reference, Ground> {
+        let array = body[0];
+        let offset = i16::from_le_bytes([body[1], body[2]]);
+        require(usize::from(array) < self.table.arrays.len(), ARRAY)?;
+        require((-MOST_OFFSET..=MOST_OFFSET).contains(&offset), FIELD)?;
+        Ok(Reference { array, offset })
+    }
+
+    fn wait_one_more(&mut self) -> Result<(), Ground> {
+        require(self.waiting < MOST_WAITING, BODY)?;
+        self.waiting += 1;
+        Ok(())
+    }
+
+    fn item(&mut self, item: Item) {
+        if let Some(open) = self.table.loops.last_mut() {
+            open.items.push(item);
+        }
+    }
+
+    fn bounds(&self) -> (u32, u32) {
+        self.table.loops.last().map_or((0, 0), |open| (open.first, open.last))
+    }
+
+    /// Whether every iteration from first to last stays inside the array.
+    fn inside(&self, first: u32, last: u32, reference: Reference) -> bool {
+        let length = i64::from(self.table.arrays[usize::from(reference.array)]);
+        let lowest = i64::from(first) + i64::from(reference.offset);
+        let highest = i64::from(last) + i64::from(reference.offset);
+        lowest >= 0 && highest < length
+    }
+}
+
+fn require(holds: bool, ground: Ground) -> Result<(), Ground> {
+    if holds {
+        Ok(())
+    } else {
+        Err(ground)
+    }
+}
+
+/// How many bytes follow the kind byte.
+pub fn body_length(kind: u8) -> usize {
+    match kind {
+        1 => 4,
+        2 => 11,
+        3 => 3,
+        4 => 4,
+        5 => 1,
+        _ => 0,
+    }
+}
+
+fn number(bytes: &[u8]) -> u32 {
+    u32::from_le_bytes([bytes[0], bytes[1], bytes[2], bytes[3]])
+}
+
+/// The lowest loop in which two different iterations meet at an element that
+/// one of them stores, with every read that takes part.
+fn serial(table: &Table) -> Option<Refusal> {
+    table.loops.iter().enumerate().find_map(|(place, one)| {
+        let reads = colliding_reads(one);
+        (!reads.is_empty()).then_some(Refusal { number: SERIAL, place: place as u64, reads })
+    })
+}
+
+/// A read of the destination array meets the store of another iteration when
+/// the offsets differ by no more than the loop is long.
+fn colliding_reads(one: &Loop) -> Vec<u64> {
+    let store = one.destination;
+    one.reads()
+        .enumerate()
+        .filter(|(_, read)| {
+            let distance = read.offset.abs_diff(store.offset);
+            read.array == store.array && distance > 0 && u32::from(distance) <= one.last - one.first
+        })
+        .map(|(index, _)| index as u64)
+        .collect()
+}
+
+#[cfg(test)]
+mod tests {
+    use super::*;
+    use crate::encoder::encode;
+    use crate::examples::{reads_own_array, EXAMPLE};
+    use crate::limits;
+
+    fn at(array: u8, offset: i16) -> Reference {
+        Reference { array, offset }
+    }
+
+    fn from_1_to_10(array: u8, items: Vec<Item>) -> Loop {
+        Loop { first: 1, last: 10, destination: at(array, 0), items }
+    }
+
+    #[test]
+    fn the_example_says_what_the_paper_says() {
+        let add = Item::Operation(Operation::Add);
+        let first = vec![Item::Read(at(1, 0)), Item::Constant(1), add];
+        let second = vec![Item::Read(at(0, -1)), Item::Read(at(0, 1)), add];
+        let table = Table {
+            arrays: vec![12, 12, 12],
+            loops: vec![from_1_to_10(0, first), from_1_to_10(2, second)],
+        };
+        assert_eq!(read(&EXAMPLE), Ok(table));
+    }
+
+    #[test]
+    fn the_encoder_writes_the_example_back() {
+        let table = read(&EXAMPLE).expect("accepted");
+        assert_eq!(encode(&table), EXAMPLE);
+    }
+
+    #[test]
+    fn empty_input_is_torn_at_0() {
+        assert_eq!(read(&[]), Err(Refusal::new(1, 0)));
+    }
+
+    #[test]
+    fn a_distance_of_9_in_ten_iterations_is_serial() {
+        let refusal = read(&reads_own_array(9)).expect_err("refused");
+        assert_eq!((refusal.number, refusal.place, refusal.reads), (9, 0, vec![0]));
+    }
+
+    #[test]
+    fn a_distance_of_10_in_ten_iterations_is_accepted() {
+        assert!(read(&reads_own_array(10)).is_ok());
+    }
+
+    #[test]
+    fn every_limit_has_its_typed_answer() {
+        for case in limits::cases() {
+            let found = read(&case.bytes).err();
+            let found = found.map_or((0, 0), |refusal| (refusal.number, refusal.place));
+            assert_eq!(found, (case.number, case.place), "{}", case.name);
+        }
+    }
+}

@@ -1,0 +1,39 @@
+//! Counts how often each ground was met, so that a test can show that none
+//! was left out.
+
+#[derive(Default)]
+pub struct Tally {
+    counts: [u64; 16],
+}
+
+impl Tally {
+    pub fn new() -> Tally {
+        Tally::default()
+    }
+
+    /// Counts one answer; number 0 is an accepted call.
+    pub fn add(&mut self, number: u64) {
+        self.counts[number as usize] += 1;
+    }
+
+    pub fn total(&self) -> u64 {
+        self.counts.iter().sum()
+    }
+
+    pub fn print(&self, name: &str) {
+        println!("{name}: {} cases compared", self.total());
+        for (number, count) in self.counts.iter().enumerate() {
+            if *count > 0 {
+                println!("  ground {number:2}: {count}");
+            }
+        }
+    }
+
+    /// Ends the program where one of the numbers was met too seldom.
+    pub fn require(&self, numbers: &[usize], least: u64) {
+        for &number in numbers {
+            let count = self.counts[number];
+            assert!(count >= least, "ground {number} was met {count} times, fewer than {least}");
+        }
+    }
+}

@@ -1,0 +1,152 @@
+//! Compares the library's joining of tables with the second implementation's.
+
+use vempaldi_checks::damage;
+use vempaldi_checks::encoder::encode;
+use vempaldi_checks::join::{join, together};
+use vempaldi_checks::lent;
+use vempaldi_checks::library;
+use vempaldi_checks::limits;
+use vempaldi_checks::outcome::hex;
+use vempaldi_checks::random::Random;
+use vempaldi_checks::reader::read;
+use vempaldi_checks::table::Table;
+use vempaldi_checks::tables::{self, Shape, LARGE, MIDDLE, SMALL};
+use vempaldi_checks::tally::Tally;
+
+const LEAST_PAIRS: u64 = 40_000;
+const LEAST_OF_EACH: u64 = 100;
+
+fn main() {
+    let mut tally = Tally::new();
+    for (seed, shape, count) in [(1, SMALL, 4_000), (2, MIDDLE, 1_000), (3, LARGE, 500)] {
+        random_pairs(&mut tally, seed, &shape, count);
+    }
+    limit_cases(&mut tally);
+    many_loops(&mut tally);
+    tally.print("joining");
+    tally.require(&[0, 1, 2, 3, 4, 5, 6, 7, 8, 9, 13, 14], LEAST_OF_EACH);
+    assert!(tally.total() >= LEAST_PAIRS, "too few pairs");
+}
+
+/// One pair with every room that matters: none, one byte too short, exact,
+/// longer, and the longest that a joined table can need.
+fn every_room(tally: &mut Tally, left: &[u8], right: &[u8]) {
+    let needed = join(left, right, usize::MAX).map_or(0, |bytes| bytes.len());
+    compare(tally, left, right, needed);
+    compare(tally, left, right, needed + 17);
+    if needed > 0 {
+        compare(tally, left, right, needed - 1);
+        compare(tally, left, right, 0);
+        joined_table(left, right, needed);
+    }
+}
+
+/// The bytes written, the count, the answer, and that nothing else changed.
+fn compare(tally: &mut Tally, left: &[u8], right: &[u8], room: usize) {
+    let expected = join(left, right, room);
+    let result = lent::compare(room, &expected, |out| library::join(left, right, out));
+    match result {
+        Ok(answer) => tally.add(answer[0]),
+        Err(report) => {
+            eprintln!("joining: the library and the second implementation disagree");
+            eprintln!("  left     {}", hex(left));
+            eprintln!("  right    {}", hex(right));
+            eprintln!("{report}");
+            std::process::exit(1);
+        }
+    }
+}
+
+/// The library's output, read again, has left's arrays and both tables'
+/// loops in order.
+fn joined_table(left: &[u8], right: &[u8], needed: usize) {
+    let mut out = vec![0; needed];
+    library::join(left, right, &mut out);
+    let parts =
+        together(read(left).expect("left was accepted"), read(right).expect("right was accepted"));
+    assert_eq!(read(&out), Ok(parts), "the joined table reads differently");
+}
+
+fn random_pairs(tally: &mut Tally, seed: u64, shape: &Shape, count: usize) {
+    let mut random = Random::new(seed);
+    for _ in 0..count {
+        let left = tables::any(&mut random, shape);
+        let right = tables::over(&mut random, shape, &left.arrays);
+        let unlike = other_arrays(&mut random, shape, &left);
+        let serial = Shape { serial: true, ..*shape };
+        let meeting = encode(&tables::over(&mut random, &serial, &left.arrays));
+        let left = encode(&left);
+        let right = encode(&right);
+        let broken = broken(&mut random, &left);
+        every_room(tally, &left, &right);
+        every_room(tally, &left, &encode(&unlike));
+        every_room(tally, &broken, &right);
+        every_room(tally, &right, &broken);
+        every_room(tally, &meeting, &right);
+        every_room(tally, &right, &meeting);
+        every_room(tally, &broken, &meeting);
+    }
+}
+
+/// A table that differs in arrays: in one length, or in their count.
+fn other_arrays(random: &mut Random, shape: &Shape, like: &Table) -> Table {
+    let mut arrays = like.arrays.clone();
+    let place = random.below(arrays.len());
+    match random.below(4) {
+        0 if arrays.len() > 1 => {
+            arrays.remove(place);
+        }
+        1 if arrays.len() < 16 && like.elements() < 262_144 => arrays.push(1),
+        2 if arrays[place] > 1 => arrays[place] -= 1,
+        _ if arrays[place] < 65_536 && like.elements() < 262_144 => arrays[place] += 1,
+        _ => arrays.reverse(),
+    }
+    tables::over(random, shape, &arrays)
+}
+
+fn broken(random: &mut Random, bytes: &[u8]) -> Vec<u8> {
+    match random.below(7) {
+        0 => bytes[..random.below(bytes.len())].to_vec(),
+        1 => damage::change_byte(random, bytes),
+        2 => damage::rearrange(random, bytes),
+        3 => damage::insert_byte(random, bytes),
+        4 => damage::mostly_kinds(random, 60),
+        5 => damage::crowd(random, bytes),
+        _ => damage::field(random, bytes),
+    }
+}
+
+/// Every limit on the left and on the right of a good table.
+fn limit_cases(tally: &mut Tally) {
+    let mut random = Random::new(4);
+    for case in limits::cases() {
+        let good = match read(&case.bytes) {
+            Ok(table) => tables::over(&mut random, &SMALL, &table.arrays),
+            Err(_) => tables::any(&mut random, &SMALL),
+        };
+        every_room(tally, &case.bytes, &encode(&good));
+        every_room(tally, &encode(&good), &case.bytes);
+        every_room(tally, &case.bytes, &case.bytes);
+    }
+}
+
+/// Every pair of loop counts, so that 16 in all is met from both sides.
+fn many_loops(tally: &mut Tally) {
+    let mut random = Random::new(5);
+    for left in 1..=16 {
+        for right in 1..=16 {
+            let arrays = vec![9, 30, 12];
+            let left = tables::loops_over(&mut random, &SMALL, &arrays, left);
+            let right = tables::loops_over(&mut random, &SMALL, &arrays, right);
+            every_room(tally, &encode(&left), &encode(&right));
+        }
+    }
+    for reads in 0..=4 {
+        let full = encode(&tables::full(&mut random, reads, 4));
+        every_room(tally, &full, &full);
+        let half = tables::full(&mut random, reads, 4);
+        let (mut front, mut back) = (half.clone(), half);
+        back.loops = front.loops.split_off(8);
+        every_room(tally, &encode(&front), &encode(&back));
+    }
+}

@@ -1,0 +1,157 @@
+//! Every entry of planning with output buffers that are exact, one byte too
+//! short, empty and longer.
+
+use vempaldi_checks::blocks::plan;
+use vempaldi_checks::damage;
+use vempaldi_checks::encoder::encode;
+use vempaldi_checks::lent;
+use vempaldi_checks::library_planning as library;
+use vempaldi_checks::limits;
+use vempaldi_checks::outcome::{hex, Answer};
+use vempaldi_checks::outputs::{self, Output};
+use vempaldi_checks::processors;
+use vempaldi_checks::random::Random;
+use vempaldi_checks::tables::{self, Shape, LARGE, MIDDLE, SMALL};
+use vempaldi_checks::tally::Tally;
+
+const LEAST_OF_EACH: u64 = 100;
+const SMALL_PLANS: u64 = 4_000;
+
+type Expected<'a> = Box<dyn Fn(usize) -> Output + 'a>;
+type Call<'a> = Box<dyn Fn(&mut [u8]) -> (Answer, u64) + 'a>;
+
+/// One entry with all its arguments but the output.
+struct Entry<'a> {
+    name: &'static str,
+    expected: Expected<'a>,
+    call: Call<'a>,
+}
+
+pub fn compare_all() {
+    let mut tally = Tally::new();
+    let plans = every_list(&mut tally);
+    for case in limits::cases() {
+        every_entry(&mut tally, &case.bytes, 2, 1);
+    }
+    for (seed, shape, count) in [(21, SMALL, 6_000), (22, MIDDLE, 2_000), (23, LARGE, 400)] {
+        mixed(&mut tally, seed, &shape, count);
+    }
+    tally.print("entries of planning");
+    println!("  every list of {plans} small plans among them");
+    tally.require(&[0, 1, 2, 3, 4, 5, 6, 7, 8, 9, 10, 11, 13], LEAST_OF_EACH);
+}
+
+/// All lists of all processors, and one processor too many.
+fn every_list(tally: &mut Tally) -> u64 {
+    let mut random = Random::new(20);
+    let mut plans = 0;
+    while plans < SMALL_PLANS {
+        let table = tables::aligned(&mut random, &SMALL);
+        let most = processors::most(&table);
+        let count = random.between(1, i64::from(most)) as u32;
+        if plan(&table, count).is_err() {
+            continue;
+        }
+        let bytes = encode(&table);
+        for processor in 0..=count {
+            for entry in of_processor(&bytes, count, processor) {
+                every_room(tally, &bytes, &entry);
+            }
+        }
+        plans += 1;
+    }
+    plans
+}
+
+fn mixed(tally: &mut Tally, seed: u64, shape: &Shape, count: u64) {
+    let mut random = Random::new(seed);
+    let serial = Shape { serial: true, ..*shape };
+    for _ in 0..count {
+        let good = encode(&tables::aligned(&mut random, shape));
+        let meeting = encode(&tables::any(&mut random, &serial));
+        let broken = damage::field(&mut random, &good);
+        let crowded = damage::crowd(&mut random, &good);
+        let torn = good[..random.below(good.len())].to_vec();
+        for bytes in [good, meeting, broken, crowded, torn] {
+            let processors = processors::any(&mut random);
+            let processor = random.below(processors.max(1) as usize + 1) as u32;
+            every_entry(tally, &bytes, processors, processor);
+        }
+    }
+}
+
+fn every_entry(tally: &mut Tally, table: &[u8], processors: u32, processor: u32) {
+    for entry in of_table(table, processors) {
+        every_room(tally, table, &entry);
+    }
+    for entry in of_processor(table, processors, processor) {
+        every_room(tally, table, &entry);
+    }
+}
+
+fn of_table(table: &[u8], processors: u32) -> [Entry<'_>; 5] {
+    [
+        Entry {
+            name: "shifts and peels",
+            expected: Box::new(|room| outputs::shifts_and_peels(table, room)),
+            call: Box::new(|out| library::shifts_and_peels(table, out)),
+        },
+        Entry {
+            name: "threshold",
+            expected: Box::new(|room| outputs::threshold(table, room)),
+            call: Box::new(|out| library::threshold(table, out)),
+        },
+        Entry {
+            name: "sweeps",
+            expected: Box::new(|room| outputs::sweeps(table, room)),
+            call: Box::new(|out| library::sweeps(table, out)),
+        },
+        Entry {
+            name: "blocks",
+            expected: Box::new(move |room| outputs::blocks(table, processors, room)),
+            call: Box::new(move |out| library::blocks(table, processors, out)),
+        },
+        Entry {
+            name: "listing",
+            expected: Box::new(move |room| outputs::listing(table, processors, room)),
+            call: Box::new(move |out| library::listing(table, processors, out)),
+        },
+    ]
+}
+
+fn of_processor(table: &[u8], processors: u32, processor: u32) -> [Entry<'_>; 2] {
+    [
+        Entry {
+            name: "fused list",
+            expected: Box::new(move |room| outputs::fused_list(table, processors, processor, room)),
+            call: Box::new(move |out| library::fused_list(table, processors, processor, out)),
+        },
+        Entry {
+            name: "peeled list",
+            expected: Box::new(move |room| {
+                outputs::peeled_list(table, processors, processor, room)
+            }),
+            call: Box::new(move |out| library::peeled_list(table, processors, processor, out)),
+        },
+    ]
+}
+
+fn every_room(tally: &mut Tally, table: &[u8], entry: &Entry) {
+    let needed = (entry.expected)(usize::MAX).map_or(0, |bytes| bytes.len());
+    let mut rooms = vec![needed, needed + 17];
+    if needed > 0 {
+        rooms.extend([needed - 1, 0]);
+    }
+    for room in rooms {
+        let expected = (entry.expected)(room);
+        match lent::compare(room, &expected, |out| (entry.call)(out)) {
+            Ok(answer) => tally.add(answer[0]),
+            Err(report) => {
+                eprintln!("{}: the library and the second planner disagree", entry.name);
+                eprintln!("  table    {}", hex(table));
+                eprintln!("{report}");
+                std::process::exit(1);
+            }
+        }
+    }
+}

@@ -1,0 +1,150 @@
+//! The text of the listing, line by line.
+
+use vempaldi_checks::damage;
+use vempaldi_checks::encoder::encode;
+use vempaldi_checks::examples::EXAMPLE;
+use vempaldi_checks::lent;
+use vempaldi_checks::library_planning as library;
+use vempaldi_checks::limits;
+use vempaldi_checks::outcome::hex;
+use vempaldi_checks::outputs;
+use vempaldi_checks::processors;
+use vempaldi_checks::random::Random;
+use vempaldi_checks::table::Table;
+use vempaldi_checks::tables::{self, Shape, LARGE, MIDDLE, SMALL};
+use vempaldi_checks::tally::Tally;
+
+const LEAST_TABLES: u64 = 100_000;
+const LEAST_OF_EACH: u64 = 500;
+const LEAST_WITH_PEELED: u64 = 20_000;
+
+struct Counts {
+    tables: u64,
+    with_peeled: u64,
+    grounds: Tally,
+}
+
+pub fn compare_all() {
+    let mut counts = Counts { tables: 0, with_peeled: 0, grounds: Tally::new() };
+    for count in 0..=255 {
+        compare(&mut counts, &EXAMPLE, count);
+    }
+    for case in limits::cases() {
+        compare(&mut counts, &case.bytes, 2);
+    }
+    for (seed, shape, tables) in shapes() {
+        whole(&mut counts, seed, &shape, tables);
+        damaged(&mut counts, seed + 100, &shape, tables / 4);
+    }
+    full(&mut counts);
+    counts.grounds.print("listings");
+    println!("  of {} tables; {} plans have peeled lines", counts.tables, counts.with_peeled);
+    counts.grounds.require(&[0, 1, 2, 3, 4, 5, 6, 7, 8, 9, 10, 11], LEAST_OF_EACH);
+    assert!(counts.tables >= LEAST_TABLES, "too few tables");
+    assert!(counts.with_peeled >= LEAST_WITH_PEELED, "too few plans with peeled lines");
+}
+
+/// Seed, shape and count of the tables of each kind.
+fn shapes() -> Vec<(u64, Shape, u64)> {
+    let near = Shape { offset: 2, length: 300, ..MIDDLE };
+    let dense = Shape { arrays: 2, loops: 16, offset: 1, length: 400, ..MIDDLE };
+    let long = Shape { offset: 9, length: 60_000, ..LARGE };
+    vec![
+        (1, SMALL, 30_000),
+        (2, MIDDLE, 10_000),
+        (3, LARGE, 3_000),
+        (4, near, 10_000),
+        (5, dense, 10_000),
+        (6, long, 4_000),
+    ]
+}
+
+/// The listing of one table, into a buffer that is a little longer.
+fn compare(counts: &mut Counts, table: &[u8], processors: u32) {
+    let expected = outputs::listing(table, processors, usize::MAX).expect("fits");
+    let text = String::from_utf8_lossy(&expected).into_owned();
+    let room = expected.len() + 5;
+    let result = lent::compare(room, &Ok(expected), |out| library::listing(table, processors, out));
+    if let Err(report) = result {
+        eprintln!("listing: the library and the second planner disagree");
+        eprintln!("  table    {}, processors {processors}", hex(table));
+        show_first_difference(table, processors, &text);
+        eprintln!("{report}");
+        std::process::exit(1);
+    }
+    counts.grounds.add(number(&text));
+    counts.with_peeled += u64::from(text.contains("peeled"));
+}
+
+fn show_first_difference(table: &[u8], processors: u32, wanted: &str) {
+    let mut out = vec![0; 65_536];
+    let (_, written) = library::listing(table, processors, &mut out);
+    let found = String::from_utf8_lossy(&out[..(written as usize).min(out.len())]).into_owned();
+    let mut found = found.lines();
+    for (number, wanted) in wanted.lines().enumerate() {
+        let found = found.next();
+        if found != Some(wanted) {
+            eprintln!("  line {number}: library {found:?}, expected {wanted:?}");
+            return;
+        }
+    }
+}
+
+/// The number in a line of refusal, else 0.
+fn number(text: &str) -> u64 {
+    let mut words = text.split_whitespace();
+    if words.next() == Some("refused") {
+        words.next().and_then(|word| word.parse().ok()).unwrap_or(0)
+    } else {
+        0
+    }
+}
+
+/// One table with numbers of processors that include the largest that has a
+/// plan and the next one.
+fn several(counts: &mut Counts, random: &mut Random, table: &Table) {
+    counts.tables += 1;
+    let bytes = encode(table);
+    let most = processors::most(table);
+    compare(counts, &bytes, most);
+    compare(counts, &bytes, most + 1);
+    compare(counts, &bytes, random.between(1, i64::from(most)) as u32);
+    compare(counts, &bytes, processors::any(random));
+}
+
+fn whole(counts: &mut Counts, seed: u64, shape: &Shape, count: u64) {
+    let mut random = Random::new(seed);
+    for _ in 0..count {
+        let table = tables::any(&mut random, shape);
+        several(counts, &mut random, &table);
+        let table = tables::aligned(&mut random, shape);
+        several(counts, &mut random, &table);
+    }
+}
+
+fn damaged(counts: &mut Counts, seed: u64, shape: &Shape, count: u64) {
+    let mut random = Random::new(seed);
+    let serial = Shape { serial: true, ..*shape };
+    for _ in 0..count {
+        counts.tables += 5;
+        let bytes = encode(&tables::any(&mut random, &serial));
+        let processors = processors::any(&mut random);
+        compare(counts, &bytes, processors);
+        compare(counts, &bytes[..random.below(bytes.len())], processors);
+        compare(counts, &damage::crowd(&mut random, &bytes), processors);
+        compare(counts, &damage::field(&mut random, &bytes), processors);
+        compare(counts, &damage::change_byte(&mut random, &bytes), processors);
+    }
+}
+
+/// Full tables, with every number of processors.
+fn full(counts: &mut Counts) {
+    let mut random = Random::new(7);
+    for reads in 0..=4 {
+        counts.tables += 1;
+        let table = encode(&tables::full(&mut random, reads, 4));
+        for processors in 0..=66 {
+            compare(counts, &table, processors);
+        }
+    }
+}

@@ -1,0 +1,156 @@
+//! Runs in a caller's order: the memory, the idle count, and that both are
+//! those of the row of steps.
+
+use crate::plans::{planned, Planned};
+use crate::stop::{first_difference, same_bits, stop};
+use vempaldi_checks::damage;
+use vempaldi_checks::encoder::encode;
+use vempaldi_checks::interpreter::plain_run;
+use vempaldi_checks::library_running as library;
+use vempaldi_checks::memories;
+use vempaldi_checks::outcome::{agrees, ACCEPTED};
+use vempaldi_checks::processors;
+use vempaldi_checks::random::Random;
+use vempaldi_checks::stepping::run;
+use vempaldi_checks::tables::{self, Shape};
+use vempaldi_checks::tally::Tally;
+
+const PLANS: u64 = 20_000;
+
+pub fn compare_all() {
+    let mut random = Random::new(13);
+    let mut tally = Tally::new();
+    let mut idle = 0;
+    for turn in 0..PLANS {
+        let planned = planned(&mut random);
+        let order = any_order(&mut random, &planned);
+        let length = planned.schedule.table.elements() as usize;
+        let start = memories::any(&mut random, length);
+        let processors = planned.schedule.processors();
+        idle += compare(&mut tally, &planned.bytes, processors, &order, &start);
+        same_as_plain(&planned, &order, &start);
+        if turn % 4 == 0 {
+            same_as_row(&planned, &order, &start);
+            refused(&mut tally, &mut random, &planned, &order);
+        }
+    }
+    long_runs(&mut tally);
+    tally.print("runs in a caller's order");
+    println!("  {idle} idle bytes in all");
+    tally.require(&[0, 1, 3, 4, 5, 6, 7, 8, 10, 11, 12], 50);
+}
+
+/// Few runs of larger tables, up to some thousand iterations.
+fn long_runs(tally: &mut Tally) {
+    let shape = Shape { arrays: 8, loops: 16, items: 32, length: 2_000, offset: 3, serial: false };
+    let mut random = Random::new(14);
+    for _ in 0..60 {
+        let table = tables::aligned(&mut random, &shape);
+        let processors = processors::most(&table).min(random.between(2, 64) as u32);
+        let start = memories::any(&mut random, table.elements() as usize);
+        let order: Vec<u8> =
+            (0..2_000).map(|_| random.below(processors as usize + 1) as u8).collect();
+        compare(tally, &encode(&table), processors, &order, &start);
+    }
+}
+
+/// Bytes of which most name processors, in rows of one or mixed; some runs
+/// take none, and some take more than the lists are long.
+fn any_order(random: &mut Random, planned: &Planned) -> Vec<u8> {
+    let processors = planned.schedule.processors() as usize;
+    let length = random.pick(&[0, 1, 5, 40, 200]);
+    let mut named = 0;
+    (0..length)
+        .map(|_| {
+            if random.chance(2, 3) {
+                named = random.below(processors) as u8;
+            }
+            if random.chance(1, 10) {
+                random.pick(&[processors as u8, 63, 64, 128, 255])
+            } else {
+                named
+            }
+        })
+        .collect()
+}
+
+/// The idle count where the run is accepted, else 0.
+fn compare(tally: &mut Tally, table: &[u8], processors: u32, order: &[u8], start: &[f64]) -> u64 {
+    let mut found = start.to_vec();
+    let mut wanted = start.to_vec();
+    let (answer, idle) = library::run(table, processors, order, &mut found);
+    let expected = run(table, processors, order, &mut wanted);
+    let wanted_idle = *expected.as_ref().unwrap_or(&0);
+    let same = agrees(&answer, expected.as_ref().err())
+        && idle == wanted_idle
+        && same_bits(&found, &wanted);
+    if !same {
+        let difference = first_difference(&found, &wanted);
+        let details = format!(
+            "  processors {processors}, order {order:?}\n\
+             \x20 library  {answer:?}, idle {idle}\n  expected {expected:?}\n{difference}"
+        );
+        stop("run in a caller's order", table, &details);
+    }
+    tally.add(answer[0]);
+    idle
+}
+
+fn same_as_plain(planned: &Planned, order: &[u8], start: &[f64]) {
+    let mut found = start.to_vec();
+    let mut plain = start.to_vec();
+    library::run(&planned.bytes, planned.schedule.processors(), order, &mut found);
+    plain_run(&planned.bytes, &mut plain).expect("accepted");
+    if !same_bits(&found, &plain) {
+        let difference = first_difference(&found, &plain);
+        stop("run and plain run", &planned.bytes, &format!("  order {order:?}\n{difference}"));
+    }
+}
+
+/// The library's own steps, one for each byte and then the lowest processor
+/// that can step, count the same idle calls and leave the same memory.
+fn same_as_row(planned: &Planned, order: &[u8], start: &[f64]) {
+    let schedule = &planned.schedule;
+    let processors = schedule.processors();
+    let mut memory = start.to_vec();
+    let mut counts = [0; 64];
+    let mut idle = 0;
+    let mut call = |named: u32, counts: &mut [u32; 64]| {
+        let mut report = [9; 3];
+        let answer =
+            library::step(&planned.bytes, processors, named, counts, &mut memory, &mut report);
+        answer == ACCEPTED && report[0] == 0
+    };
+    for &byte in order {
+        idle += u64::from(!call(u32::from(byte), &mut counts));
+    }
+    while let Some(lowest) = schedule.lowest(&counts) {
+        assert!(call(lowest, &mut counts), "the lowest processor that can step does");
+    }
+    let mut found = start.to_vec();
+    let (_, counted) = library::run(&planned.bytes, processors, order, &mut found);
+    if counted != idle || !same_bits(&found, &memory) {
+        let difference = first_difference(&found, &memory);
+        let details = format!("  order {order:?}: idle {counted}, in its row {idle}\n{difference}");
+        stop("run and its row of steps", &planned.bytes, &details);
+    }
+}
+
+/// Wrong tables, numbers of processors and memories change nothing.
+fn refused(tally: &mut Tally, random: &mut Random, planned: &Planned, order: &[u8]) {
+    let right = planned.schedule.processors();
+    let length = planned.schedule.table.elements() as usize;
+    let start = memories::any(random, length);
+    let broken = damage::field(random, &planned.bytes);
+    compare(tally, &broken, right, order, &start);
+    let crowded = damage::crowd(random, &planned.bytes);
+    compare(tally, &crowded, right, order, &start);
+    let cut = &planned.bytes[..random.below(planned.bytes.len())];
+    compare(tally, cut, right, order, &start);
+    let processors = processors::any(random);
+    compare(tally, &planned.bytes, processors, order, &start);
+    let wrong = random.pick(&[0, length - 1, length + 1]);
+    let other = memories::any(random, wrong);
+    compare(tally, &planned.bytes, right, order, &other);
+    compare(tally, &planned.bytes, processors, order, &other);
+}

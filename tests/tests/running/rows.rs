@@ -1,0 +1,129 @@
+//! Complete rows of steps: every report, every count and the memory after
+//! every call, and at the end the memory of the plain run.
+
+use crate::plans::{planned, Planned};
+use crate::schedulers::{self, Scheduler};
+use crate::stop::{first_difference, same_bits, stop};
+use vempaldi_checks::interpreter::plain_run;
+use vempaldi_checks::library_running as library;
+use vempaldi_checks::memories;
+use vempaldi_checks::outcome::agrees;
+use vempaldi_checks::random::Random;
+use vempaldi_checks::stepping::{Counts, Report};
+
+const PLANS: u64 = 6_000;
+const LEAST_OF_EACH: u64 = 10_000;
+
+#[derive(Default)]
+struct Calls {
+    rows: u64,
+    /// Plans for 64 processors, which use every count of the state.
+    widest: u64,
+    done: u64,
+    waiting: u64,
+    finished: u64,
+    refused: u64,
+}
+
+pub fn compare_all() {
+    let mut random = Random::new(11);
+    let mut calls = Calls::default();
+    for _ in 0..PLANS {
+        let planned = planned(&mut random);
+        let processors = planned.schedule.processors();
+        calls.widest += u64::from(processors == 64);
+        for scheduler in schedulers::every(&mut random, processors) {
+            row(&mut calls, &mut random, &planned, scheduler);
+        }
+    }
+    println!(
+        "rows of steps: {} complete rows; {} iterations, {} waiting, {} finished, {} refused",
+        calls.rows, calls.done, calls.waiting, calls.finished, calls.refused
+    );
+    println!("  {} of {PLANS} plans for 64 processors", calls.widest);
+    assert!(calls.widest >= 50, "too few plans for 64 processors");
+    for count in [calls.rows, calls.done, calls.waiting, calls.finished, calls.refused] {
+        assert!(count >= LEAST_OF_EACH, "too few calls of one kind");
+    }
+}
+
+/// One row, ended by a few calls more than it needs.
+fn row(calls: &mut Calls, random: &mut Random, planned: &Planned, scheduler: Scheduler) {
+    let start = memories::any(random, planned.schedule.table.elements() as usize);
+    let mut state = State { counts: [0; 64], found: start.clone(), wanted: start.clone() };
+    let mut before = 0;
+    let mut turn = 0;
+    while planned.schedule.lowest(&state.counts).is_some() {
+        let schedule = &planned.schedule;
+        let named = scheduler.choose(random, schedule, &state.counts, turn, before);
+        call(calls, planned, &mut state, named);
+        before = named;
+        turn += 1;
+    }
+    for named in 0..=planned.schedule.processors() {
+        call(calls, planned, &mut state, named);
+    }
+    let mut plain = start;
+    plain_run(&planned.bytes, &mut plain).expect("accepted");
+    if !same_bits(&state.found, &plain) {
+        let difference = first_difference(&state.found, &plain);
+        stop("row and plain run", &planned.bytes, &format!("  {scheduler:?}\n{difference}"));
+    }
+    calls.rows += 1;
+}
+
+/// The counts, the library's memory and the second interpreter's.
+struct State {
+    counts: Counts,
+    found: Vec<f64>,
+    wanted: Vec<f64>,
+}
+
+/// What stands in a report before a call; a refused call leaves it there.
+const NO_REPORT: [u32; 3] = [91, 92, 93];
+
+/// The three numbers of a report; waiting and finished have 0 behind them.
+pub fn numbers(report: Report) -> [u32; 3] {
+    match report {
+        Report::Done(one) => [0, one.loop_number, one.index],
+        Report::Waiting => [1, 0, 0],
+        Report::Finished => [2, 0, 0],
+    }
+}
+
+fn call(calls: &mut Calls, planned: &Planned, state: &mut State, named: u32) {
+    let schedule = &planned.schedule;
+    let processors = schedule.processors();
+    let mut counts = state.counts;
+    let mut report = NO_REPORT;
+    let answer = library::step(
+        &planned.bytes,
+        processors,
+        named,
+        &mut counts,
+        &mut state.found,
+        &mut report,
+    );
+    let expected = schedule.checked_step(named, &mut state.counts, &mut state.wanted);
+    let wanted = expected.as_ref().map_or(NO_REPORT, |&report| numbers(report));
+    let same = agrees(&answer, expected.as_ref().err())
+        && report == wanted
+        && counts == state.counts
+        && same_bits(&state.found, &state.wanted);
+    if !same {
+        let difference = first_difference(&state.found, &state.wanted);
+        let details = format!(
+            "  processors {processors}, stepped {named}\n\
+             \x20 library  {answer:?}, report {report:?}, counts {counts:?}\n\
+             \x20 expected {expected:?}, counts {:?}\n{difference}",
+            state.counts
+        );
+        stop("step in a row", &planned.bytes, &details);
+    }
+    match expected {
+        Ok(Report::Done(_)) => calls.done += 1,
+        Ok(Report::Waiting) => calls.waiting += 1,
+        Ok(Report::Finished) => calls.finished += 1,
+        Err(_) => calls.refused += 1,
+    }
+}

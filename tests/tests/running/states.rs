@@ -1,0 +1,146 @@
+//! Single steps from any counts, with wrong numbers, memories and tables: one
+//! wrong thing at a time and several at once.
+
+use crate::plans::{planned, Planned};
+use crate::rows::numbers;
+use crate::stop::{first_difference, same_bits, stop};
+use vempaldi_checks::damage;
+use vempaldi_checks::library_running as library;
+use vempaldi_checks::memories;
+use vempaldi_checks::outcome::agrees;
+use vempaldi_checks::processors;
+use vempaldi_checks::random::Random;
+use vempaldi_checks::stepping::{step, Counts};
+use vempaldi_checks::tally::Tally;
+
+const PLANS: u64 = 10_000;
+const CALLS: u64 = 8;
+
+/// Everything that one step is given.
+struct Call {
+    table: Vec<u8>,
+    processors: u32,
+    processor: u32,
+    counts: Counts,
+    memory: Vec<f64>,
+}
+
+pub fn compare_all() {
+    let mut random = Random::new(12);
+    let mut tally = Tally::new();
+    for _ in 0..PLANS {
+        let planned = planned(&mut random);
+        for _ in 0..CALLS {
+            let call = any_call(&mut random, &planned);
+            compare(&mut tally, call);
+        }
+    }
+    tally.print("single steps");
+    tally.require(&[0, 1, 3, 4, 5, 6, 7, 8, 10, 11, 12, 15], 50);
+}
+
+fn any_call(random: &mut Random, planned: &Planned) -> Call {
+    let processors = planned.schedule.processors();
+    let length = planned.schedule.table.elements() as usize;
+    let mut call = Call {
+        table: planned.bytes.clone(),
+        processors,
+        processor: random.below(processors as usize) as u32,
+        counts: any_counts(random, planned),
+        memory: memories::any(random, length),
+    };
+    if random.chance(1, 8) {
+        call.processors = processors::any(random);
+    }
+    if random.chance(1, 8) {
+        call.processor = random.pick(&[processors, 64, 255, 256, u32::MAX]);
+    }
+    if random.chance(1, 8) {
+        let wrong = random.pick(&[0, length - 1, length + 1]);
+        call.memory = memories::any(random, wrong);
+    }
+    match random.below(24) {
+        0 => call.table = damage::field(random, &planned.bytes),
+        1 => call.table = damage::crowd(random, &planned.bytes),
+        2 => call.table.truncate(random.below(planned.bytes.len())),
+        _ => {}
+    }
+    call
+}
+
+/// Counts before the barrier or past it, mostly in order, at times one or two
+/// of them not.
+fn any_counts(random: &mut Random, planned: &Planned) -> Counts {
+    let past = random.chance(1, 2);
+    let mut counts = [0; 64];
+    for (count, own) in counts.iter_mut().zip(&planned.schedule.lists) {
+        let fused = own.fused.len() as i64;
+        *count = if past {
+            fused + random.between(0, own.peeled.len() as i64)
+        } else if random.chance(1, 2) {
+            fused
+        } else {
+            random.between(0, fused)
+        } as u32;
+    }
+    for _ in 0..random.below(3) {
+        disturb(random, planned, &mut counts);
+    }
+    counts
+}
+
+fn disturb(random: &mut Random, planned: &Planned, counts: &mut Counts) {
+    let processors = planned.schedule.lists.len();
+    let b = random.below(processors);
+    let own = &planned.schedule.lists[b];
+    let (fused, peeled) = (own.fused.len() as u32, own.peeled.len() as u32);
+    match random.below(6) {
+        0 => counts[b] = fused + peeled + 1,
+        1 => counts[b] = fused + 1,
+        2 => counts[b] = fused.saturating_sub(1),
+        3 => counts[b] = random.pick(&[u32::MAX, 1 << 31, 1 << 16, fused + peeled]),
+        _ if processors < 64 => {
+            let other = random.between(processors as i64, 63) as usize;
+            counts[other] = random.pick(&[1, u32::MAX]);
+        }
+        _ => counts[63] = 0,
+    }
+}
+
+fn compare(tally: &mut Tally, call: Call) {
+    let mut counts = call.counts;
+    let mut wanted_counts = call.counts;
+    let mut found = call.memory.clone();
+    let mut wanted = call.memory;
+    let start = [81, 82, 83];
+    let mut report = start;
+    let answer = library::step(
+        &call.table,
+        call.processors,
+        call.processor,
+        &mut counts,
+        &mut found,
+        &mut report,
+    );
+    let expected =
+        step(&call.table, call.processors, call.processor, &mut wanted_counts, &mut wanted);
+    let wanted_report = expected.as_ref().map_or(start, |&report| numbers(report));
+    let same = agrees(&answer, expected.as_ref().err())
+        && report == wanted_report
+        && counts == wanted_counts
+        && same_bits(&found, &wanted);
+    if !same {
+        let difference = first_difference(&found, &wanted);
+        let details = format!(
+            "  processors {}, stepped {}, counts {:?}, memory of {}\n\
+             \x20 library  {answer:?}, report {report:?}, counts {counts:?}\n\
+             \x20 expected {expected:?}, counts {wanted_counts:?}\n{difference}",
+            call.processors,
+            call.processor,
+            call.counts,
+            wanted.len()
+        );
+        stop("single step", &call.table, &details);
+    }
+    tally.add(answer[0]);
+}
