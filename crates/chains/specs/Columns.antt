@@ -1,9 +1,10 @@
 -- The references of a table as the code has them: a list for each field, one place a reference, in byte order.
 use Prim.Native.Nat.{ℕ, zero, suc, _+_, _-_, _≤_, _<_}
-use mathlib.Core.Path.{_≡_, refl, ap}
+use mathlib.Core.Path.{_≡_, sym, ap}
 use mathlib.Core.Logic.{⊎-elim}
 use mathlib.Core.List.{List, [], _∷_}
 use mathlib.Core.List.{List·Memᴰ as Mem, List·Memᴰ·head as mhere, List·Memᴰ·tail as mthere, List·Memᴰ·cases-cons as cases-cons, List·Memᴰ·not-nil as not-nil}
+use native.Mathlib.Decide.{ℕ-discrete}
 use native.Mathlib.Omega.{arith}
 use lib.Dec.{eqb}
 use lib.ListN.{getD, length}
@@ -48,11 +49,28 @@ pub record WellFormed (c : Columns) : Type 0 where
 
 module _ (c : Columns) where
   -- each of them stands at a place
-  pub refsFrom-place : (i n : ℕ) (x : Reference) → Mem x (refsFrom c i n) → (j : ℕ) × (i ≤ j) × (j < i + n) × (x ≡ refAt c j)
+  refsFrom-place : (i n : ℕ) (x : Reference) → Mem x (refsFrom c i n) → (j : ℕ) × (i ≤ j) × (j < i + n) × (x ≡ refAt c j)
   unfolding refsFrom
   refsFrom-place i zero x m = absurd (not-nil m)
   refsFrom-place i (suc n) x m =
       ⊎-elim (λ e. (i, omega arith, omega arith, e)) (λ k. let (j, a, b, e) = refsFrom-place (suc i) n x k in (j, omega arith, omega arith, e)) (cases-cons m)
+
+  refsFrom-mem : (i n j : ℕ) → i ≤ j → j < i + n → Mem (refAt c j) (refsFrom c i n)
+  unfolding refsFrom
+  refsFrom-mem i zero j l h = absurd (omega arith)
+  refsFrom-mem i (suc n) j l h = go (ℕ-discrete i j) (refsFrom-mem (suc i) n j)
+    where
+      go : Dec (i ≡ j) → (suc i ≤ j → j < suc i + n → Mem (refAt c j) (refsFrom c (suc i) n)) → Mem (refAt c j) (refAt c i ∷ refsFrom c (suc i) n)
+      go (yes e) f = mhere (ap (refAt c) (sym e))
+      go (no e) f = mthere (f (omega arith) (omega arith))
+
+  pub refs-mem : (j : ℕ) → j < length (c .loops) → Mem (refAt c j) (refs c)
+  unfolding refs
+  refs-mem j h = refsFrom-mem 0 (length (c .loops)) j (omega arith) (omega arith)
+
+  pub refs-place : (x : Reference) → Mem x (refs c) → (j : ℕ) × (x ≡ refAt c j)
+  unfolding refs
+  refs-place x m = let (j, a, b, e) = refsFrom-place 0 (length (c .loops)) x m in (j, e)
 
   module _ (formed : WellFormed c) where
     -- from a reference of loop k or later on, all are
@@ -74,5 +92,4 @@ module _ (c : Columns) where
     refs-ordered = refsFrom-ordered 0 (length (c .loops)) (omega arith)
 
     pub refs-below : Below 16 (refs c)
-    unfolding refs
-    refs-below x m = let (j, a, b, e) = refsFrom-place 0 (length (c .loops)) x m in rw e (formed .sixteen j)
+    refs-below x m = let (j, e) = refs-place x m in rw e (formed .sixteen j)

@@ -26,7 +26,7 @@ module _ (amount : Reference → Reference → ℕ) (rs : List Reference) where
   unfolding Met
   raised-meets s y h x m e =
       let low = earlier x y e in
-      let u : getD s (x .number) 0 + amount x y ≤ maximum (required amount s y) rs = rw (required-met amount rs s y x e) at (maximum-upper (required amount s y) m) in
+      let u : getD s (x .number) 0 + amount x y ≤ maximum (required amount s y) rs = rw (required-met amount s y x e) at (maximum-upper (required amount s y) m) in
       rw (raised-other amount rs s y (x .number) (omega arith), raised-same amount rs s y h) (le-trans u (le-max-right _ _))
 
   raised-keeps : (s : List ℕ) (y z : Reference) → z .number < length s → y .number ≤ z .number → Met s y → Met (raised amount rs s z) y

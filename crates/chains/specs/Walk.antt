@@ -6,11 +6,12 @@ use mathlib.Core.Bool.{Bool, true, false, cond}
 use mathlib.Core.List.{List, [], _∷_}
 use mathlib.Core.List.{List·Memᴰ as Mem, List·Memᴰ·head as mhere, List·Memᴰ·tail as mthere}
 use native.Mathlib.Decide.{ℕ-discrete}
+use native.Mathlib.Omega.{arith}
 use lib.ListN.{length, getD, set, length-set, replicate}
 use lib.Seq.{getD-set-same, getD-set-other}
 use Rattle.order.specs.Lists.{Before}
 use Rattle.model.specs.declared.Reference.{Reference}
-use Rattle.chains.specs.Dependence.{dependence, backward, forward, Dependence}
+use Rattle.chains.specs.Dependence.{dependence, backward, forward, Dependence, earlier}
 use Rattle.chains.specs.Maximum.{maximum, max-of, maximum-of}
 
 -- what the dependence from x to y, if it is one, requires of y's loop, where s has the numbers of the earlier loops
@@ -47,16 +48,30 @@ Ordered rs = (x y : Reference) → Before x y rs → x .number ≤ y .number
 abbrev pub Below : ℕ → List Reference → Type 0
 Below n rs = (y : Reference) → Mem y rs → y .number < n
 
-zeros : (n k : ℕ) → _≡_ {A = ℕ} (getD (replicate n 0) k 0) 0
+pub zeros : (n k : ℕ) → _≡_ {A = ℕ} (getD (replicate n 0) k 0) 0
 zeros zero k = refl
 zeros (suc n) zero = refl
 zeros (suc n) (suc k) = zeros n k
 
-module _ (amount : Reference → Reference → ℕ) (rs : List Reference) where
+module _ (amount : Reference → Reference → ℕ) where
   pub required-met : (s : List ℕ) (y x : Reference) → dependence x y ≡ true → required amount s y x ≡ getD s (x .number) 0 + amount x y
   unfolding required
   required-met s y x e = rw e
 
+  pub required-none : (s : List ℕ) (y x : Reference) → dependence x y ≡ false → required amount s y x ≡ 0
+  unfolding required
+  required-none s y x e = rw e
+
+  -- only a reference of an earlier loop requires anything
+  pub required-late : (s : List ℕ) (y x : Reference) → y .number ≤ x .number → required amount s y x ≡ 0
+  unfolding required
+  required-late s y x l = go (dependence x y) refl
+    where
+      go : (b : Bool) → dependence x y ≡ b → cond b (getD s (x .number) 0 + amount x y) 0 ≡ 0
+      go true e = let h = earlier x y e in absurd (omega arith)
+      go false e = refl
+
+module _ (amount : Reference → Reference → ℕ) (rs : List Reference) where
   pub length-raised : (s : List ℕ) (y : Reference) → length (raised amount rs s y) ≡ length s
   unfolding raised
   length-raised s y = simp length-set

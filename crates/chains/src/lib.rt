@@ -8,7 +8,6 @@ ghost use Rattle.chains.specs.Maximum.{maximum};
 ghost use Rattle.chains.specs.Walk.{required, shifts, peels};
 ghost use Rattle.chains.specs.Threshold.{threshold};
 ghost use Rattle.chains.specs.Columns.{columns, refAt, refs, WellFormed};
-
 use model::Reference;
 
 // The amounts of shifting and peeling, for each loop a shift and a peel; 0 past the last loop.
@@ -119,6 +118,14 @@ fn required_at(
     a
 }
 
+// A loop's number, once n is required of it.
+fn updated(number: u32, n: usize) -> u32
+    requires { ⌜ n < 4294967296 ⌝ }
+    ensures { λ r. ⌜ r ≡ max number n ⌝ }
+{
+    larger(number as usize, n) as u32
+}
+
 // A single walk over the pairs of references of two loops, each pair once: the later reference in byte order, and for each the
 // references of earlier loops. Of the shifts and peels a step changes only the later loop's.
 pub fn shifts_and_peels(loops: &[u8], arrays: &[u8], offsets: &[u16], stores: &[u8]) -> Amounts
@@ -131,8 +138,8 @@ pub fn shifts_and_peels(loops: &[u8], arrays: &[u8], offsets: &[u16], stores: &[
     while i < loops.len() {
         let a = required_at(loops, arrays, offsets, stores, i, &ss, &ps);
         let k = loops[i] as usize;
-        ss[k] = larger(ss[k] as usize, a.shift) as u32;
-        ps[k] = larger(ps[k] as usize, a.peel) as u32;
+        ss[k] = updated(ss[k], a.shift);
+        ps[k] = updated(ps[k], a.peel);
         i += 1;
     }
     Amounts {
