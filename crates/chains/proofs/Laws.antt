@@ -14,7 +14,7 @@ use Rattle.chains.specs.Dependence.{dependence, backward, forward}
 use Rattle.chains.specs.Maximum.{maximum, maximumBelow}
 use Rattle.chains.specs.Walk.{required, required-met, required-none, required-late, raised, raised-same, walk, numbers, zeros}
 use Rattle.chains.specs.Bounds.{Small, AtMost, raised-small}
-use Rattle.chains.specs.Columns.{Columns, refAt, refsFrom, refs, WellFormed, refsFrom-late, refs-mem, refs-place}
+use Rattle.chains.specs.Columns.{Columns, refAt, refsFrom, refs, requiredAt, WellFormed, refsFrom-late, refs-mem, refs-place}
 
 max-right : (a b c : ℕ) → max (max a b) c ≡ max a (max b c)
 max-right a b c = omega arith
@@ -62,7 +62,7 @@ module _ (c : Columns) where
       rw (q, p, add-one) (max-right a (f (refAt c j)) (maximum f (refsFrom c (suc j) (length (c .loops) - suc j))) ∙ v)
 
   pub left-end : (amount : Reference → Reference → ℕ) (s : List ℕ) → WellFormed c → (i j a : ℕ) (y : Reference) → y ≡ refAt c i
-      → getD (c .loops) i 0 ≤ getD (c .loops) j 0 → Left (required amount s y) j a → a ≡ maximum (required amount s (refAt c i)) (refs c)
+      → getD (c .loops) i 0 ≤ getD (c .loops) j 0 → Left (required amount s y) j a → a ≡ requiredAt amount c s i
   unfolding Left
   left-end amount s formed i j a y p g l =
       let none = maximum-late amount s (refAt c i) (refsFrom c j (length (c .loops) - j)) (refsFrom-late c formed (getD (c .loops) i 0) j g) in
@@ -99,14 +99,14 @@ module _ (c : Columns) where
     raised-fits = raised-small amount (refs c) 65535 most s (refAt c i) inside (refs-mem c i h) (w .small)
 
     -- what is required of the loop of reference i
-    pub walked-required : (a : ℕ) → a ≡ maximum (required amount s (refAt c i)) (refs c) → a < 4294967296
+    pub walked-required : (a : ℕ) → a ≡ requiredAt amount c s i → a < 4294967296
     walked-required a q =
         let u = raised-fits (getD (c .loops) i 0) in
         let e = raised-same amount (refs c) s (refAt c i) inside in
         omega (arith, q, e, u, formed .sixteen i)
 
     -- one reference more
-    pub walked-next : (a r : ℕ) → a ≡ maximum (required amount s (refAt c i)) (refs c) → r ≡ max (getD s (getD (c .loops) i 0) 0) a
+    pub walked-next : (a r : ℕ) → a ≡ requiredAt amount c s i → r ≡ max (getD s (getD (c .loops) i 0) 0) a
         → Walked amount (i + 1) (set s (getD (c .loops) i 0) r)
     unfolding walk refsFrom raised
     walked-next a r qa qr =

@@ -12,7 +12,7 @@ use Rattle.chains.specs.Dependence.{Dependence, backward, forward, earli
 use Rattle.chains.specs.Walk.{raised, raised-of, numbers, numbers-of, numbers-length, shifts, peels, Below}
 use Rattle.chains.specs.Threshold.{threshold, threshold-bound, sumAt}
 
--- no number is above m times its loop's
+-- the number of loop k is at most m times k
 abbrev pub Small : ℕ → List ℕ → Type 0
 Small m s = (k : ℕ) → getD s k 0 ≤ m * k
 
@@ -51,5 +51,5 @@ module _ (rs : List Reference) (below : Below 16 rs) (range : InRange rs) where
   pub peels-bound : (k : ℕ) → getD (peels rs) k 0 ≤ 7650
   peels-bound = numbers-bound forward rs 510 (λ x y from to. omega (arith, range x from)) below
 
-  pub shifts-peels-threshold-bound : threshold (shifts rs) (peels rs) ≤ 15300
-  shifts-peels-threshold-bound = threshold-bound (shifts rs) (peels rs) 15300 (λ k l. omega (arith, shifts-bound k, peels-bound k))
+  pub plan-threshold-bound : threshold (shifts rs) (peels rs) ≤ 15300
+  plan-threshold-bound = threshold-bound (shifts rs) (peels rs) 15300 (λ k l. omega (arith, shifts-bound k, peels-bound k))

@@ -82,7 +82,7 @@ module _ (rs : List Reference) (k : ℕ) where
   -- what no chain's total exceeds, and is 0 or some chain's total, is the largest
   pub largest-of : (amount : Reference → Reference → ℕ) (n : ℕ) → ((c : Chain rs k) → total amount c ≤ n)
       → (n ≡ 0) ⊎ ((c : Chain rs k) × (total amount c ≡ n)) → Largest amount rs k n
-  largest-of amount n bound reached = record { bound = bound; attained = ⊎-elim zero inl reached }
+  largest-of amount n bound reached = record { bound = bound; attained = ⊎-elim none inl reached }
     where
-      zero : n ≡ 0 → ((c : Chain rs k) × (total amount c ≡ n)) ⊎ ((Chain rs k → ⊥) × (n ≡ 0))
-      zero e = ⊎-elim (λ c. inl (c, omega (arith, bound c))) (λ none. inr (none, e)) chain-or-none
+      none : n ≡ 0 → ((c : Chain rs k) × (total amount c ≡ n)) ⊎ ((Chain rs k → ⊥) × (n ≡ 0))
+      none e = ⊎-elim (λ c. inl (c, omega (arith, bound c))) (λ f. inr (f, e)) chain-or-none

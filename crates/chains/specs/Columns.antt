@@ -10,7 +10,8 @@ use lib.Dec.{eqb}
 use lib.ListN.{getD, length}
 use Rattle.order.specs.Lists.{Before, bhere, bthere}
 use Rattle.model.specs.declared.Reference.{Reference}
-use Rattle.chains.specs.Walk.{Ordered, Below}
+use Rattle.chains.specs.Maximum.{maximum}
+use Rattle.chains.specs.Walk.{required, Ordered, Below}
 
 -- `stores` has 1 at a destination and 0 at a read
 pub record Columns : Type 0 where
@@ -38,6 +39,10 @@ refsFrom c i (suc n) = refAt c i ∷ refsFrom c (suc i) n
 unfoldable pub refs : Columns → List Reference
 unfolding refsFrom
 refs c = refsFrom c 0 (length (c .loops))
+
+-- the largest number that any dependence ending at reference i requires of its loop, where s has the numbers of the earlier loops
+abbrev pub requiredAt : (Reference → Reference → ℕ) → Columns → List ℕ → ℕ → ℕ
+requiredAt amount c s i = maximum (required amount s (refAt c i)) (refs c)
 
 -- what the code asks: lists of one length, the loop numbers below 16 and never falling
 pub record WellFormed (c : Columns) : Type 0 where

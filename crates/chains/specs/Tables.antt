@@ -16,8 +16,6 @@ use Rattle.chains.specs.Chains.{Largest}
 use Rattle.chains.specs.Legal.{LegalPlan}
 use Rattle.chains.specs.Walk.{shifts, peels, Ordered, Below}
 use Rattle.chains.specs.Largest.{numbers-largest, numbers-legal, numbers-least}
-use Rattle.chains.specs.Threshold.{threshold}
-use Rattle.chains.specs.Bounds.{InRange, shifts-bound, peels-bound, shifts-peels-threshold-bound}
 
 -- the references of loop k have its number
 reads-number : (k : ℕ) (xs : List Item) (r : Reference) → Mem r (reads k xs) → r .number ≡ k
@@ -79,13 +77,3 @@ module _ (t : Table) where
         → (getD (shifts (allRefs t)) k 0 ≤ getD s k 0) × (getD (peels (allRefs t)) k 0 ≤ getD p k 0)
     plan-least s p l k =
         (numbers-least backward (allRefs t) allRefs-ordered allRefs-below s (l .0) k, numbers-least forward (allRefs t) allRefs-ordered allRefs-below p (l .1) k)
-
-    module _ (range : InRange (allRefs t)) where
-      pub shift-bound : (k : ℕ) → getD (shifts (allRefs t)) k 0 ≤ 7650
-      shift-bound = shifts-bound (allRefs t) allRefs-below range
-
-      pub peel-bound : (k : ℕ) → getD (peels (allRefs t)) k 0 ≤ 7650
-      peel-bound = peels-bound (allRefs t) allRefs-below range
-
-      pub table-threshold-bound : threshold (shifts (allRefs t)) (peels (allRefs t)) ≤ 15300
-      table-threshold-bound = shifts-peels-threshold-bound (allRefs t) allRefs-below range

@@ -17,16 +17,16 @@ unfolding maximumBelow
 threshold s p = maximumBelow 16 (sumAt s p)
 
 module _ (s p : List ℕ) where
-  -- no loop has a larger sum, and some loop has this one
-  pub threshold-upper : (k : ℕ) → k < 16 → sumAt s p k ≤ threshold s p
-  unfolding threshold
-  threshold-upper k l = maximumBelow-upper (sumAt s p) 16 k l
-
+  -- some loop has this sum, and none a larger one
   pub threshold-attained : (k : ℕ) × (k < 16) × (sumAt s p k ≡ threshold s p)
   unfolding threshold
   threshold-attained =
       ⊎-elim (λ e. (0, omega arith, omega (arith, maximumBelow-upper (sumAt s p) 16 0 (omega arith)))) (λ t. t)
       (maximumBelow-of (λ n. (n ≡ 0) ⊎ ((k : ℕ) × (k < 16) × (sumAt s p k ≡ n))) (sumAt s p) 16 (inl refl) (λ k l. inr (k, l, refl)))
+
+  pub threshold-upper : (k : ℕ) → k < 16 → sumAt s p k ≤ threshold s p
+  unfolding threshold
+  threshold-upper k l = maximumBelow-upper (sumAt s p) 16 k l
 
   -- so a bound on every sum is one on the threshold
   pub threshold-bound : (m : ℕ) → ((k : ℕ) → k < 16 → sumAt s p k ≤ m) → threshold s p ≤ m

@@ -96,7 +96,7 @@ module _ (amount : Reference → Reference → ℕ) (rs : List Reference) where
   numbers-length = walk-length rs (replicate 16 0)
 
   -- what holds of 0 at every loop, and passes along every dependence, holds of each loop's number
-  module _ (P : ℕ → ℕ → Type 0) (zero : (k : ℕ) → P k 0)
+  module _ (P : ℕ → ℕ → Type 0) (start : (k : ℕ) → P k 0)
       (along : (x y : Reference) → Dependence rs x y → (n : ℕ) → P (x .number) n → P (y .number) (n + amount x y)) where
     abbrev pub Each : List ℕ → Type 0
     Each s = (k : ℕ) → P k (getD s k 0)
@@ -107,7 +107,7 @@ module _ (amount : Reference → Reference → ℕ) (rs : List Reference) where
       where
         go : (b : Bool) → dependence x y ≡ b → P (y .number) (cond b (getD s (x .number) 0 + amount x y) 0)
         go true e = along x y (record { from = from; to = to; joined = e }) _ (h (x .number))
-        go false e = zero (y .number)
+        go false e = start (y .number)
 
     pub raised-of : (s : List ℕ) (y : Reference) → y .number < length s → Mem y rs → Each s → Each (raised amount rs s y)
     raised-of s y l to h k = go (ℕ-discrete k (y .number))
@@ -116,7 +116,7 @@ module _ (amount : Reference → Reference → ℕ) (rs : List Reference) where
         here =
             rw (raised-same s y l)
             (max-of (P (y .number)) _ _ (h (y .number))
-            (maximum-of (P (y .number)) (required amount s y) rs (zero (y .number)) (λ x from. required-of s y x to from h)))
+            (maximum-of (P (y .number)) (required amount s y) rs (start (y .number)) (λ x from. required-of s y x to from h)))
 
         go : Dec (k ≡ y .number) → P k (getD (raised amount rs s y) k 0)
         go (yes q) = rw q here
@@ -131,4 +131,4 @@ module _ (amount : Reference → Reference → ℕ) (rs : List Reference) where
 
     pub numbers-of : Below 16 rs → Each (numbers amount rs)
     unfolding numbers
-    numbers-of below = walk-of rs (replicate 16 0) below (λ y m. m) (λ k. rw (zeros 16 k) (zero k))
+    numbers-of below = walk-of rs (replicate 16 0) below (λ y m. m) (λ k. rw (zeros 16 k) (start k))

@@ -1,13 +1,13 @@
 // Shifts and peels: the largest totals of backward and of forward amounts over all chains of dependences that end at a loop.
 
 ghost use mathlib.Core.Path.{_≡_};
+ghost use mathlib.Core.Bool.{_||_};
 ghost use Prim.Native.Nat.{_+_, _-_, _<_, max};
 ghost use lib.ListN.{length};
 ghost use Rattle.chains.specs.Dependence.{dependence, backward, forward};
-ghost use Rattle.chains.specs.Maximum.{maximum};
 ghost use Rattle.chains.specs.Walk.{required, shifts, peels};
 ghost use Rattle.chains.specs.Threshold.{threshold};
-ghost use Rattle.chains.specs.Columns.{columns, refAt, refs, WellFormed};
+ghost use Rattle.chains.specs.Columns.{columns, refAt, refs, requiredAt, WellFormed};
 use model::Reference;
 
 // The amounts of shifting and peeling, for each loop a shift and a peel; 0 past the last loop.
@@ -17,9 +17,9 @@ pub struct Amounts {
 }
 
 // What the dependences taken up so far require of one loop.
-pub struct Requirement {
-    pub shift: usize,
-    pub peel: usize,
+struct Requirement {
+    shift: usize,
+    peel: usize,
 }
 
 fn larger(a: usize, b: usize) -> usize
@@ -35,16 +35,19 @@ fn above(a: usize, b: usize) -> usize
     if b < a { a - b } else { 0 }
 }
 
+fn either(a: bool, b: bool) -> bool
+    ensures { λ r. ⌜ r ≡ (a || b) ⌝ }
+{
+    if a { true } else { b }
+}
+
 // Whether the references x and y make a dependence.
 pub fn depends(x: Reference, y: Reference) -> bool
     ensures { λ r. ⌜ r ≡ dependence x y ⌝ }
 {
     if x.number < y.number {
         if x.array == y.array {
-            if x.stores {
-                return true;
-            }
-            return y.stores;
+            return either(x.stores, y.stores);
         }
     }
     false
@@ -103,8 +106,8 @@ fn required_at(
     peels: &[u32; 16],
 ) -> Requirement
     requires { ⌜ WellFormed (columns (now loops) (now arrays) (now offsets) (now stores)) × (i < length (now loops)) ⌝ }
-    ensures { λ r. ⌜ r .shift ≡ maximum (required backward (now (shifts .entry)) (refAt (columns (now (loops .entry)) (now (arrays .entry)) (now (offsets .entry)) (now (stores .entry))) i)) (refs (columns (now (loops .entry)) (now (arrays .entry)) (now (offsets .entry)) (now (stores .entry)))) ⌝ }
-    ensures { λ r. ⌜ r .peel ≡ maximum (required forward (now (peels .entry)) (refAt (columns (now (loops .entry)) (now (arrays .entry)) (now (offsets .entry)) (now (stores .entry))) i)) (refs (columns (now (loops .entry)) (now (arrays .entry)) (now (offsets .entry)) (now (stores .entry)))) ⌝ }
+    ensures { λ r. ⌜ r .shift ≡ requiredAt backward (columns (now (loops .entry)) (now (arrays .entry)) (now (offsets .entry)) (now (stores .entry))) (now (shifts .entry)) i ⌝ }
+    ensures { λ r. ⌜ r .peel ≡ requiredAt forward (columns (now (loops .entry)) (now (arrays .entry)) (now (offsets .entry)) (now (stores .entry))) (now (peels .entry)) i ⌝ }
 {
     let y = reference(loops, arrays, offsets, stores, i);
     let number = loops[i];

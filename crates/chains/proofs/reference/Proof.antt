@@ -1,43 +1,33 @@
+-- `reference` meets its contract: an element of a column fits a wider number.
 use native.Mathlib.Omega.{arith}
 use borrow.Author.Needs.{needs}
 use Rattle.chains.proofs.reference.Statement.{statement}
 use Rattle.chains.proofs.reference.Tie as tie
-use Rattle.chains.proofs.reference.Reads as reads
-use Rattle.chains.proofs.reference.Lts as lts
 
--- src/lib.rt:60:17
 shared-slice-read-t7 : tie.Need-shared-slice-read-t7
 shared-slice-read-t7 c = search needs
 
--- src/lib.rt:60:17
 cast-t8 : tie.Need-cast-t8
 cast-t8 c = omega (arith, c .shared-slice-known .given (c .before .args .i))
 
--- src/lib.rt:61:16
 shared-slice-read-t10 : tie.Need-shared-slice-read-t10
 shared-slice-read-t10 c = search needs
 
--- src/lib.rt:61:16
 cast-t11 : tie.Need-cast-t11
 cast-t11 c = omega (arith, c .shared-slice-known2 .given (c .before .before .args .i))
 
--- src/lib.rt:62:17
 mul-t12 : tie.Need-mul-t12
 mul-t12 c = search needs
 
--- src/lib.rt:62:17
 shared-slice-read-t14 : tie.Need-shared-slice-read-t14
 shared-slice-read-t14 c = search needs
 
--- src/lib.rt:62:17
 cast-t15 : tie.Need-cast-t15
 cast-t15 c = omega (arith, c .shared-slice-known3 .given (c .before .before .before .args .i))
 
--- src/lib.rt:63:17
 shared-slice-read-t17 : tie.Need-shared-slice-read-t17
 shared-slice-read-t17 c = search needs
 
--- src/lib.rt:55:1
 returns : tie.Need-returns
 returns c = search needs
 

@@ -1,3 +1,5 @@
+-- `required_at` meets its contract. The invariant: what the references from j on require, beside what is required so far, is what all
+-- require; from the first reference of y's own loop on none requires anything.
 use Prim.Native.Nat.{ℕ, _≤_, _<_, _-_}
 use native.Mathlib.Omega.{arith}
 use lib.ListN.{length, getD}
@@ -7,10 +9,6 @@ use Rattle.chains.specs.Columns.{columns}
 use Rattle.chains.proofs.Laws.{Left, left-start, left-next, left-end, apart, pair-bounds}
 use Rattle.chains.proofs.required_at.Statement.{statement}
 use Rattle.chains.proofs.required_at.Tie as tie
-use Rattle.chains.proofs.required_at.Reads as reads
-use Rattle.chains.proofs.required_at.Lts as lts
-use Rattle.chains.proofs.reference.Reads as reference-reads
-use Rattle.chains.proofs.take_up.Reads as take-up-reads
 
 abbrev Inv-loop : tie.InvT-loop
 Inv-loop loops arrays offsets stores i shifts peels y number a₀ j₀ a j =
@@ -20,45 +18,36 @@ Inv-loop loops arrays offsets stores i shifts peels y number a₀ j₀ a j =
 abbrev μ-loop : tie.MeasureT-loop
 μ-loop loops arrays offsets stores i shifts peels y number a₀ j₀ a j = i - j
 
--- src/lib.rt:110:9
 reference-requires : tie.Need-reference-requires Inv-loop μ-loop
 reference-requires c κs = c .before .before .before .before .pre
 
--- src/lib.rt:111:18
 shared-slice-read-number : tie.Need-shared-slice-read-number Inv-loop μ-loop
 shared-slice-read-number c = c .before .before .before .before .before .before .pre .1
 
--- src/lib.rt:114:5
 loop-holds : tie.Need-loop-holds Inv-loop μ-loop
 loop-holds c = (omega arith, left-start _ _, left-start _ _)
 
--- src/lib.rt:114:11
 shared-slice-read-if1 : tie.Need-shared-slice-read-if1 Inv-loop μ-loop
 shared-slice-read-if1 c = omega (arith, c .before .before .before .before .before .before .before .before .pre .1, c .before .loop .inv .0)
 
--- src/lib.rt:115:13
 reference-requires-2 : tie.Need-reference-requires-2 Inv-loop μ-loop
 reference-requires-2 c κs = let s = c .before .before .before .before .before .before .before .before .before in (s .pre .0, omega (arith, s .pre .1, c .before .before .loop .inv .0))
 
--- src/lib.rt:116:9
 take-up-requires : tie.Need-take-up-requires Inv-loop μ-loop
 take-up-requires c κs =
     let s = c .before .before .before .before .before .before .before .before .before .before in
     let known : (k : ℕ) → getD (s .args .offsets .now) k 0 < 65536 = λ k. c .before .before .before .before .before .before .before .shared-slice-known3 .given k .fits in
     pair-bounds _ (s .pre .0) known _ _ _ _ (c .reference2 .ensures) (c .before .before .before .before .before .reference .ensures)
 
--- src/lib.rt:117:9
 add-j : tie.Need-add-j Inv-loop μ-loop
 add-j c = let s = c .before .before .before .before .before .before .before .before .before .before .before in omega (arith, s .pre .1, s .good .0, c .before .before .before .before .loop .inv .0)
 
--- src/lib.rt:114:5
 loop-less : tie.Need-loop-less Inv-loop μ-loop
 loop-less c =
     let s = c .before .before .before .before .before .before .before .before .before .before .before in
     let l = c .before .before .before .before .loop in
     omega (arith, apart (s .args .loops .now) (l .j) (s .args .i) (l .inv .0) (c .before .before .if1 .taken))
 
--- src/lib.rt:114:5
 loop-again : tie.Need-loop-again Inv-loop μ-loop
 loop-again c =
     let s = c .before .before .before .before .before .before .before .before .before .before .before in
@@ -68,7 +57,6 @@ loop-again c =
     let x = c .before .reference2 .ensures in
     (omega (arith, next), left-next _ _ _ _ _ _ inside x (c .take-up .ensures .0) (l .inv .1), left-next _ _ _ _ _ _ inside x (c .take-up .ensures .1) (l .inv .2))
 
--- src/lib.rt:97:1
 returns : tie.Need-returns Inv-loop μ-loop
 returns c =
     let formed = c .before .before .before .before .before .before .before .before .before .pre .0 in

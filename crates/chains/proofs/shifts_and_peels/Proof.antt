@@ -1,3 +1,4 @@
+-- `shifts_and_peels` meets its contract. The invariant: the walk over the references from i on gives the numbers.
 use Prim.Native.Nat.{ℕ, _≤_, _<_, _-_}
 use native.Mathlib.Omega.{arith}
 use lib.ListN.{length, getD}
@@ -6,10 +7,6 @@ use Rattle.chains.specs.Columns.{columns}
 use Rattle.chains.proofs.Laws.{Walked, walked-start, walked-required, walked-next, walked-end, offsets-small}
 use Rattle.chains.proofs.shifts_and_peels.Statement.{statement}
 use Rattle.chains.proofs.shifts_and_peels.Tie as tie
-use Rattle.chains.proofs.shifts_and_peels.Reads as reads
-use Rattle.chains.proofs.shifts_and_peels.Lts as lts
-use Rattle.chains.proofs.required_at.Reads as required-at-reads
-use Rattle.chains.proofs.updated.Reads as updated-reads
 
 abbrev Inv-loop : tie.InvT-loop
 Inv-loop loops arrays offsets stores ss₀ ps₀ i₀ ss ps i =
@@ -26,73 +23,56 @@ number-below c = c .before .before .before .before .before .before .before .befo
 offsets-below : (c : tie.After-shared-slice-known5 Inv-loop μ-loop) (k : ℕ) → getD (c .before .before .before .before .before .before .before .before .before .before .args .offsets .now) k 0 < 65536
 offsets-below c k = c .before .before .before .before .before .before .before .shared-slice-known3 .given k .fits
 
--- src/lib.rt:139:5
 loop-holds : tie.Need-loop-holds Inv-loop μ-loop
 loop-holds c = (omega arith, walked-start _ backward, walked-start _ forward)
 
--- src/lib.rt:140:13
 required-at-requires : tie.Need-required-at-requires Inv-loop μ-loop
 required-at-requires c κs = (c .before .before .before .before .before .before .before .before .pre, c .before .before .loop-test .taken)
 
--- src/lib.rt:141:17
 shared-slice-read-k : tie.Need-shared-slice-read-k Inv-loop μ-loop
 shared-slice-read-k c = c .before .before .before .before .loop-test .taken
 
--- src/lib.rt:141:17
 cast-k : tie.Need-cast-k Inv-loop μ-loop
 cast-k c = omega (arith, number-below c)
 
--- src/lib.rt:142:25
 mul-updated : tie.Need-mul-updated Inv-loop μ-loop
 mul-updated c = omega (arith, number-below c)
 
--- src/lib.rt:142:25
 array-read-updated : tie.Need-array-read-updated Inv-loop μ-loop
 array-read-updated c = omega (arith, number-below c)
 
--- src/lib.rt:142:17
 updated-requires : tie.Need-updated-requires Inv-loop μ-loop
 updated-requires c κs =
     walked-required _ backward (c .before .before .before .before .before .before .before .before .before .before .pre) (offsets-small _ (offsets-below c) .0) _ (c .before .before .before .before .loop-test .taken) _ (c .before .before .before .before .before .loop .inv .1) _ (c .before .required-at .ensures .0)
 
--- src/lib.rt:142:9
 mul-ss : tie.Need-mul-ss Inv-loop μ-loop
 mul-ss c = omega (arith, number-below (c .before))
 
--- src/lib.rt:142:9
 array-write-ss : tie.Need-array-write-ss Inv-loop μ-loop
 array-write-ss c = omega (arith, number-below (c .before))
 
--- src/lib.rt:143:25
 mul-updated-2 : tie.Need-mul-updated-2 Inv-loop μ-loop
 mul-updated-2 c = omega (arith, number-below (c .before))
 
--- src/lib.rt:143:25
 array-read-updated-2 : tie.Need-array-read-updated-2 Inv-loop μ-loop
 array-read-updated-2 c = omega (arith, number-below (c .before))
 
--- src/lib.rt:143:17
 updated-requires-2 : tie.Need-updated-requires-2 Inv-loop μ-loop
 updated-requires-2 c κs =
     walked-required _ forward (c .before .before .before .before .before .before .before .before .before .before .before .pre) (offsets-small _ (offsets-below (c .before)) .1) _ (c .before .before .before .before .before .loop-test .taken) _ (c .before .before .before .before .before .before .loop .inv .2) _ (c .before .before .required-at .ensures .1)
 
--- src/lib.rt:143:9
 mul-ps : tie.Need-mul-ps Inv-loop μ-loop
 mul-ps c = omega (arith, number-below (c .before .before))
 
--- src/lib.rt:143:9
 array-write-ps : tie.Need-array-write-ps Inv-loop μ-loop
 array-write-ps c = omega (arith, number-below (c .before .before))
 
--- src/lib.rt:144:9
 add-i : tie.Need-add-i Inv-loop μ-loop
 add-i c = omega (arith, c .before .before .before .before .before .before .loop-test .taken, c .before .before .before .before .before .before .before .before .before .before .before .before .good .0)
 
--- src/lib.rt:139:5
 loop-less : tie.Need-loop-less Inv-loop μ-loop
 loop-less c = omega (arith, c .before .before .before .before .before .before .loop-test .taken)
 
--- src/lib.rt:139:5
 loop-again : tie.Need-loop-again Inv-loop μ-loop
 loop-again c =
     let s = c .before .before .before .before .before .before .before .before .before .before .before .before in
@@ -105,7 +85,6 @@ loop-again c =
       walked-next _ forward (s .pre) (offsets-small _ offsets .1) _ t _ (l .inv .2) _ _ (r .1) (c .updated2 .ensures),
     )
 
--- src/lib.rt:132:1
 returns : tie.Need-returns Inv-loop μ-loop
 returns c =
     let l = c .before .loop in

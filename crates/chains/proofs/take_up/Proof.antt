@@ -1,45 +1,34 @@
+-- `take_up` meets its contract: a pair that is a dependence is taken up, any other passed over.
 use mathlib.Core.Path.{sym, _∙_}
 use borrow.Author.Needs.{needs}
 use Rattle.chains.specs.Dependence.{backward, forward}
 use Rattle.chains.proofs.Laws.{taken-up, passed-over}
 use Rattle.chains.proofs.take_up.Statement.{statement}
 use Rattle.chains.proofs.take_up.Tie as tie
-use Rattle.chains.proofs.take_up.Reads as reads
-use Rattle.chains.proofs.take_up.Lts as lts
-use Rattle.chains.proofs.depends.Reads as depends-reads
-use Rattle.chains.proofs.raise.Reads as raise-reads
 
--- src/lib.rt:89:8
 depends-requires : tie.Need-depends-requires
 depends-requires c κs = search needs
 
--- src/lib.rt:91:30
 mul-raise : tie.Need-mul-raise
 mul-raise c = search needs
 
--- src/lib.rt:91:30
 element-copy-out-raise : tie.Need-element-copy-out-raise
 element-copy-out-raise c = search needs
 
--- src/lib.rt:91:41
 mul-raise-2 : tie.Need-mul-raise-2
 mul-raise-2 c = search needs
 
--- src/lib.rt:91:41
 element-copy-out-raise-2 : tie.Need-element-copy-out-raise-2
 element-copy-out-raise-2 c = search needs
 
--- src/lib.rt:91:9
 raise-requires : tie.Need-raise-requires
 raise-requires c κs = search needs
 
--- src/lib.rt:91:9
 returns : tie.Need-returns
 returns c =
     let d = sym (c .before .before .before .before .depends .ensures) ∙ c .before .before .before .if1 .taken in
     (taken-up backward _ _ _ _ _ d (c .raise .ensures .0), taken-up forward _ _ _ _ _ d (c .raise .ensures .1))
 
--- src/lib.rt:79:1
 returns-2 : tie.Need-returns-2
 returns-2 c =
     let d = sym (c .before .depends .ensures) ∙ c .if1 .left in

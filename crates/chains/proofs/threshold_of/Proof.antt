@@ -1,3 +1,4 @@
+-- `threshold_of` meets its contract. The invariant: t is the largest sum of the loops below k.
 use Prim.Native.Nat.{_≤_, _-_}
 use mathlib.Core.Path.{_≡_, refl}
 use native.Mathlib.Omega.{arith}
@@ -10,9 +11,6 @@ use Rattle.chains.specs.Threshold.{threshold, sumAt}
 use Rattle.chains.proofs.Laws.{maximumBelow-next}
 use Rattle.chains.proofs.threshold_of.Statement.{statement}
 use Rattle.chains.proofs.threshold_of.Tie as tie
-use Rattle.chains.proofs.threshold_of.Reads as reads
-use Rattle.chains.proofs.threshold_of.Lts as lts
-use Rattle.chains.proofs.larger.Reads as larger-reads
 
 abbrev Inv-loop : tie.InvT-loop
 Inv-loop a t₀ k₀ t k = (k ≤ 16) × (t ≡ maximumBelow k (sumAt (a .shifts) (a .peels)))
@@ -20,36 +18,28 @@ Inv-loop a t₀ k₀ t k = (k ≤ 16) × (t ≡ maximumBelow k (sumAt (a .shifts
 abbrev μ-loop : tie.MeasureT-loop
 μ-loop a t₀ k₀ t k = 16 - k
 
--- src/lib.rt:150:5
 loop-holds : tie.Need-loop-holds Inv-loop μ-loop
 unfolding maximumBelow
 loop-holds c = (omega arith, refl)
 
--- src/lib.rt:151:23
 mul-larger : tie.Need-mul-larger Inv-loop μ-loop
 mul-larger c = search needs
 
--- src/lib.rt:151:23
 element-copy-out-larger : tie.Need-element-copy-out-larger Inv-loop μ-loop
 element-copy-out-larger c = search needs
 
--- src/lib.rt:151:23
 cast-larger : tie.Need-cast-larger Inv-loop μ-loop
 cast-larger c = search needs
 
--- src/lib.rt:151:46
 mul-larger-2 : tie.Need-mul-larger-2 Inv-loop μ-loop
 mul-larger-2 c = search needs
 
--- src/lib.rt:151:46
 element-copy-out-larger-2 : tie.Need-element-copy-out-larger-2 Inv-loop μ-loop
 element-copy-out-larger-2 c = search needs
 
--- src/lib.rt:151:46
 cast-larger-2 : tie.Need-cast-larger-2 Inv-loop μ-loop
 cast-larger-2 c = search needs
 
--- src/lib.rt:151:23
 add-larger : tie.Need-add-larger Inv-loop μ-loop
 add-larger c =
     let a = c .before .before .before .before .args .t1 in
@@ -58,23 +48,18 @@ add-larger c =
     let p : Fits w32 (getD (a .peels) k 0) = search needs in
     omega arith
 
--- src/lib.rt:151:9
 larger-requires : tie.Need-larger-requires Inv-loop μ-loop
 larger-requires c κs = tt
 
--- src/lib.rt:152:9
 add-k : tie.Need-add-k Inv-loop μ-loop
 add-k c = search needs
 
--- src/lib.rt:150:5
 loop-less : tie.Need-loop-less Inv-loop μ-loop
 loop-less c = search needs
 
--- src/lib.rt:150:5
 loop-again : tie.Need-loop-again Inv-loop μ-loop
 loop-again c = (omega arith, maximumBelow-next _ _ _ _ (c .before .before .before .before .loop .inv .1) (c .larger .ensures))
 
--- src/lib.rt:145:1
 returns : tie.Need-returns Inv-loop μ-loop
 unfolding threshold
 returns c =
