@@ -1,5 +1,5 @@
 -- The walk as the code makes it: what is left to do, from what there is, gives the whole.
-use Prim.Native.Nat.{ℕ, zero, suc, _+_, _-_, _*_, max, _≤_, _<_}
+use Prim.Native.Nat.{ℕ, suc, _+_, _-_, max, _≤_, _<_}
 use mathlib.Core.Path.{_≡_, refl, sym, ap, _∙_}
 use mathlib.Core.Bool.{true, false}
 use mathlib.Core.List.{List, [], _∷_}
@@ -11,7 +11,7 @@ use native.Mathlib.Omega.{arith}
 use lib.ListN.{length, getD, set, replicate, length-set}
 use Rattle.model.specs.declared.Reference.{Reference}
 use Rattle.chains.specs.Dependence.{dependence, backward, forward}
-use Rattle.chains.specs.Maximum.{maximum, maximumBelow}
+use Rattle.chains.specs.Maximum.{maximum}
 use Rattle.chains.specs.Walk.{required, required-met, required-none, required-late, raised, raised-same, walk, numbers, zeros}
 use Rattle.chains.specs.Bounds.{Small, AtMost, raised-small}
 use Rattle.chains.specs.Columns.{Columns, refAt, refsFrom, refs, requiredAt, WellFormed, refsFrom-late, refs-mem, refs-place}
@@ -98,7 +98,7 @@ module _ (c : Columns) where
     raised-fits : Small 65535 (raised amount (refs c) s (refAt c i))
     raised-fits = raised-small amount (refs c) 65535 most s (refAt c i) inside (refs-mem c i h) (w .small)
 
-    -- what is required of the loop of reference i
+    -- what is required of the loop of reference i fits 32 bits
     pub walked-required : (a : ℕ) → a ≡ requiredAt amount c s i → a < 4294967296
     walked-required a q =
         let u = raised-fits (getD (c .loops) i 0) in
@@ -121,8 +121,3 @@ module _ (c : Columns) where
   walked-end amount i s h w =
       let e : length (c .loops) - i ≡ 0 = omega arith in
       rw e at (w .value)
-
--- the largest sum of the loops below k, and the next loop's
-pub maximumBelow-next : (f : ℕ → ℕ) (k t u : ℕ) → t ≡ maximumBelow k f → u ≡ max t (f k) → u ≡ maximumBelow (k + 1) f
-unfolding maximumBelow
-maximumBelow-next f k t u e q = rw (q, e, add-one) refl

@@ -1,16 +1,15 @@
 -- How large shifts, peels and the threshold can be: a chain that ends at loop k has at most k dependences.
 use Prim.Native.Nat.{ℕ, _+_, _-_, _*_, _≤_, _<_}
-use mathlib.Core.Path.{_≡_, refl}
-use mathlib.Core.List.{List, [], _∷_}
+use mathlib.Core.List.{List}
 use mathlib.Core.List.{List·Memᴰ as Mem}
 use native.Mathlib.Nat.{mul-le-mul-left, le-trans}
 use native.Mathlib.Decide.{decLe}
 use native.Mathlib.Omega.{arith}
-use lib.ListN.{length, getD, replicate, List·getD-eq-default}
+use lib.ListN.{length, getD, List·getD-eq-default}
 use Rattle.model.specs.declared.Reference.{Reference}
 use Rattle.chains.specs.Dependence.{Dependence, backward, forward, earlier}
 use Rattle.chains.specs.Walk.{raised, raised-of, numbers, numbers-of, numbers-length, shifts, peels, Below}
-use Rattle.chains.specs.Threshold.{threshold, threshold-bound, sumAt}
+use Rattle.chains.specs.Threshold.{threshold, threshold-bound}
 
 -- the number of loop k is at most m times k
 abbrev pub Small : ℕ → List ℕ → Type 0

@@ -2,7 +2,7 @@
 use Prim.Native.Nat.{ℕ, _+_, _≤_}
 use mathlib.Core.Path.{_≡_, refl}
 use mathlib.Core.Logic.{_⊎_, inl, inr, ⊎-elim}
-use mathlib.Core.Bool.{Bool, true, false, Bool-discrete}
+use mathlib.Core.Bool.{true, Bool-discrete}
 use mathlib.Core.List.{List, [], _∷_}
 use mathlib.Core.List.{List·Memᴰ as Mem, List·Memᴰ·head as mhere, List·Memᴰ·tail as mthere, List·Memᴰ·not-nil as not-nil}
 use native.Mathlib.Nat.{le-antisymm}
@@ -48,29 +48,27 @@ last-dependence (one {x} {y} d) = (x, y, d, refl)
 last-dependence (more {x} {y} c d) = (x, y, d, refl)
 
 module _ (rs : List Reference) (k : ℕ) where
-  -- a dependence ends at loop k with the reference y
-  Ends : Reference → Type 0
+  -- a dependence ends at loop k with the reference y, and none does
+  abbrev Ends : Reference → Type 0
   Ends y = (y .number ≡ k) × ((x : Reference) × Mem x rs × (dependence x y ≡ true))
 
-  Free : Reference → Type 0
+  abbrev Free : Reference → Type 0
   Free y = y .number ≡ k → (x : Reference) → Mem x rs → dependence x y ≡ true → ⊥
 
   ends-or-free : (y : Reference) → Ends y ⊎ Free y
-  unfolding Ends Free
   ends-or-free y = go (ℕ-discrete (y .number) k) (some-or-all joins rs)
     where
       joins : (x : Reference) → (dependence x y ≡ true) ⊎ (dependence x y ≡ true → ⊥)
       joins x = elim (Bool-discrete (dependence x y) true) [ yes e ↦ inl e | no e ↦ inr e ]
 
       go : Dec (y .number ≡ k) → ((x : Reference) × Mem x rs × (dependence x y ≡ true)) ⊎ ((x : Reference) → Mem x rs → dependence x y ≡ true → ⊥)
-          → ((y .number ≡ k) × ((x : Reference) × Mem x rs × (dependence x y ≡ true))) ⊎ (y .number ≡ k → (x : Reference) → Mem x rs → dependence x y ≡ true → ⊥)
+          → Ends y ⊎ Free y
       go (yes e) (inl d) = inl (e, d)
       go (yes e) (inr f) = inr (λ e. f)
       go (no n) d = inr (λ e. absurd (n e))
 
   -- some chain ends at loop k, or none does
   pub chain-or-none : Chain rs k ⊎ (Chain rs k → ⊥)
-  unfolding Ends Free
   chain-or-none = ⊎-elim some none (some-or-all ends-or-free rs)
     where
       some : (y : Reference) × Mem y rs × Ends y → Chain rs k ⊎ (Chain rs k → ⊥)

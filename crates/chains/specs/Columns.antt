@@ -8,7 +8,7 @@ use native.Mathlib.Decide.{ℕ-discrete}
 use native.Mathlib.Omega.{arith}
 use lib.Dec.{eqb}
 use lib.ListN.{getD, length}
-use Rattle.order.specs.Lists.{Before, bhere, bthere}
+use Rattle.order.specs.Lists.{bhere, bthere}
 use Rattle.model.specs.declared.Reference.{Reference}
 use Rattle.chains.specs.Maximum.{maximum}
 use Rattle.chains.specs.Walk.{required, Ordered, Below}

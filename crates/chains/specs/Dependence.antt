@@ -11,8 +11,8 @@ use lib.Dec.{ltb, eqb}
 use Rattle.model.specs.declared.Reference.{Reference}
 use Rattle.model.specs.References.{touch, Touch}
 
--- two references to one array, at least one of them a destination, the first in an earlier loop. The loops' bounds play no part in it.
--- All else goes through this name
+-- two references to one array, at least one of them a destination, the first in an earlier loop; the loops' bounds play no part in it.
+-- What counts as a dependence is said here alone: all else cites this name
 unfoldable pub dependence : Reference → Reference → Bool
 unfolding touch
 dependence x y = ltb (x .number) (y .number) && touch x y
@@ -38,7 +38,7 @@ either-true : (a b : Bool) → (a || b) ≡ true → (a ≡ true) ⊎ (b ≡ tru
 either-true true b e = inl refl
 either-true false b e = inr e
 
--- the same as a proposition
+-- `dependence` as a proposition
 pub dependence-touch : (x y : Reference) → (dependence x y ≡ true) ↔ ((x .number < y .number) × Touch x y)
 unfolding dependence
 dependence-touch x y = (given, made)
@@ -52,7 +52,7 @@ dependence-touch x y = (given, made)
     made : (x .number < y .number) × Touch x y → (ltb (x .number) (y .number) && (eqb (x .array) (y .array) && (x .stores || y .stores))) ≡ true
     made (l, (a, s)) = rw (lt-ltb _ _ l, eq-eqb _ _ a) (⊎-elim (λ e. rw e) (λ e. rw e (or-true (x .stores))) s)
 
--- the one law that chains need
+-- the one law of it that chains and the walk need
 pub earlier : (x y : Reference) → dependence x y ≡ true → x .number < y .number
 earlier x y e = dependence-touch x y .0 e .0
 

@@ -81,7 +81,7 @@ module _ (amount : Reference → Reference → ℕ) (rs : List Reference) where
         along : (x y : Reference) → Dependence rs x y → (n : ℕ) → Reached (x .number) n → Reached (y .number) (n + amount x y)
         along x y d n r = ⊎-elim (λ e. inr (one d, omega arith)) (λ t. inr (more (t .0) d, omega arith)) r
 
-    -- THE THEOREM: a loop's number is the largest total over all chains that end at it, and 0 where none ends
+    -- the theorem: a loop's number is the largest total over all chains that end at it, and 0 where none ends
     pub numbers-largest : (k : ℕ) → Largest amount rs k (getD (numbers amount rs) k 0)
     numbers-largest k = largest-of rs k amount _ (chain-below amount rs (numbers amount rs) numbers-legal) (numbers-reached k)
 

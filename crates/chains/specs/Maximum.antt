@@ -1,11 +1,11 @@
 -- The largest of several numbers.
-use Prim.Native.Nat.{ℕ, zero, suc, max, _≤_, _<_}
+use Prim.Native.Nat.{ℕ, zero, suc, _+_, max, _≤_, _<_}
 use mathlib.Core.Path.{_≡_, refl}
-use mathlib.Core.Logic.{_⊎_, inl, inr, ⊎-elim}
 use mathlib.Core.List.{List, [], _∷_}
 use mathlib.Core.List.{List·Memᴰ as Mem, List·Memᴰ·head as mhere, List·Memᴰ·tail as mthere}
 use native.Mathlib.Nat.{le-max-left, le-max-right, le-trans, max-eq-left, max-eq-right}
 use native.Mathlib.Decide.{ℕ-discrete, decLe}
+use native.Mathlib.Numerals.{add-one}
 use native.Mathlib.Omega.{arith}
 
 -- of f over a list, 0 over none
@@ -51,3 +51,8 @@ maximumBelow-upper f (suc n) k l = go (ℕ-discrete k n) (maximumBelow-upper f n
     go : Dec (k ≡ n) → (k < n → f k ≤ maximumBelow n f) → f k ≤ max (maximumBelow n f) (f n)
     go (yes e) h = rw e (le-max-right _ _)
     go (no e) h = le-trans (h (omega arith)) (le-max-left _ _)
+
+-- the next one
+pub maximumBelow-next : (f : ℕ → ℕ) (k t u : ℕ) → t ≡ maximumBelow k f → u ≡ max t (f k) → u ≡ maximumBelow (k + 1) f
+unfolding maximumBelow
+maximumBelow-next f k t u e q = rw (q, e, add-one) refl

@@ -6,7 +6,7 @@ use mathlib.Core.List.{List, [], _∷_, List·Memᴰ·append-cases}
 use mathlib.Core.List.{List·Memᴰ as Mem, List·Memᴰ·cases-cons as cases-cons, List·Memᴰ·not-nil as not-nil}
 use native.Mathlib.Omega.{arith}
 use lib.ListN.{getD}
-use Rattle.order.specs.Lists.{Before, before-left, before-right, before-joined, mem-joined, joined-mem}
+use Rattle.order.specs.Lists.{before-left, before-right, before-joined, mem-joined, joined-mem}
 use Rattle.model.specs.declared.Reference.{Reference}
 use Rattle.model.specs.declared.Iteration.{Iteration}
 use Rattle.model.specs.Table.{Item, read, constant, operation, Statement, Table, count, loop, Inside}

@@ -6,9 +6,8 @@ use borrow.Author.Needs.{needs}
 use lib.ListN.{getD}
 use mir.Syntax.{w32}
 use mir.Val.{Fits}
-use Rattle.chains.specs.Maximum.{maximumBelow}
+use Rattle.chains.specs.Maximum.{maximumBelow, maximumBelow-next}
 use Rattle.chains.specs.Threshold.{threshold, sumAt}
-use Rattle.chains.proofs.Laws.{maximumBelow-next}
 use Rattle.chains.proofs.threshold_of.Statement.{statement}
 use Rattle.chains.proofs.threshold_of.Tie as tie
 
