@@ -1,0 +1,48 @@
+-- `take_up` meets its contract: a pair that is a dependence is taken up, any other passed over.
+use mathlib.Core.Path.{sym, _∙_}
+use borrow.Author.Needs.{needs}
+use Rattle.chains.specs.Dependence.{backward, forward}
+use Rattle.chains.proofs.Laws.{taken-up, passed-over}
+use Rattle.chains.proofs.take_up.Statement.{statement}
+use Rattle.chains.proofs.take_up.Tie as tie
+
+depends-requires : tie.Need-depends-requires
+depends-requires c κs = search needs
+
+mul-raise : tie.Need-mul-raise
+mul-raise c = search needs
+
+element-copy-out-raise : tie.Need-element-copy-out-raise
+element-copy-out-raise c = search needs
+
+mul-raise-2 : tie.Need-mul-raise-2
+mul-raise-2 c = search needs
+
+element-copy-out-raise-2 : tie.Need-element-copy-out-raise-2
+element-copy-out-raise-2 c = search needs
+
+raise-requires : tie.Need-raise-requires
+raise-requires c κs = search needs
+
+returns : tie.Need-returns
+returns c =
+    let d = sym (c .before .before .before .before .depends .ensures) ∙ c .before .before .before .if1 .taken in
+    (taken-up backward _ _ _ _ _ d (c .raise .ensures .0), taken-up forward _ _ _ _ _ d (c .raise .ensures .1))
+
+returns-2 : tie.Need-returns-2
+returns-2 c =
+    let d = sym (c .before .depends .ensures) ∙ c .if1 .left in
+    (passed-over backward _ _ _ _ d, passed-over forward _ _ _ _ d)
+
+pub take-up-spec : {M : Type 1} → statement M
+take-up-spec =
+    tie.close
+    (tie.spec
+    depends-requires
+    mul-raise
+    element-copy-out-raise
+    mul-raise-2
+    element-copy-out-raise-2
+    raise-requires
+    returns
+    returns-2)

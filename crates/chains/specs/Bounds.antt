@@ -1,0 +1,54 @@
+-- How large shifts, peels and the threshold can be: a chain that ends at loop k has at most k dependences.
+use Prim.Native.Nat.{ℕ, _+_, _-_, _*_, _≤_, _<_}
+use mathlib.Core.List.{List}
+use mathlib.Core.List.{List·Memᴰ as Mem}
+use native.Mathlib.Nat.{mul-le-mul-left, le-trans}
+use native.Mathlib.Decide.{decLe}
+use native.Mathlib.Omega.{arith}
+use lib.ListN.{length, getD, List·getD-eq-default}
+use Rattle.model.specs.declared.Reference.{Reference}
+use Rattle.chains.specs.Dependence.{Dependence, backward, forward, earlier}
+use Rattle.chains.specs.Walk.{raised, raised-of, numbers, numbers-of, numbers-length, shifts, peels, Below}
+use Rattle.chains.specs.Threshold.{threshold, threshold-bound}
+
+-- the number of loop k is at most m times k
+abbrev pub Small : ℕ → List ℕ → Type 0
+Small m s = (k : ℕ) → getD s k 0 ≤ m * k
+
+-- no amount is above m
+abbrev pub AtMost : ℕ → (Reference → Reference → ℕ) → List Reference → Type 0
+AtMost m amount rs = (x y : Reference) → Mem x rs → Mem y rs → amount x y ≤ m
+
+-- an offset, −255 to 255, is kept as 0 to 510
+abbrev pub InRange : List Reference → Type 0
+InRange rs = (x : Reference) → Mem x rs → x .offset ≤ 510
+
+module _ (amount : Reference → Reference → ℕ) (rs : List Reference) (m : ℕ) (most : AtMost m amount rs) where
+  along : (x y : Reference) → Dependence rs x y → (n : ℕ) → n ≤ m * (x .number) → n + amount x y ≤ m * (y .number)
+  along x y d n h = omega (arith, most x y (d .from) (d .to), mul-le-mul-left m (earlier x y (d .joined)))
+
+  pub raised-small : (s : List ℕ) (y : Reference) → y .number < length s → Mem y rs → Small m s → Small m (raised amount rs s y)
+  raised-small = raised-of amount rs (λ k n. n ≤ m * k) (λ k. omega arith) along
+
+  module _ (below : Below 16 rs) where
+    pub numbers-small : Small m (numbers amount rs)
+    numbers-small = numbers-of amount rs (λ k n. n ≤ m * k) (λ k. omega arith) along below
+
+    -- the last of sixteen loops has fifteen before it
+    pub numbers-bound : (k : ℕ) → getD (numbers amount rs) k 0 ≤ m * 15
+    numbers-bound k = go (decLe k 15)
+      where
+        go : Dec (k ≤ 15) → getD (numbers amount rs) k 0 ≤ m * 15
+        go (yes l) = le-trans (numbers-small k) (mul-le-mul-left m l)
+        go (no l) = rw (List·getD-eq-default (numbers amount rs) 0 {n = k} (omega (arith, numbers-length amount rs))) (omega arith)
+
+-- with offsets −255 to 255 no amount is above 510, so no shift or peel above 7,650, and no threshold above 15,300
+module _ (rs : List Reference) (below : Below 16 rs) (range : InRange rs) where
+  pub shifts-bound : (k : ℕ) → getD (shifts rs) k 0 ≤ 7650
+  shifts-bound = numbers-bound backward rs 510 (λ x y from to. omega (arith, range y to)) below
+
+  pub peels-bound : (k : ℕ) → getD (peels rs) k 0 ≤ 7650
+  peels-bound = numbers-bound forward rs 510 (λ x y from to. omega (arith, range x from)) below
+
+  pub plan-threshold-bound : threshold (shifts rs) (peels rs) ≤ 15300
+  plan-threshold-bound = threshold-bound (shifts rs) (peels rs) 15300 (λ k l. omega (arith, shifts-bound k, peels-bound k))

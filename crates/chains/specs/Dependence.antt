@@ -1,0 +1,61 @@
+-- Dependences between loops: which two references make one, and its amounts.
+use Prim.Native.Nat.{ℕ, _+_, _-_, _<_}
+use mathlib.Core.Path.{_≡_, refl}
+use mathlib.Core.Logic.{_↔_, _⊎_, inl, inr, ⊎-elim}
+use mathlib.Core.Bool.{Bool, true, false, _&&_, _||_, false≢true, or-true}
+use mathlib.Core.List.{List}
+use mathlib.Core.List.{List·Memᴰ as Mem}
+use native.Mathlib.Omega.{arith}
+use borrow.Author.Tests.{ltb-true, lt-ltb, eqb-true, eq-eqb}
+use lib.Dec.{ltb, eqb}
+use Rattle.model.specs.declared.Reference.{Reference}
+use Rattle.model.specs.References.{touch, Touch}
+
+-- two references to one array, at least one of them a destination, the first in an earlier loop; the loops' bounds play no part in it.
+-- What counts as a dependence is said here alone: all else cites this name
+unfoldable pub dependence : Reference → Reference → Bool
+unfolding touch
+dependence x y = ltb (x .number) (y .number) && touch x y
+
+-- the distance is d = (x's offset) − (y's offset): backward −d where d < 0, else 0; forward d where d > 0, else 0
+abbrev pub backward : Reference → Reference → ℕ
+backward x y = y .offset - x .offset
+
+abbrev pub forward : Reference → Reference → ℕ
+forward x y = x .offset - y .offset
+
+-- x and y, both of the table whose references are rs, make a dependence
+pub record Dependence (rs : List Reference) (x y : Reference) : Type 0 where
+  pub from : Mem x rs
+  pub to : Mem y rs
+  pub joined : dependence x y ≡ true
+
+both-true : (a b : Bool) → (a && b) ≡ true → (a ≡ true) × (b ≡ true)
+both-true true b e = (refl, e)
+both-true false b e = absurd (false≢true e)
+
+either-true : (a b : Bool) → (a || b) ≡ true → (a ≡ true) ⊎ (b ≡ true)
+either-true true b e = inl refl
+either-true false b e = inr e
+
+-- `dependence` as a proposition
+pub dependence-touch : (x y : Reference) → (dependence x y ≡ true) ↔ ((x .number < y .number) × Touch x y)
+unfolding dependence
+dependence-touch x y = (given, made)
+  where
+    given : (ltb (x .number) (y .number) && (eqb (x .array) (y .array) && (x .stores || y .stores))) ≡ true → (x .number < y .number) × Touch x y
+    given e =
+        let (l, t) = both-true (ltb (x .number) (y .number)) (eqb (x .array) (y .array) && (x .stores || y .stores)) e in
+        let (a, s) = both-true (eqb (x .array) (y .array)) (x .stores || y .stores) t in
+        (ltb-true _ _ l, (eqb-true _ _ a, either-true (x .stores) (y .stores) s))
+
+    made : (x .number < y .number) × Touch x y → (ltb (x .number) (y .number) && (eqb (x .array) (y .array) && (x .stores || y .stores))) ≡ true
+    made (l, (a, s)) = rw (lt-ltb _ _ l, eq-eqb _ _ a) (⊎-elim (λ e. rw e) (λ e. rw e (or-true (x .stores))) s)
+
+-- the one law of it that chains and the walk need
+pub earlier : (x y : Reference) → dependence x y ≡ true → x .number < y .number
+earlier x y e = dependence-touch x y .0 e .0
+
+-- iteration i of x's loop and iteration j of y's are at one element where, and only where, j is i + d
+pub meet-amounts : (x y : Reference) (i j : ℕ) → (i + x .offset ≡ j + y .offset) ↔ (j + backward x y ≡ i + forward x y)
+meet-amounts x y i j = (λ e. omega arith, λ e. omega arith)

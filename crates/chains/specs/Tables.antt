@@ -1,0 +1,79 @@
+-- All of it for a table of at most sixteen loops: over the references of its loops.
+use Prim.Native.Nat.{ℕ, _≤_, _<_}
+use mathlib.Core.Path.{_≡_, sym, ap, subst}
+use mathlib.Core.Logic.{⊎-elim}
+use mathlib.Core.List.{List, [], _∷_, List·Memᴰ·append-cases}
+use mathlib.Core.List.{List·Memᴰ as Mem, List·Memᴰ·cases-cons as cases-cons, List·Memᴰ·not-nil as not-nil}
+use native.Mathlib.Omega.{arith}
+use lib.ListN.{getD}
+use Rattle.order.specs.Lists.{before-left, before-right, before-joined, mem-joined, joined-mem}
+use Rattle.model.specs.declared.Reference.{Reference}
+use Rattle.model.specs.declared.Iteration.{Iteration}
+use Rattle.model.specs.Table.{Item, read, constant, operation, Statement, Table, count, loop, Inside}
+use Rattle.model.specs.References.{destination, reads, references, refs, allRefs, Meet}
+use Rattle.chains.specs.Dependence.{Dependence, backward, forward, dependence-touch}
+use Rattle.chains.specs.Chains.{Largest}
+use Rattle.chains.specs.Legal.{LegalPlan}
+use Rattle.chains.specs.Walk.{shifts, peels, Ordered, Below}
+use Rattle.chains.specs.Largest.{numbers-largest, numbers-legal, numbers-least}
+
+-- the references of loop k have its number
+reads-number : (k : ℕ) (xs : List Item) (r : Reference) → Mem r (reads k xs) → r .number ≡ k
+reads-number k [] r m = absurd (not-nil m)
+reads-number k (read a o ∷ xs) r m = ⊎-elim (λ e. ap (λ (q : Reference). q .number) e) (reads-number k xs r) (cases-cons m)
+reads-number k (constant n ∷ xs) r m = reads-number k xs r m
+reads-number k (operation n ∷ xs) r m = reads-number k xs r m
+
+references-number : (k : ℕ) (b : List Statement) (r : Reference) → Mem r (references k b) → r .number ≡ k
+references-number k [] r m = absurd (not-nil m)
+references-number k (s ∷ b) r m =
+    ⊎-elim (λ i. ⊎-elim (λ e. ap (λ (q : Reference). q .number) e) (reads-number k (s .items) r) (cases-cons i)) (references-number k b r)
+    (List·Memᴰ·append-cases (destination k s ∷ reads k (s .items)) m)
+
+module _ (t : Table) where
+  pub refs-number : (k : ℕ) (r : Reference) → Mem r (refs t k) → r .number ≡ k
+  refs-number k r m = references-number k (loop t k .body) r m
+
+  -- a reference of the table is one of its loop's, and the other way round
+  pub allRefs-refs : (r : Reference) → Mem r (allRefs t) → (r .number < count t) × Mem r (refs t (r .number))
+  allRefs-refs r m =
+      let (k, l, i) = mem-joined (refs t) (count t) m in
+      subst (λ (n : ℕ). (n < count t) × Mem r (refs t n)) (sym (refs-number k r i)) (l, i)
+
+  pub refs-allRefs : (r : Reference) (k : ℕ) → Mem r (refs t k) → k < count t → Mem r (allRefs t)
+  refs-allRefs r k m l = joined-mem (refs t) (count t) k l m
+
+  pub allRefs-ordered : Ordered (allRefs t)
+  allRefs-ordered x y b =
+      ⊎-elim (λ (k, l, h). omega (arith, refs-number k x (before-left h), refs-number k y (before-right h)))
+      (λ (j, k, l, i, m, n). omega (arith, refs-number j x m, refs-number k y n)) (before-joined (refs t) (count t) b)
+
+  -- where iterations of two loops meet, there is a dependence
+  pub meet-dependence : (a b : Iteration) (x y : Reference) → Inside t a → Inside t b → a .number < b .number
+      → Mem x (refs t (a .number)) → Mem y (refs t (b .number)) → Meet (a .index) (b .index) x y → Dependence (allRefs t) x y
+  meet-dependence a b x y i j l m n h = record {
+    from = refs-allRefs x (a .number) m (i .0);
+    to = refs-allRefs y (b .number) n (j .0);
+    joined = dependence-touch x y .1 (omega (arith, refs-number (a .number) x m, refs-number (b .number) y n), h .0);
+  }
+
+  module _ (sixteen : count t ≤ 16) where
+    pub allRefs-below : Below 16 (allRefs t)
+    allRefs-below r m = omega (arith, allRefs-refs r m .0)
+
+    -- A loop's shift and its peel are the largest totals of backward and of forward amounts over all chains of dependences that end at it
+    pub shift-largest : (k : ℕ) → Largest backward (allRefs t) k (getD (shifts (allRefs t)) k 0)
+    shift-largest = numbers-largest backward (allRefs t) allRefs-ordered allRefs-below
+
+    pub peel-largest : (k : ℕ) → Largest forward (allRefs t) k (getD (peels (allRefs t)) k 0)
+    peel-largest = numbers-largest forward (allRefs t) allRefs-ordered allRefs-below
+
+    -- they meet every dependence
+    pub plan-legal : LegalPlan (allRefs t) (shifts (allRefs t)) (peels (allRefs t))
+    plan-legal = (numbers-legal backward (allRefs t) allRefs-ordered allRefs-below, numbers-legal forward (allRefs t) allRefs-ordered allRefs-below)
+
+    -- and no plan that does has a smaller number
+    pub plan-least : (s p : List ℕ) → LegalPlan (allRefs t) s p → (k : ℕ)
+        → (getD (shifts (allRefs t)) k 0 ≤ getD s k 0) × (getD (peels (allRefs t)) k 0 ≤ getD p k 0)
+    plan-least s p l k =
+        (numbers-least backward (allRefs t) allRefs-ordered allRefs-below s (l .0) k, numbers-least forward (allRefs t) allRefs-ordered allRefs-below p (l .1) k)

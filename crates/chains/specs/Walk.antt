@@ -1,0 +1,134 @@
+-- One walk over the references of a table, in byte order, gives each loop a number: its shift, or its peel.
+use Prim.Native.Nat.{ℕ, zero, suc, _+_, max, _≤_, _<_}
+use mathlib.Core.Path.{_≡_, refl, _∙_}
+use mathlib.Core.Logic.{_≢_}
+use mathlib.Core.Bool.{Bool, true, false, cond}
+use mathlib.Core.List.{List, [], _∷_}
+use mathlib.Core.List.{List·Memᴰ as Mem, List·Memᴰ·head as mhere, List·Memᴰ·tail as mthere}
+use native.Mathlib.Decide.{ℕ-discrete}
+use native.Mathlib.Omega.{arith}
+use lib.ListN.{length, getD, set, length-set, replicate}
+use lib.Seq.{getD-set-same, getD-set-other}
+use Rattle.order.specs.Lists.{Before}
+use Rattle.model.specs.declared.Reference.{Reference}
+use Rattle.chains.specs.Dependence.{dependence, backward, forward, Dependence, earlier}
+use Rattle.chains.specs.Maximum.{maximum, max-of, maximum-of}
+
+-- what the dependence from x to y, if it is one, requires of y's loop, where s has the numbers of the earlier loops
+unfoldable pub required : (Reference → Reference → ℕ) → List ℕ → Reference → Reference → ℕ
+unfolding dependence
+required amount s y x = cond (dependence x y) (getD s (x .number) 0 + amount x y) 0
+
+-- y's loop gets the largest number that any dependence ending at y requires, if that is more than it has
+unfoldable pub raised : (Reference → Reference → ℕ) → List Reference → List ℕ → Reference → List ℕ
+unfolding maximum required
+raised amount rs s y = set s (y .number) (max (getD s (y .number) 0) (maximum (required amount s y) rs))
+
+unfoldable pub walk : (Reference → Reference → ℕ) → List Reference → List Reference → List ℕ → List ℕ
+unfolding raised
+walk amount rs [] s = s
+walk amount rs (y ∷ ys) s = walk amount rs ys (raised amount rs s y)
+
+-- a number for each of sixteen loops
+unfoldable pub numbers : (Reference → Reference → ℕ) → List Reference → List ℕ
+unfolding walk
+numbers amount rs = walk amount rs rs (replicate 16 0)
+
+abbrev pub shifts : List Reference → List ℕ
+shifts rs = numbers backward rs
+
+abbrev pub peels : List Reference → List ℕ
+peels rs = numbers forward rs
+
+-- what the walk asks of the references: the loop numbers never fall
+abbrev pub Ordered : List Reference → Type 0
+Ordered rs = (x y : Reference) → Before x y rs → x .number ≤ y .number
+
+-- and stand below n
+abbrev pub Below : ℕ → List Reference → Type 0
+Below n rs = (y : Reference) → Mem y rs → y .number < n
+
+pub zeros : (n k : ℕ) → _≡_ {A = ℕ} (getD (replicate n 0) k 0) 0
+zeros zero k = refl
+zeros (suc n) zero = refl
+zeros (suc n) (suc k) = zeros n k
+
+module _ (amount : Reference → Reference → ℕ) where
+  pub required-met : (s : List ℕ) (y x : Reference) → dependence x y ≡ true → required amount s y x ≡ getD s (x .number) 0 + amount x y
+  unfolding required
+  required-met s y x e = rw e
+
+  pub required-none : (s : List ℕ) (y x : Reference) → dependence x y ≡ false → required amount s y x ≡ 0
+  unfolding required
+  required-none s y x e = rw e
+
+  -- only a reference of an earlier loop requires anything
+  pub required-late : (s : List ℕ) (y x : Reference) → y .number ≤ x .number → required amount s y x ≡ 0
+  unfolding required
+  required-late s y x l = go (dependence x y) refl
+    where
+      go : (b : Bool) → dependence x y ≡ b → cond b (getD s (x .number) 0 + amount x y) 0 ≡ 0
+      go true e = let h = earlier x y e in absurd (omega arith)
+      go false e = refl
+
+module _ (amount : Reference → Reference → ℕ) (rs : List Reference) where
+  pub length-raised : (s : List ℕ) (y : Reference) → length (raised amount rs s y) ≡ length s
+  unfolding raised
+  length-raised s y = simp length-set
+
+  -- of the numbers only that of y's loop changes
+  pub raised-other : (s : List ℕ) (y : Reference) (k : ℕ) → k ≢ y .number → getD (raised amount rs s y) k 0 ≡ getD s k 0
+  unfolding raised
+  raised-other s y k n = getD-set-other s _ k _ 0 n
+
+  pub raised-same : (s : List ℕ) (y : Reference) → y .number < length s
+      → getD (raised amount rs s y) (y .number) 0 ≡ max (getD s (y .number) 0) (maximum (required amount s y) rs)
+  unfolding raised
+  raised-same s y h = getD-set-same s _ _ 0 h
+
+  walk-length : (ys : List Reference) (s : List ℕ) → length (walk amount rs ys s) ≡ length s
+  unfolding walk
+  walk-length [] s = refl
+  walk-length (y ∷ ys) s = walk-length ys (raised amount rs s y) ∙ length-raised s y
+
+  pub numbers-length : length (numbers amount rs) ≡ 16
+  unfolding numbers
+  numbers-length = walk-length rs (replicate 16 0)
+
+  -- what holds of 0 at every loop, and passes along every dependence, holds of each loop's number
+  module _ (P : ℕ → ℕ → Type 0) (start : (k : ℕ) → P k 0)
+      (along : (x y : Reference) → Dependence rs x y → (n : ℕ) → P (x .number) n → P (y .number) (n + amount x y)) where
+    abbrev pub Each : List ℕ → Type 0
+    Each s = (k : ℕ) → P k (getD s k 0)
+
+    required-of : (s : List ℕ) (y x : Reference) → Mem y rs → Mem x rs → Each s → P (y .number) (required amount s y x)
+    unfolding required
+    required-of s y x to from h = go (dependence x y) refl
+      where
+        go : (b : Bool) → dependence x y ≡ b → P (y .number) (cond b (getD s (x .number) 0 + amount x y) 0)
+        go true e = along x y (record { from = from; to = to; joined = e }) _ (h (x .number))
+        go false e = start (y .number)
+
+    pub raised-of : (s : List ℕ) (y : Reference) → y .number < length s → Mem y rs → Each s → Each (raised amount rs s y)
+    raised-of s y l to h k = go (ℕ-discrete k (y .number))
+      where
+        here : P (y .number) (getD (raised amount rs s y) (y .number) 0)
+        here =
+            rw (raised-same s y l)
+            (max-of (P (y .number)) _ _ (h (y .number))
+            (maximum-of (P (y .number)) (required amount s y) rs (start (y .number)) (λ x from. required-of s y x to from h)))
+
+        go : Dec (k ≡ y .number) → P k (getD (raised amount rs s y) k 0)
+        go (yes q) = rw q here
+        go (no q) = rw (raised-other s y k q) (h k)
+
+    walk-of : (ys : List Reference) (s : List ℕ) → Below (length s) ys → ((y : Reference) → Mem y ys → Mem y rs) → Each s → Each (walk amount rs ys s)
+    unfolding walk
+    walk-of [] s b i h = h
+    walk-of (y ∷ ys) s b i h =
+        walk-of ys (raised amount rs s y) (λ z m. rw (length-raised s y) (b z (mthere m))) (λ z m. i z (mthere m))
+        (raised-of s y (b y (mhere refl)) (i y (mhere refl)) h)
+
+    pub numbers-of : Below 16 rs → Each (numbers amount rs)
+    unfolding numbers
+    numbers-of below = walk-of rs (replicate 16 0) below (λ y m. m) (λ k. rw (zeros 16 k) (start k))

@@ -1,0 +1,165 @@
+// Shifts and peels: the largest totals of backward and of forward amounts over all chains of dependences that end at a loop.
+
+ghost use mathlib.Core.Path.{_≡_};
+ghost use mathlib.Core.Bool.{_||_};
+ghost use Prim.Native.Nat.{_+_, _-_, _<_, max};
+ghost use lib.ListN.{length};
+ghost use Rattle.chains.specs.Dependence.{dependence, backward, forward};
+ghost use Rattle.chains.specs.Walk.{required, shifts, peels};
+ghost use Rattle.chains.specs.Threshold.{threshold};
+ghost use Rattle.chains.specs.Columns.{columns, refAt, refs, requiredAt, WellFormed};
+use model::Reference;
+
+// The amounts of shifting and peeling, for each loop a shift and a peel; 0 past the last loop.
+pub struct Amounts {
+    pub shifts: [u32; 16],
+    pub peels: [u32; 16],
+}
+
+// What the dependences taken up so far require of one loop.
+struct Requirement {
+    shift: usize,
+    peel: usize,
+}
+
+fn larger(a: usize, b: usize) -> usize
+    ensures { λ r. ⌜ r ≡ max a b ⌝ }
+{
+    if a < b { b } else { a }
+}
+
+// a - b where a is above b, else 0.
+fn above(a: usize, b: usize) -> usize
+    ensures { λ r. ⌜ r ≡ a - b ⌝ }
+{
+    if b < a { a - b } else { 0 }
+}
+
+fn either(a: bool, b: bool) -> bool
+    ensures { λ r. ⌜ r ≡ (a || b) ⌝ }
+{
+    if a { true } else { b }
+}
+
+// Whether the references x and y make a dependence.
+pub fn depends(x: Reference, y: Reference) -> bool
+    ensures { λ r. ⌜ r ≡ dependence x y ⌝ }
+{
+    if x.number < y.number {
+        if x.array == y.array {
+            return either(x.stores, y.stores);
+        }
+    }
+    false
+}
+
+// Reference i of a table; stores has 1 at a destination and 0 at a read.
+pub fn reference(loops: &[u8], arrays: &[u8], offsets: &[u16], stores: &[u8], i: usize) -> Reference
+    requires { ⌜ WellFormed (columns (now loops) (now arrays) (now offsets) (now stores)) × (i < length (now loops)) ⌝ }
+    ensures { λ r. ⌜ r ≡ refAt (columns (now (loops .entry)) (now (arrays .entry)) (now (offsets .entry)) (now (stores .entry))) i ⌝ }
+{
+    Reference {
+        number: loops[i] as usize,
+        array: arrays[i] as usize,
+        offset: offsets[i] as usize,
+        stores: stores[i] == 1,
+    }
+}
+
+// What a dependence requires, where that is more than was required before: s and p are the earlier loop's numbers, x and y the offsets.
+fn raise(before: Requirement, s: u32, p: u32, x: usize, y: usize) -> Requirement
+    requires { ⌜ (x < 65536) × (y < 65536) ⌝ }
+    ensures { λ r. ⌜ (r .shift ≡ max (before .shift) (s + (y - x))) × (r .peel ≡ max (before .peel) (p + (x - y))) ⌝ }
+{
+    Requirement {
+        shift: larger(before.shift, s as usize + above(y, x)),
+        peel: larger(before.peel, p as usize + above(x, y)),
+    }
+}
+
+// One step of the walk: takes up the pair of the references x and y.
+fn take_up(
+    x: Reference,
+    y: Reference,
+    shifts: &[u32; 16],
+    peels: &[u32; 16],
+    before: Requirement,
+) -> Requirement
+    requires { ⌜ (x .number < 16) × (x .offset < 65536) × (y .offset < 65536) ⌝ }
+    ensures { λ r. ⌜ (r .shift ≡ max (before .shift) (required backward (now (shifts .entry)) y x)) × (r .peel ≡ max (before .peel) (required forward (now (peels .entry)) y x)) ⌝ }
+{
+    if depends(x, y) {
+        let k = x.number;
+        return raise(before, shifts[k], peels[k], x.offset, y.offset);
+    }
+    before
+}
+
+// What the dependences that end at reference i require of its loop. Only references of earlier loops can start one.
+fn required_at(
+    loops: &[u8],
+    arrays: &[u8],
+    offsets: &[u16],
+    stores: &[u8],
+    i: usize,
+    shifts: &[u32; 16],
+    peels: &[u32; 16],
+) -> Requirement
+    requires { ⌜ WellFormed (columns (now loops) (now arrays) (now offsets) (now stores)) × (i < length (now loops)) ⌝ }
+    ensures { λ r. ⌜ r .shift ≡ requiredAt backward (columns (now (loops .entry)) (now (arrays .entry)) (now (offsets .entry)) (now (stores .entry))) (now (shifts .entry)) i ⌝ }
+    ensures { λ r. ⌜ r .peel ≡ requiredAt forward (columns (now (loops .entry)) (now (arrays .entry)) (now (offsets .entry)) (now (stores .entry))) (now (peels .entry)) i ⌝ }
+{
+    let y = reference(loops, arrays, offsets, stores, i);
+    let number = loops[i];
+    let mut a = Requirement { shift: 0, peel: 0 };
+    let mut j = 0;
+    while loops[j] < number {
+        let x = reference(loops, arrays, offsets, stores, j);
+        a = take_up(x, y, shifts, peels, a);
+        j += 1;
+    }
+    a
+}
+
+// A loop's number, once n is required of it.
+fn updated(number: u32, n: usize) -> u32
+    requires { ⌜ n < 4294967296 ⌝ }
+    ensures { λ r. ⌜ r ≡ max number n ⌝ }
+{
+    larger(number as usize, n) as u32
+}
+
+// A single walk over the pairs of references of two loops, each pair once: the later reference in byte order, and for each the
+// references of earlier loops. Of the shifts and peels a step changes only the later loop's.
+pub fn shifts_and_peels(loops: &[u8], arrays: &[u8], offsets: &[u16], stores: &[u8]) -> Amounts
+    requires { ⌜ WellFormed (columns (now loops) (now arrays) (now offsets) (now stores)) ⌝ }
+    ensures { λ r. ⌜ (r .shifts ≡ shifts (refs (columns (now (loops .entry)) (now (arrays .entry)) (now (offsets .entry)) (now (stores .entry))))) × (r .peels ≡ peels (refs (columns (now (loops .entry)) (now (arrays .entry)) (now (offsets .entry)) (now (stores .entry))))) ⌝ }
+{
+    let mut ss = [0u32; 16];
+    let mut ps = [0u32; 16];
+    let mut i = 0;
+    while i < loops.len() {
+        let a = required_at(loops, arrays, offsets, stores, i, &ss, &ps);
+        let k = loops[i] as usize;
+        ss[k] = updated(ss[k], a.shift);
+        ps[k] = updated(ps[k], a.peel);
+        i += 1;
+    }
+    Amounts {
+        shifts: ss,
+        peels: ps,
+    }
+}
+
+// The largest sum of shift and peel of one loop.
+pub fn threshold_of(a: Amounts) -> usize
+    ensures { λ r. ⌜ r ≡ threshold (a .shifts) (a .peels) ⌝ }
+{
+    let mut t: usize = 0;
+    let mut k: usize = 0;
+    while k < 16 {
+        t = larger(t, a.shifts[k] as usize + a.peels[k] as usize);
+        k += 1;
+    }
+    t
+}
