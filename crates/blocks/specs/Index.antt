@@ -57,31 +57,31 @@ module _ (P : ℕ) (E : ℕ → ℕ) where
   abbrev pub phase : ℕ → ℕ → ℕ → ℕ
   phase s p i = if (both (decLt (suc (owner p i)) P) (decLe (E (suc (owner p i))) (i + s))) 1 0
 
-  -- the block that begins no later than i and ends later
-  record Home (p i b : ℕ) : Type 0 where
+  -- block b has begun by i, and the next one has not
+  record Begun (p i b : ℕ) : Type 0 where
     block : b < P
     low : 0 < b → E b + p ≤ i
     high : suc b < P → i < E (suc b) + p
 
-  begun-home : (p i b : ℕ) → b < P → (suc b < P → i < E (suc b) + p) → Home p i (lastBegun p i b)
-  begun-home p i zero l h = record { block = l; low = λ q. absurd (omega arith); high = h }
-  begun-home p i (suc b) l h = go (decLe (E (suc b) + p) i) (begun-home p i b (omega arith))
+  last-begun : (p i b : ℕ) → b < P → (suc b < P → i < E (suc b) + p) → Begun p i (lastBegun p i b)
+  last-begun p i zero l h = record { block = l; low = λ q. absurd (omega arith); high = h }
+  last-begun p i (suc b) l h = go (decLe (E (suc b) + p) i) (last-begun p i b (omega arith))
     where
-      go : (d : Dec (E (suc b) + p ≤ i)) → ((suc b < P → i < E (suc b) + p) → Home p i (lastBegun p i b))
-          → Home p i (if d (suc b) (lastBegun p i b))
+      go : (d : Dec (E (suc b) + p ≤ i)) → ((suc b < P → i < E (suc b) + p) → Begun p i (lastBegun p i b))
+          → Begun p i (if d (suc b) (lastBegun p i b))
       go (yes d) ih = record { block = l; low = λ q. d; high = h }
       go (no d) ih = ih (λ q. omega arith)
 
-  home : (p i : ℕ) → 0 < P → Home p i (owner p i)
-  home p i pos = begun-home p i (P - 1) (omega arith) (λ l. absurd (omega arith))
+  owner-begun : (p i : ℕ) → 0 < P → Begun p i (owner p i)
+  owner-begun p i pos = last-begun p i (P - 1) (omega arith) (λ l. absurd (omega arith))
 
   -- SOME PART: every i is in one
   pub in-part : (s p i : ℕ) → 0 < P
       → ((phase s p i ≡ 0) × Fused s p i (owner p i)) ⊎ ((phase s p i ≡ 1) × Peeled s p i (owner p i))
   in-part s p i pos = go (both (decLt (suc (owner p i)) P) (decLe (E (suc (owner p i))) (i + s)))
     where
-      h : Home p i (owner p i)
-      h = home p i pos
+      h : Begun p i (owner p i)
+      h = owner-begun p i pos
 
       go : (d : Dec ((suc (owner p i) < P) × (E (suc (owner p i)) ≤ i + s)))
           → ((_≡_ {A = ℕ} (if d 1 0) 0) × Fused s p i (owner p i)) ⊎ ((_≡_ {A = ℕ} (if d 1 0) 1) × Peeled s p i (owner p i))
@@ -100,17 +100,17 @@ module _ (P : ℕ) (E : ℕ → ℕ) where
         go (yes m) ih = omega (arith, ih m (omega arith), gap b (omega arith) i)
         go (no m) ih = let e : a ≡ suc b = omega arith in rw e (omega arith)
 
-    home-less : (i a b : ℕ) → Home p i a → Home p i b → a < b → ⊥
-    home-less i a b h k l =
+    begun-less : (i a b : ℕ) → Begun p i a → Begun p i b → a < b → ⊥
+    begun-less i a b h k l =
         let m : b < P = k .block in
         omega (arith, h .high (omega arith), k .low (omega arith), edge-up (suc a) b (omega arith) l m)
 
-    home-one : (i a b : ℕ) → Home p i a → Home p i b → a ≡ b
-    home-one i a b h k = go (decLt a b) (decLt b a)
+    begun-one : (i a b : ℕ) → Begun p i a → Begun p i b → a ≡ b
+    begun-one i a b h k = go (decLt a b) (decLt b a)
       where
         go : Dec (a < b) → Dec (b < a) → a ≡ b
-        go (yes l) m = absurd (home-less i a b h k l)
-        go (no l) (yes m) = absurd (home-less i b a k h m)
+        go (yes l) m = absurd (begun-less i a b h k l)
+        go (no l) (yes m) = absurd (begun-less i b a k h m)
         go (no l) (no m) = omega arith
 
     pub fused-one : (i b : ℕ) → Fused s p i b → (owner p i ≡ b) × (phase s p i ≡ 0)
@@ -120,7 +120,7 @@ module _ (P : ℕ) (E : ℕ → ℕ) where
     )
       where
         e : owner p i ≡ b
-        e = home-one i (owner p i) b (home p i some) (record { block = f .block; low = f .low; high = λ l. omega (arith, f .high l) })
+        e = begun-one i (owner p i) b (owner-begun p i some) (record { block = f .block; low = f .low; high = λ l. omega (arith, f .high l) })
 
     pub peeled-one : (i b : ℕ) → Peeled s p i b → (owner p i ≡ b) × (phase s p i ≡ 1)
     peeled-one i b f = (e, go (in-part s p i some))
@@ -130,7 +130,7 @@ module _ (P : ℕ) (E : ℕ → ℕ) where
 
         e : owner p i ≡ b
         e =
-            home-one i (owner p i) b (home p i some)
+            begun-one i (owner p i) b (owner-begun p i some)
             (record { block = omega arith; low = λ q. omega (arith, gap b q l, f .low); high = λ q. f .high })
 
         go : ((phase s p i ≡ 0) × Fused s p i (owner p i)) ⊎ ((phase s p i ≡ 1) × Peeled s p i (owner p i)) → phase s p i ≡ 1

@@ -6,18 +6,19 @@ use mathlib.Core.List.{List}
 use mathlib.Core.List.{List·Memᴰ as Mem}
 use Prim.Native.Nat.{ℕ, zero, suc, _+_, _*_, _≤_, _<_}
 use native.Mathlib.Omega.{arith}
+use lib.ListN.{length}
 use Rattle.order.specs.Lists.{Before, before-left, before-right, NoDup}
 use Rattle.order.specs.Rows.{Rows, two-rows}
 use Rattle.model.specs.declared.Iteration.{Iteration}
 use Rattle.model.specs.Table.{Table, count, first, last, Inside}
 use Rattle.blocks.specs.declared.Range.{Range}
-use Rattle.blocks.specs.Sums.{largest, largest-bound}
+use Rattle.blocks.specs.Sums.{largest, largest-bound, column}
 use Rattle.blocks.specs.Blocks.{blockAt}
 use Rattle.blocks.specs.Parts.{In, fusedPart, peeledPart, in-fused, in-peeled}
 use Rattle.blocks.specs.Index.{Fused, Peeled, Gaps, gaps-less, in-part, fused-one, peeled-one}
 use Rattle.blocks.specs.Index.{owner as ownerOf, phase as phaseOf}
-use Rattle.lists.specs.Lists.{bySums, byLoops}
-use Rattle.lists.specs.Order.{less-key, by-sums-mem, by-sums-before, by-loops-mem, by-loops-before}
+use Rattle.lists.specs.Lists.{bySums, byLoops, ranges, fusedColumns, peeledColumns}
+use Rattle.lists.specs.Order.{less-key, by-sums-mem, by-sums-before, by-sums-same, by-loops-mem, by-loops-before, by-loops-same}
 
 -- a shift and a peel for each loop, and a block for each processor: block b begins at edge b and is past at edge (b + 1)
 pub record Fusion : Type 0 where
@@ -94,6 +95,16 @@ module _ (t : Table) (c : Fusion) where
     where
       part : In (x .index) (peeledRange b (x .number)) ↔ (In (x .index) (own t (x .number)) × IsPeeled x b)
       part = in-peeled processors edge (own t (x .number)) (shift (x .number)) (peel (x .number)) (x .index) b l
+
+  -- the lists that the code keeps in columns
+  pub fused-columns : (froms pasts shifts : List ℕ) (b : ℕ) → length froms ≡ count t
+      → ((k : ℕ) → k < count t → ranges froms pasts k ≡ fusedRange b k) → ((k : ℕ) → k < count t → column shifts k ≡ shift k)
+      → fusedColumns froms pasts shifts ≡ fusedList b
+  fused-columns froms pasts shifts b e f g = rw e (by-sums-same (count t) (fusedRange b) shift (ranges froms pasts) (column shifts) f g)
+
+  pub peeled-columns : (froms pasts : List ℕ) (b : ℕ) → length froms ≡ count t
+      → ((k : ℕ) → k < count t → ranges froms pasts k ≡ peeledRange b k) → peeledColumns froms pasts ≡ peeledList b
+  peeled-columns froms pasts b e f = rw e (by-loops-same (count t) (peeledRange b) (ranges froms pasts) f)
 
   -- THE ORDER in a list, by one number: of the fused lists, and of the peeled ones
   abbrev pub pastAll : ℕ

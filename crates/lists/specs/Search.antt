@@ -33,7 +33,7 @@ pub record Sized (fs ps ss ws : List ℕ) : Type 0 where
   pub pasts : length fs ≤ length ps
   pub shifts : length fs ≤ length ss
   pub weights : length fs ≤ length ws
-  pub light : (k : ℕ) → column ws k ≤ 65536
+  pub small : (k : ℕ) → column ws k ≤ 65536
 
 -- the sums from low up to high have the n-th iteration
 pub record Bracket (fs ps ss ws : List ℕ) (n : ℕ) (s : Search) : Type 0 where
@@ -50,8 +50,8 @@ pub record Located (fs ps ss ws : List ℕ) (most n : ℕ) (r : Position) : Type
   pub high : n < belowColumns fs ps ss ws (suc (r .sum))
   pub before : r .before ≡ n - belowColumns fs ps ss ws (r .sum)
 
-pub light-product : (w x : ℕ) → w ≤ 65536 → x < 2 ^ 32 → w * x ≤ 2 ^ 48
-light-product w x g h = let l : x ≤ 2 ^ 32 = omega arith in mul-le-mul g l
+pub weight-product : (w x : ℕ) → w ≤ 65536 → x < 2 ^ 32 → w * x ≤ 2 ^ 48
+weight-product w x g h = let l : x ≤ 2 ^ 32 = omega arith in mul-le-mul g l
 
 -- WALKS over the loops, that have come to the end
 module _ (K : ℕ) (r : ℕ → Range) (s w : ℕ → ℕ) where
@@ -121,8 +121,8 @@ module _ (K : ℕ) (r : ℕ → Range) (k n left : ℕ) where
 abbrev pub ones : List ℕ
 ones = replicate 16 1
 
-ones-light : (k : ℕ) → column ones k ≤ 65536
-ones-light k = go (decLt k 16)
+ones-small : (k : ℕ) → column ones k ≤ 65536
+ones-small k = go (decLt k 16)
   where
     go : Dec (k < 16) → column ones k ≤ 65536
     go (yes l) = omega (arith, getD-replicate {A = ℕ} 16 k 1 0 l)
@@ -133,7 +133,7 @@ module _ (fs ps ss : List ℕ) (few : length fs ≤ 16) where
   ones-at k l = getD-replicate 16 k 1 0 (omega arith)
 
   pub ones-sized : Aligned fs ps ss → Sized fs ps ss ones
-  ones-sized a = record { loops = few; pasts = a .pasts; shifts = a .shifts; weights = few; light = ones-light }
+  ones-sized a = record { loops = few; pasts = a .pasts; shifts = a .shifts; weights = few; small = ones-small }
 
   pub ones-below : (n most : ℕ) → n < length (fusedColumns fs ps ss) → most ≡ sumBound (length fs) (ranges fs ps) (column ss)
       → n < belowColumns fs ps ss ones most

@@ -3,7 +3,7 @@ use mathlib.Core.Path.{ap₂}
 use Prim.Native.Nat.{ℕ, _*_}
 use native.Mathlib.Omega.{arith}
 use Rattle.lists.specs.Below.{weighted}
-use Rattle.lists.specs.Search.{light-product}
+use Rattle.lists.specs.Search.{weight-product}
 use borrow.Author.Needs.{needs}
 use Rattle.lists.proofs.weighted_at.Statement.{statement}
 use Rattle.lists.proofs.weighted_at.Tie as tie
@@ -42,14 +42,14 @@ mul-result : tie.Need-mul-result
 mul-result c =
     let s = c .before .before .before .before .before .before .before .before .before .before in
     omega
-    (arith, light-product (c .before .before .before .before .wide .result) (c .clipped .result) (omega (arith, s .pre .0 .light (s .args .k))) (c .clipped .ensures .1))
+    (arith, weight-product (c .before .before .before .before .wide .result) (c .clipped .result) (omega (arith, s .pre .0 .small (s .args .k))) (c .clipped .ensures .1))
 
 returns : tie.Need-returns
 unfolding weighted
 returns c =
     let s = c .before .before .before .before .before .before .before .before .before .before in (
       ap₂ (λ (x y : ℕ). x * y) (c .before .before .before .before .wide .ensures) (c .clipped .ensures .0),
-      light-product (c .before .before .before .before .wide .result) (c .clipped .result) (omega (arith, s .pre .0 .light (s .args .k))) (c .clipped .ensures .1),
+      weight-product (c .before .before .before .before .wide .result) (c .clipped .result) (omega (arith, s .pre .0 .small (s .args .k))) (c .clipped .ensures .1),
     )
 
 pub weighted-at-spec : {M : Type 1} → statement M
