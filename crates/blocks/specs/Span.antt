@@ -16,7 +16,8 @@ tableSpan t = spanOf (count t) (first t) (last t)
 
 -- LAWS
 module _ (n : ℕ) (from to : ℕ → ℕ) where
-  pub span-same : (g h : ℕ → ℕ) → 0 < n → ((k : ℕ) → k < n → from k ≡ g k) → ((k : ℕ) → k < n → to k ≡ h k) → spanOf n from to ≡ spanOf n g h
+  pub span-same : (g h : ℕ → ℕ) → 0 < n → ((k : ℕ) → k < n → from k ≡ g k) → ((k : ℕ) → k < n → to k ≡ h k)
+      → spanOf n from to ≡ spanOf n g h
   unfolding spanOf
   span-same g h pos e f = rw (least-same n from g pos e, largest-same n to h f)
 

@@ -1,6 +1,7 @@
 -- The lists of all processors: each iteration of a table stands in exactly one of them, once. For any shifts and peels, and any row of
 -- block ends in which the middle blocks are no smaller than the threshold. Assumes nothing.
 use mathlib.Core.Path.{_≡_, sym}
+use mathlib.Core.Bool.{false}
 use mathlib.Core.Logic.{_⊎_, ⊎-elim, _↔_}
 use mathlib.Core.List.{List}
 use mathlib.Core.List.{List·Memᴰ as Mem}
@@ -13,8 +14,9 @@ use Rattle.model.specs.declared.Iteration.{Iteration}
 use Rattle.model.specs.Table.{Table, count, first, last, Inside}
 use Rattle.blocks.specs.declared.Range.{Range}
 use Rattle.blocks.specs.Sums.{largest, largest-bound, column}
-use Rattle.blocks.specs.Blocks.{blockAt}
-use Rattle.blocks.specs.Parts.{In, fusedPart, peeledPart, in-fused, in-peeled}
+use Rattle.blocks.specs.Span.{tableSpan}
+use Rattle.blocks.specs.Blocks.{blockAt, isShort, edge as edgeOf}
+use Rattle.blocks.specs.Parts.{In, fusedPart, peeledPart, in-fused, in-peeled, not-short-gaps}
 use Rattle.blocks.specs.Index.{Fused, Peeled, Gaps, gaps-less, in-part, fused-one, peeled-one}
 use Rattle.blocks.specs.Index.{owner as ownerOf, phase as phaseOf}
 use Rattle.lists.specs.Lists.{bySums, byLoops, ranges, fusedColumns, peeledColumns}
@@ -151,7 +153,8 @@ module _ (t : Table) (c : Fusion) where
     abbrev pub rows : Rows Iteration
     rows = two-rows processors fusedList peeledList owner phase key fused-known peeled-known fused-sorted peeled-sorted
 
-    -- EVERY ITERATION ONCE: each iteration of the table stands in one list of one processor, there once, and nothing else does
+    -- EVERY ITERATION ONCE: each iteration of the table stands in one list of one processor, there once, and nothing else does.
+    -- `work 0` are the fused lists, `work 1` the peeled ones
     pub record Once : Type 0 where
       pub listed : (x : Iteration) → Inside t x → (owner x < processors) × (phase x < 2) × Mem x (rows .work (phase x) (owner x))
       pub alone : (n b : ℕ) (x : Iteration) → n < 2 → b < processors → Mem x (rows .work n b) → Inside t x × (b ≡ owner x) × (n ≡ phase x)
@@ -173,3 +176,13 @@ module _ (t : Table) (c : Fusion) where
 
         alone : (n b : ℕ) (x : Iteration) → n < 2 → b < processors → Mem x (rows .work n b) → Inside t x × (b ≡ owner x) × (n ≡ phase x)
         alone n b x l i m = let (e, f) = rows .known n b x l i m in (inside n b x i m, sym e, sym f)
+
+-- with the blocks as the paper cuts them: P of the indices from the least first to the greatest last
+abbrev pub fusionOf : Table → ℕ → (ℕ → ℕ) → (ℕ → ℕ) → Fusion
+fusionOf t P s p = record { shift = s; peel = p; processors = P; edge = edgeOf (tableSpan t .first) (tableSpan t .count) P }
+
+-- where there is a processor and ground 11 is not given, they are wide enough
+pub fusion-wide : (t : Table) (P : ℕ) (s p : ℕ → ℕ) (threshold : ℕ) → ((k : ℕ) → k < count t → s k + p k ≤ threshold) → 0 < P
+    → isShort (tableSpan t .count) P threshold ≡ false → Wide t (fusionOf t P s p)
+fusion-wide t P s p threshold h pos e =
+    wide-by t (fusionOf t P s p) threshold h (not-short-gaps (tableSpan t .first) (tableSpan t .count) P threshold pos e)

@@ -135,7 +135,8 @@ module _ (K : ℕ) (r : ℕ → Range) (s : ℕ → ℕ) where
   by-sums-once = less-once sum (λ x. x .number) (bySums K r s) by-sums-before
 
   -- it depends on the ranges and shifts of the K loops alone
-  pub by-sums-same : (q : ℕ → Range) (u : ℕ → ℕ) → ((k : ℕ) → k < K → q k ≡ r k) → ((k : ℕ) → k < K → u k ≡ s k) → bySums K q u ≡ bySums K r s
+  pub by-sums-same : (q : ℕ → Range) (u : ℕ → ℕ) → ((k : ℕ) → k < K → q k ≡ r k) → ((k : ℕ) → k < K → u k ≡ s k)
+      → bySums K q u ≡ bySums K r s
   unfolding bySums sumAt sumBound
   by-sums-same q u e f =
       ap (λ (n : ℕ). joined n (sumAt K q u))

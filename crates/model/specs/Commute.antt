@@ -92,7 +92,7 @@ module _ (t : Table) (sound : Sound t) where
   open Sound sound using (within)
   open Table t using (lengths)
 
-  clash : (x y : Iteration) (r q : Reference) → Inside t x → Inside t y → Mem r (refs t (x .number)) → Mem q (refs t (y .number))
+  pub clash : (x y : Iteration) (r q : Reference) → Inside t x → Inside t y → Mem r (refs t (x .number)) → Mem q (refs t (y .number))
       → (r .stores ≡ true) ⊎ (q .stores ≡ true) → element lengths (x .index) r ≡ element lengths (y .index) q → Clash t x y
   clash x y r q m n g h s e =
       let (a, b) = within x r m g in

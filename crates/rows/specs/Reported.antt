@@ -44,7 +44,8 @@ module _ {A : Type 0} (p : Plan A) (bs : List ℕ) where
 
   -- the barrier: an action is done only after every action of an earlier phase
   pub after-earlier : (b : ℕ) (x y : A) → Mem y (p .list b) → p .phase y < p .phase x → Mem x reports → Before y x reports
-  after-earlier b x y m l h = ⊎-elim done (λ r. absurd (omega (arith, run-ahead p (runs p bs zeros) x y h (left-rest p (final p bs zeros) b r)))) (done-or-left b y m)
+  after-earlier b x y m l h =
+      ⊎-elim done (λ r. absurd (omega (arith, run-ahead p (runs p bs zeros) x y h (left-rest p (final p bs zeros) b r)))) (done-or-left b y m)
     where
       done : Mem y reports → Before y x reports
       done g =

@@ -33,7 +33,7 @@ use Rattle.rows.specs.Reported.{own-order as own-order-of, reports-once,
 abbrev pub Dependent : Table → Iteration → Iteration → Type 0
 Dependent t x y = Inside t x → Inside t y → Clash t x y
 
-inside? : (t : Table) (x : Iteration) → Dec (Inside t x)
+pub inside? : (t : Table) (x : Iteration) → Dec (Inside t x)
 inside? t x = go (decLt (x .number) (count t)) (decLe (first t (x .number)) (x .index)) (decLe (x .index) (last t (x .number)))
   where
     go : Dec (x .number < count t) → Dec (first t (x .number) ≤ x .index) → Dec (x .index ≤ last t (x .number)) → Dec (Inside t x)
@@ -57,7 +57,7 @@ module _ (t : Table) (c : Fusion) (wide : Wide t c) where
   abbrev pub AllReported : List ℕ → Type 0
   AllReported bs = (x : Iteration) → Inside t x → Mem x (reported bs)
 
-  in-one-list : (x : Iteration) → Mem x (plain t)
+  pub in-one-list : (x : Iteration) → Mem x (plain t)
       ↔ ((owner t c x < processors) × (phase t c x < 2) × Mem x (rows t c wide .work (phase t c x) (owner t c x)))
   in-one-list x = (
     λ m. once t c wide .listed x (plain-mem t x .0 m),
@@ -87,14 +87,16 @@ module _ (t : Table) (c : Fusion) (wide : Wide t c) where
   own-order bs b l = own-order-of planOf bs b ∙ list-of b l
 
   -- no peeled iteration before the last fused one: whatever is peeled stands after every fused iteration of the table
-  pub barrier : (bs : List ℕ) (x y : Iteration) → Mem x (reported bs) → phase t c x ≡ 1 → Inside t y → phase t c y ≡ 0 → Before y x (reported bs)
+  pub barrier : (bs : List ℕ) (x y : Iteration) → Mem x (reported bs) → phase t c x ≡ 1 → Inside t y → phase t c y ≡ 0
+      → Before y x (reported bs)
   barrier bs x y m e i f = after-earlier planOf bs (owner t c y) x y (in-list y i) (omega arith) m
 
   all-complete : (bs : List ℕ) → AllReported bs → Complete planOf bs
   all-complete bs all = reported-complete planOf bs (λ b x m. all x (listed-inside b x m))
 
   -- a row that has reported every iteration has done each list whole
-  pub own-list : (bs : List ℕ) (b : ℕ) → b < processors → AllReported bs → mine planOf b (reported bs) ≡ fusedList t c b ++ peeledList t c b
+  pub own-list : (bs : List ℕ) (b : ℕ) → b < processors → AllReported bs
+      → mine planOf b (reported bs) ≡ fusedList t c b ++ peeledList t c b
   own-list bs b l all = rw (all-complete bs all b, append-nil) at (own-order bs b l)
 
   -- there is such a row
@@ -136,7 +138,7 @@ module _ (t : Table) (sound : Sound t) (Counts : Reference → Reference → Typ
       (same-part processors edge (shift (x .number)) (peel (x .number)) (x .index) (shift (y .number)) (peel (y .number)) (y .index)
       (wide .gaps (x .number) (m .0)) (wide .gaps (y .number) (n .0)) h)
 
-  ordered : (x y : Iteration) → Dependent t x y → Before x y (plain t) → Ordered (rows t c wide) x y
+  pub ordered : (x y : Iteration) → Dependent t x y → Before x y (plain t) → Ordered (rows t c wide) x y
   ordered x y d b =
       ⊎-elim (λ l. across x y m n l (d m n)) (λ (e, l). absurd (alone x y m n e (λ f. omega arith) (d m n))) (plain-before t x y b)
     where
