@@ -1,0 +1,2 @@
+-- references added one after the other to columns
+pub mod Collected
