@@ -1,0 +1,12 @@
+-- the records before a place
+pub mod Places
+-- each of the grounds 1 to 8 by itself
+pub mod Statements
+-- the summary that the tests look at, in the words of the statements
+pub mod Counted
+-- how a reading goes
+pub mod Trace
+-- what a test finds is a ground
+pub mod Found
+-- a refusal is given only where its ground holds; an accepted table meets none
+pub mod Theorems
