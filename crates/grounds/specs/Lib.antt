@@ -10,3 +10,5 @@ pub mod Trace
 pub mod Found
 -- a refusal is given only where its ground holds; an accepted table meets none
 pub mod Theorems
+-- what an accepted table is
+pub mod Accepted
