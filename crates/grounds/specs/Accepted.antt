@@ -19,7 +19,7 @@ use Rattle.model.specs.Table.{Item, read, constant, operation, Statement, Loop,
 use Rattle.model.specs.References.{destination, reads, references, refs}
 use Rattle.reader.specs.Reading.{Answer, accepted, refused, reading, loopsOf, tableOf}
 use Rattle.grounds.specs.Statements.{sum, loops, arrays}
-use Rattle.grounds.specs.Counted.{arrays-counted, elements-counted, loops-counted, Clears, loop-array}
+use Rattle.grounds.specs.Counted.{arrays-counted, elements-counted, loops-counted, Clears, loop-array, few}
 use Rattle.grounds.specs.Trace.{Last, stop, tail, done, End-of, reading-ends}
 
 -- items worked after d waiting numbers: there is never a ninth, an operation is 1 to 5 and finds its operands, and exactly one remains
@@ -87,36 +87,6 @@ array-sizes (rec.Read q o ∷ rs) c a h = array-sizes rs (c .1) a h
 array-sizes (rec.Constant n ∷ rs) c a h = array-sizes rs (c .1) a h
 array-sizes (rec.Operation o ∷ rs) c a h = array-sizes rs (c .1) a h
 array-sizes (rec.End ∷ rs) c a h = array-sizes rs (c .1) a h
-
--- counts never pass their bounds
-pub record Few (rs : List Record) : Type 0 where
-  pub arrays : summary rs .arrays ≤ 16
-  pub elements : summary rs .elements ≤ 262144
-  pub loops : summary rs .loops ≤ 16
-  pub items : summary rs .items ≤ 32
-
-pub few : (rs : List Record) → Clears rs → Few rs
-unfolding summary advanced blank withArray withLoop withItem
-few [] c = record { arrays = omega arith; elements = omega arith; loops = omega arith; items = omega arith }
-few (rec.Unknown ∷ rs) c = absurd (c .0)
-few (rec.Array n ∷ rs) c =
-    let h = few rs (c .1) in
-    record { arrays = omega (arith, c .0 .1); elements = c .0 .4; loops = h .loops; items = h .items }
-few (rec.Loop f l q o ∷ rs) c =
-    let h = few rs (c .1) in
-    record { arrays = h .arrays; elements = h .elements; loops = omega (arith, c .0 .1); items = omega arith }
-few (rec.Read q o ∷ rs) c =
-    let h = few rs (c .1) in
-    record { arrays = h .arrays; elements = h .elements; loops = h .loops; items = omega (arith, c .0 .1) }
-few (rec.Constant n ∷ rs) c =
-    let h = few rs (c .1) in
-    record { arrays = h .arrays; elements = h .elements; loops = h .loops; items = omega (arith, c .0 .1) }
-few (rec.Operation o ∷ rs) c =
-    let h = few rs (c .1) in
-    record { arrays = h .arrays; elements = h .elements; loops = h .loops; items = omega (arith, c .0 .1) }
-few (rec.End ∷ rs) c =
-    let h = few rs (c .1) in
-    record { arrays = h .arrays; elements = h .elements; loops = h .loops; items = h .items }
 
 -- loops
 abbrev statementOf : ℕ → ℕ → List Item → Statement

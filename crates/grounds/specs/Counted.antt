@@ -2,8 +2,10 @@
 use Prim.Native.Nat.{ℕ, zero, suc, _+_, _-_, _≤_, _<_}
 use native.Mathlib.Omega.{arith}
 use mathlib.Core.Path.{_≡_, refl, ap}
+use mathlib.Core.Bool.{Bool, true, false, cond}
 use mathlib.Core.List.{List, [], _∷_, _++_}
 use lib.ListN.{length, length-append}
+use lib.Dec.{eqb}
 use Rattle.records.specs.declared.Record.{Record}
 use Rattle.records.specs.declared.Record.the-variants.{Unknown, Array, Loop, Read, Constant, Operation, End}
 use Rattle.records.specs.declared.Summary.{Summary}
@@ -112,3 +114,40 @@ no-loop (Read q o ∷ rs) c e = absurd (omega (arith, c .0 .0, loops-counted rs)
 no-loop (Constant n ∷ rs) c e = absurd (omega (arith, c .0 .0, loops-counted rs))
 no-loop (Operation o ∷ rs) c e = absurd (omega (arith, c .0 .0, loops-counted rs))
 no-loop (End ∷ rs) c e = no-loop rs (c .1) e
+
+-- counts never pass their bounds
+pub record Few (t : Summary) : Type 0 where
+  pub arrays : t .arrays ≤ 16
+  pub elements : t .elements ≤ 262144
+  pub loops : t .loops ≤ 16
+  pub items : t .items ≤ 32
+  pub waiting : t .waiting ≤ 8
+
+more-items : (t : Summary) (w : ℕ) → Few t → t .items < 32 → w ≤ 8 → Few (itemMore w t)
+unfolding itemMore
+more-items t w h i l = record { arrays = h .arrays; elements = h .elements; loops = h .loops; items = omega arith; waiting = l }
+
+-- an operation takes one or two
+pub some-operands : (o : ℕ) → (1 ≤ operands o) × (operands o ≤ 2)
+unfolding operands
+some-operands o = go (eqb o 5)
+  where
+    go : (b : Bool) → (1 ≤ cond b 1 2) × (cond b 1 2 ≤ 2)
+    go true = omega arith
+    go false = omega arith
+
+pub few : (rs : List Record) → Clears rs → Few (summary rs)
+unfolding summary advanced blank withArray withLoop
+few [] c = record { arrays = omega arith; elements = omega arith; loops = omega arith; items = omega arith; waiting = omega arith }
+few (Unknown ∷ rs) c = absurd (c .0)
+few (Array n ∷ rs) c =
+    let h = few rs (c .1) in
+    record { arrays = omega (arith, c .0 .1); elements = c .0 .4; loops = h .loops; items = h .items; waiting = h .waiting }
+few (Loop f l q o ∷ rs) c =
+    let h = few rs (c .1) in
+    record { arrays = h .arrays; elements = h .elements; loops = omega (arith, c .0 .1); items = omega arith; waiting = omega arith }
+few (Read q o ∷ rs) c = more-items (summary rs) _ (few rs (c .1)) (c .0 .1) (omega (arith, c .0 .4))
+few (Constant n ∷ rs) c = more-items (summary rs) _ (few rs (c .1)) (c .0 .1) (omega (arith, c .0 .2))
+few (Operation o ∷ rs) c =
+    more-items (summary rs) _ (few rs (c .1)) (c .0 .1) (omega (arith, c .0 .4, some-operands o .0, few rs (c .1) .waiting))
+few (End ∷ rs) c = few rs (c .1)

@@ -67,12 +67,10 @@ pub found-ground : (s : List ℕ) (p g : ℕ) → Found s p g → (g ≡ 0 → �
 found-ground s p zero f z = absurd (z refl)
 found-ground s p (suc g) f z = f
 
-some-loop : (n r : ℕ) → (2 if eqb n 0 else r) ≡ 0 → 0 < n
-some-loop n r e = go (eqb n 0) refl e
-  where
-    go : (b : Bool) → eqb n 0 ≡ b → (2 if b else r) ≡ 0 → 0 < n
-    go true f h = absurd (omega (arith, h))
-    go false f h = let z : n ≢ 0 = eqb-false n 0 f in omega arith
+-- where a row of tests finds nothing, its first test failed
+pub nothing : (g : ℕ) (b : Bool) (r : ℕ) → (suc g if b else r) ≡ 0 → (b ≡ false) × (r ≡ 0)
+nothing g true r e = absurd (omega (arith, e))
+nothing g false r e = (refl, e)
 
 -- THE TESTS OF THE RECORD AT p, after the records rs
 module _ (s : List ℕ) (p : ℕ) (rs : List Record) (before : Records s p rs) (clears : Clears rs) (there : p < length s) where
@@ -122,7 +120,9 @@ module _ (s : List ℕ) (p : ℕ) (rs : List Record) (before : Records s p rs) (
     at-whole G k e g = (rs, before, fits, subst (λ (x : Kind). G (recordOf x s (p + 1)) rs) (sym e) g)
 
     in-loop : (r : ℕ) → (2 if eqb (summary rs .loops) 0 else r) ≡ 0 → 0 < loops rs
-    in-loop r z = omega (arith, some-loop (summary rs .loops) r z, loops-counted rs)
+    in-loop r z =
+        let some : summary rs .loops ≢ 0 = eqb-false _ _ (nothing 1 _ r z .0) in
+        omega (arith, loops-counted rs)
 
     fields-found : (k : Kind) → kindOf (byte s p) ≡ k → early k (summary rs) ≡ 0 → Found s p (fields (recordOf k s (p + 1)) (summary rs) (lengths rs))
     unfolding early fields recordOf

@@ -12,3 +12,5 @@ pub mod Found
 pub mod Theorems
 -- what an accepted table is
 pub mod Accepted
+-- how many bytes the records of a table take
+pub mod Sizes

@@ -14,26 +14,12 @@ use Rattle.records.specs.History.{summary, lengths}
 use Rattle.records.specs.Clear.{Clear, Within, spanOf, span-kind}
 use Rattle.reader.specs.Reading.{Answer, accepted, refused, reading}
 use Rattle.model.specs.Table.{Table}
-use Rattle.grounds.specs.Places.{after, Records, records-within}
+use Rattle.grounds.specs.Places.{after, Records, records-within, end-length}
 use Rattle.grounds.specs.Statements.{loops, Misplaced, OutOfRange, OneTooMany, ManyElements, Unnumbered, NotOneLeft, NinthOrTooFew}
 use Rattle.grounds.specs.Statements.{Outside, OutsideArray, Torn, Tail, Ground, by-number, ground-number, ground-place}
 use Rattle.grounds.specs.Counted.{arrays-counted, elements-counted, loops-counted, body-counted, Clears, loop-array}
 use Rattle.grounds.specs.Trace.{Clean, Last, stop, tail, done, Run, last, pass, run-reading, End-of, reading-ends, Earlier, visited}
 use Rattle.grounds.specs.Found.{Found, ground-found, found-ground}
-
--- an end record has no body
-end-length : (s : List ℕ) (p : ℕ) → recordAt s p ≡ End → bodyLength (byte s p) ≡ 0
-unfolding recordAt recordOf
-end-length s p e = span-kind (byte s p) ∙ go (kindOf (byte s p)) e
-  where
-    go : (k : Kind) → recordOf k s (p + 1) ≡ End → spanOf k ≡ 0
-    go kind.Unknown e = refl
-    go kind.Array e = let z : _≡_ {A = ℕ} 0 1 = cc in omega arith
-    go kind.Loop e = let z : _≡_ {A = ℕ} 0 1 = cc in omega arith
-    go kind.Read e = let z : _≡_ {A = ℕ} 0 1 = cc in omega arith
-    go kind.Constant e = let z : _≡_ {A = ℕ} 0 1 = cc in omega arith
-    go kind.Operation e = let z : _≡_ {A = ℕ} 0 1 = cc in omega arith
-    go kind.End e = refl
 
 -- WHERE A READING ENDS, ITS GROUND HOLDS
 abbrev Meaning : List ℕ → Answer → Type 0
