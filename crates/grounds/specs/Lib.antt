@@ -14,3 +14,5 @@ pub mod Theorems
 pub mod Accepted
 -- how many bytes the records of a table take
 pub mod Sizes
+-- the first 2,077 bytes decide the answer
+pub mod Prefix

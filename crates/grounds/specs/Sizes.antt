@@ -70,8 +70,11 @@ near s p rs before c =
     omega (arith, z .items, z .bytes, f .arrays, f .loops, f .items, f .waiting)
 
 -- an end record that meets no ground
-end-near : (t : Summary) (p : ℕ) → t .waiting ≡ 1 → Few t → Sized t p → p + 1 ≤ 2065
-end-near t p w f z = omega (arith, z .items, z .bytes, f .arrays, f .loops, f .items)
+end-sized : (t : Summary) (p : ℕ) → t .waiting ≡ 1 → Few t → Sized t p → p + 1 ≤ 2065
+end-sized t p w f z = omega (arith, z .items, z .bytes, f .arrays, f .loops, f .items)
+
+pub end-near : (s : List ℕ) (p : ℕ) (rs : List Record) → Records s p rs → Clears rs → summary rs .waiting ≡ 1 → p + 1 ≤ 2065
+end-near s p rs before c w = end-sized (summary rs) p w (few rs c) (sized s p rs before c)
 
 -- a record that is not refused for its kind, for a body left unfinished or for being one too many ends within 2,076 bytes
 early-item : (t : Summary) (p n : ℕ) → (2 if eqb (t .loops) 0 else 4 if leb 32 (t .items) else 0) ≡ 0 → n ≤ 4 → Few t → Sized t p → p + 1 + n ≤ 2076
@@ -101,7 +104,7 @@ early-near kind.End t p e f z =
     let a = nothing 1 (eqb (t .loops) 0) _ e in
     let b = nothing 5 (not (eqb (t .waiting) 1)) _ (a .1) in
     let one : t .waiting ≡ 1 = eqb-true _ _ (not-false _ (b .0)) in
-    omega (arith, end-near t p one f z)
+    omega (arith, end-sized t p one f z)
 
 pub kind-near : (s : List ℕ) (p : ℕ) (rs : List Record) → Records s p rs → Clears rs → early (kindOf (byte s p)) (summary rs) ≡ 0 → after s p ≤ 2076
 kind-near s p rs before c e =
@@ -115,9 +118,9 @@ Near s (refused n p) = p ≤ 2076
 last-near : (s : List ℕ) (p : ℕ) (rs : List Record) (a : Answer) → Records s p rs → Clears rs → Last s p rs a → Near s a
 last-near s p rs a before c (stop e z) = near s p rs before c
 last-near s p rs a before c (tail w l) =
-    omega (arith, w .next, end-length s p (w .is), end-near (summary rs) p (w .clear .1) (few rs c) (sized s p rs before c))
+    omega (arith, w .next, end-length s p (w .is), end-near s p rs before c (w .clear .1))
 last-near s p rs a before c (done w l) =
-    omega (arith, w .next, end-length s p (w .is), end-near (summary rs) p (w .clear .1) (few rs c) (sized s p rs before c))
+    omega (arith, w .next, end-length s p (w .is), end-near s p rs before c (w .clear .1))
 
 pub accepted-length : (s : List ℕ) (t : Table) → reading s ≡ accepted t → length s ≤ 2065
 accepted-length s t e = let h = reading-ends s (accepted t) e in last-near s (h .place) (h .rs) (accepted t) (h .before) (h .clears) (h .last)
