@@ -20,7 +20,7 @@ use Rattle.model.specs.References.{destination, reads, references, refs}
 use Rattle.reader.specs.Reading.{Answer, accepted, refused, reading, loopsOf, tableOf}
 use Rattle.grounds.specs.Statements.{sum, loops, arrays}
 use Rattle.grounds.specs.Counted.{arrays-counted, elements-counted, loops-counted, Clears, loop-array, few}
-use Rattle.grounds.specs.Trace.{Last, stop, tail, done, End-of, reading-ends}
+use Rattle.grounds.specs.Trace.{Last, stop, tail, done, Ending, reading-ends}
 
 -- items worked after d waiting numbers: there is never a ninth, an operation is 1 to 5 and finds its operands, and exactly one remains
 abbrev pub Works : List Item → ℕ → Type 0
@@ -62,6 +62,25 @@ module _ (t : Table) (v : Valid t) where
       → (255 ≤ x .index + r .offset) × (x .index + r .offset - 255 < getD (t .lengths) (r .array) 0)
   valid-within x r h m = v .each (x .number) (h .0) .within r m (x .index) (h .1) (h .2)
 
+  -- a loop's iterations reach no further than its destination's array has elements
+  module _ (k : ℕ) (h : k < count t) where
+    stored : (i : ℕ) → first t k ≤ i → i ≤ last t k
+        → (255 ≤ i + v .each k h .statement .offset) × (i + v .each k h .statement .offset < 65536 + 255)
+    stored i a b =
+        let l = v .each k h in
+        let d = destination k (l .statement) in
+        let m : Mem d (references k (loop t k .body)) = subst (λ (x : List Statement). Mem d (references k x)) (sym (l .only)) (mhere refl) in
+        let w = l .within d m i a b in
+        (w .0, omega (arith, w .1, v .sizes (d .array) (l .known d m) .1))
+
+    pub valid-last : last t k ≤ 65790
+    valid-last = omega (arith, stored (last t k) (v .each k h .rising) (omega arith) .1)
+
+    pub valid-iterations : suc (last t k) - first t k ≤ 65536
+    valid-iterations =
+        let up = v .each k h .rising in
+        omega (arith, stored (first t k) (omega arith) up .0, stored (last t k) up (omega arith) .1)
+
 -- THE RECORDS OF AN ACCEPTED TABLE
 
 -- one more at the end of a list
@@ -81,7 +100,7 @@ unfolding lengths
 array-sizes [] c a h = absurd (omega arith)
 array-sizes (rec.Unknown ∷ rs) c a h = absurd (c .0)
 array-sizes (rec.Array n ∷ rs) c a h =
-    at-end (λ (k m : ℕ). (1 ≤ m) × (m ≤ 65536)) (lengths rs) n 0 (array-sizes rs (c .1)) (omega (arith, c .0 .2), c .0 .3) a h
+    at-end (λ (k m : ℕ). (1 ≤ m) × (m ≤ 65536)) (lengths rs) n 0 (array-sizes rs (c .1)) (omega (arith, c .0 .2), omega (arith, c .0 .3)) a h
 array-sizes (rec.Loop f l q o ∷ rs) c a h = array-sizes rs (c .1) a h
 array-sizes (rec.Read q o ∷ rs) c a h = array-sizes rs (c .1) a h
 array-sizes (rec.Constant n ∷ rs) c a h = array-sizes rs (c .1) a h
@@ -121,8 +140,8 @@ new-loop : (ns : List ℕ) (f l q o : ℕ) (xs : List Item) → f ≤ l → l �
     → Works xs 0 → length xs ≤ 32 → ((k : ℕ) (r : Reference) → Mem r (reads k xs) → Reached f l ns r)
     → (k : ℕ) → ValidLoop ns k (loopOf f l q o xs)
 new-loop ns f l q o xs up top store works few reach k = record {
-  rising = up;
-  bounded = top;
+  rising = omega arith;
+  bounded = omega arith;
   statement = statementOf q o xs;
   only = refl;
   few = few;
@@ -155,13 +174,13 @@ loops-valid (rec.Read q o ∷ rs) c xs fol k h = loops-valid rs (c .1) (read q o
     read-reach j r (mthere m) = fol .reach j r m
 
     then : Follow (summary rs) (lengths rs) (read q o ∷ xs)
-    then = record { works = (c .0 .4, fol .works); few = omega (arith, fol .few); reach = read-reach }
+    then = record { works = (omega (arith, c .0 .4), fol .works); few = omega (arith, fol .few); reach = read-reach }
 loops-valid (rec.Constant n ∷ rs) c xs fol k h =
     loops-valid rs (c .1) (constant n ∷ xs)
-    (record { works = (c .0 .2, fol .works); few = omega (arith, fol .few); reach = fol .reach }) k h
+    (record { works = (omega (arith, c .0 .2), fol .works); few = omega (arith, fol .few); reach = fol .reach }) k h
 loops-valid (rec.Operation o ∷ rs) c xs fol k h =
     loops-valid rs (c .1) (operation o ∷ xs)
-    (record { works = (c .0 .2, c .0 .3, c .0 .4, fol .works); few = omega (arith, fol .few); reach = fol .reach }) k h
+    (record { works = (omega (arith, c .0 .2), omega (arith, c .0 .3), c .0 .4, fol .works); few = omega (arith, fol .few); reach = fol .reach }) k h
 loops-valid (rec.End ∷ rs) c xs fol k h = loops-valid rs (c .1) xs fol k h
 
 -- THE THEOREM

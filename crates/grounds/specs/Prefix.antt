@@ -129,7 +129,7 @@ pub reading-take : (s : List ℕ) (n : ℕ) → 2077 ≤ n → reading (take n s
 reading-take s n h = go (decLe n (length s))
   where
     go : Dec (n ≤ length s) → reading (take n s) ≡ reading s
-    go (yes long) = whole-take s n h long
+    go (yes long) = whole-take s n (omega arith) long
     go (no short) = ap reading (take-all n s (omega arith))
 
 -- so the first 4,096 are

@@ -21,7 +21,7 @@ use Rattle.reader.specs.Reading.{Answer, accepted, refused, reading}
 use Rattle.grounds.specs.Places.{after, Records, start, next, end-length}
 use Rattle.grounds.specs.Counted.{Clears, Few, few}
 use Rattle.grounds.specs.Found.{nothing}
-use Rattle.grounds.specs.Trace.{Last, stop, tail, done, End-of, reading-ends}
+use Rattle.grounds.specs.Trace.{Last, stop, tail, done, Ending, reading-ends}
 
 -- A read or a constant is at most 5 bytes and adds a waiting number; an operation is 2 bytes, and takes away one number (binary) or none
 -- (unary). So w numbers wait after w + 2 binary + unary items, and these take at most 5 w + 7 binary + 2 unary bytes: at most 112 where one

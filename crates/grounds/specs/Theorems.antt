@@ -18,7 +18,7 @@ use Rattle.grounds.specs.Places.{after, Records, records-within, end-len
 use Rattle.grounds.specs.Statements.{loops, Misplaced, OutOfRange, OneTooMany, ManyElements, Unnumbered, NotOneLeft, NinthOrTooFew}
 use Rattle.grounds.specs.Statements.{Outside, OutsideArray, Torn, Tail, Ground, by-number, ground-number, ground-place}
 use Rattle.grounds.specs.Counted.{arrays-counted, elements-counted, loops-counted, body-counted, Clears, loop-array}
-use Rattle.grounds.specs.Trace.{Clean, Last, stop, tail, done, Run, last, pass, run-reading, End-of, reading-ends, Earlier, visited}
+use Rattle.grounds.specs.Trace.{Clean, Last, stop, tail, done, Run, last, pass, run-reading, Ending, reading-ends, Earlier, visited}
 use Rattle.grounds.specs.Found.{Found, ground-found, found-ground}
 
 -- WHERE A READING ENDS, ITS GROUND HOLDS
@@ -176,6 +176,14 @@ module _ (s : List ℕ) (a : Answer) (run : Run s 0 [] a) (q : ℕ) where
 -- an accepted table meets none of the grounds 1 to 8, at any place
 pub accepted-none : (s : List ℕ) (t : Table) → reading s ≡ accepted t → (n p : ℕ) → Ground n s p → ⊥
 accepted-none s t e n p g = ground-not-before s (accepted t) (subst (Run s 0 []) e (run-reading s)) p n g
+
+-- so a table is accepted exactly where none of them holds
+pub none-accepted : (s : List ℕ) → ((n p : ℕ) → Ground n s p → ⊥) → (t : Table) × (reading s ≡ accepted t)
+none-accepted s none = go (reading s) refl
+  where
+    go : (a : Answer) → reading s ≡ a → (t : Table) × (reading s ≡ accepted t)
+    go (accepted t) e = (t, e)
+    go (refused n p) e = absurd (none n p (refused-ground s n p e))
 
 -- a refusal carries the first place where any of the grounds 1 to 8 holds
 pub refused-first : (s : List ℕ) (n p : ℕ) → reading s ≡ refused n p → (m q : ℕ) → Ground m s q → p ≤ q

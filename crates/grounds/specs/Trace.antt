@@ -69,19 +69,19 @@ clean-next s p rs r n before w other =
     known e = subst (λ (x : Record). Clear x (summary rs) (lengths rs)) e (w .clear)
 
 -- where a reading ends
-pub record End-of (s : List ℕ) (a : Answer) : Type 0 where
+pub record Ending (s : List ℕ) (a : Answer) : Type 0 where
   pub place : ℕ
   pub rs : List Record
   pub before : Records s place rs
   pub clears : Clears rs
   pub last : Last s place rs a
 
-end-of : (s : List ℕ) (p : ℕ) (rs : List Record) (a : Answer) → Records s p rs → Clears rs → Run s p rs a → End-of s a
+end-of : (s : List ℕ) (p : ℕ) (rs : List Record) (a : Answer) → Records s p rs → Clears rs → Run s p rs a → Ending s a
 end-of s p rs a before c (last h) = record { place = p; rs = rs; before = before; clears = c; last = h }
 end-of s p rs a before c (pass {n} {r} w other h) = end-of s n (r ∷ rs) a (clean-next s p rs r n before w other) (w .clear, c) h
 
-pub reading-ends : (s : List ℕ) (a : Answer) → reading s ≡ a → End-of s a
-reading-ends s a e = subst (End-of s) e (end-of s 0 [] (reading s) start tt (run-reading s))
+pub reading-ends : (s : List ℕ) (a : Answer) → reading s ≡ a → Ending s a
+reading-ends s a e = subst (Ending s) e (end-of s 0 [] (reading s) start tt (run-reading s))
 
 -- a place after records is one that the reading comes to, or it ends earlier
 abbrev pub Earlier : Answer → ℕ → Type 0
