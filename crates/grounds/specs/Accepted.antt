@@ -1,9 +1,8 @@
 -- What an accepted table is.
-use Prim.Native.Nat.{ℕ, zero, suc, _+_, _-_, _≤_, _<_}
+use Prim.Native.Nat.{ℕ, suc, _+_, _-_, _≤_, _<_}
 use native.Mathlib.Omega.{arith}
 use native.Mathlib.Decide.{ℕ-discrete}
-use mathlib.Core.Path.{_≡_, refl, sym, subst, ap, _∙_}
-use mathlib.Core.Logic.{_⊎_, inl, inr, ⊎-elim}
+use mathlib.Core.Path.{_≡_, refl, sym, subst}
 use mathlib.Core.List.{List, [], _∷_, _++_, append-nil}
 use mathlib.Core.List.{List·Memᴰ as Mem, List·Memᴰ·head as mhere, List·Memᴰ·tail as mthere, List·Memᴰ·not-nil}
 use lib.ListN.{length, getD, length-append, List·getD-append}
@@ -11,7 +10,7 @@ use lib.Seq.{getD-at}
 use Rattle.records.specs.declared.Record.{Record}
 use Rattle.records.specs.declared.Record.the-variants as rec
 use Rattle.records.specs.declared.Summary.{Summary}
-use Rattle.records.specs.History.{summary, lengths, operands, advanced, blank, withArray, withLoop, withItem}
+use Rattle.records.specs.History.{summary, lengths, operands, advanced, withArray, withLoop, withItem}
 use Rattle.records.specs.Clear.{Clear, Within}
 use Rattle.model.specs.declared.Iteration.{Iteration}
 use Rattle.model.specs.declared.Reference.{Reference}
@@ -20,7 +19,7 @@ use Rattle.model.specs.References.{destination, reads, references, refs}
 use Rattle.reader.specs.Reading.{Answer, accepted, refused, reading, loopsOf, tableOf}
 use Rattle.grounds.specs.Statements.{sum, loops, arrays}
 use Rattle.grounds.specs.Counted.{arrays-counted, elements-counted, loops-counted, Clears, loop-array, few}
-use Rattle.grounds.specs.Trace.{Last, stop, tail, done, Ending, reading-ends}
+use Rattle.grounds.specs.Trace.{Last, stop, tail, done, reading-ends}
 
 -- items worked after d waiting numbers: there is never a ninth, an operation is 1 to 5 and finds its operands, and exactly one remains
 abbrev pub Works : List Item → ℕ → Type 0

@@ -1,10 +1,10 @@
 -- The summary that the tests look at, in the words of the statements; and what is known of records that met no ground.
-use Prim.Native.Nat.{ℕ, zero, suc, _+_, _-_, _≤_, _<_}
+use Prim.Native.Nat.{ℕ, _+_, _≤_, _<_}
 use native.Mathlib.Omega.{arith}
-use mathlib.Core.Path.{_≡_, refl, ap}
+use mathlib.Core.Path.{_≡_, refl}
 use mathlib.Core.Bool.{Bool, true, false, cond}
 use mathlib.Core.List.{List, [], _∷_, _++_}
-use lib.ListN.{length, length-append}
+use lib.ListN.{length-append}
 use lib.Dec.{eqb}
 use Rattle.records.specs.declared.Record.{Record}
 use Rattle.records.specs.declared.Record.the-variants.{Unknown, Array, Loop, Read, Constant, Operation, End}
@@ -12,7 +12,7 @@ use Rattle.records.specs.declared.Summary.{Summary}
 use Rattle.records.specs.History.{summary, lengths, advanced, blank, withArray, withLoop, operands}
 use Rattle.records.specs.History.{withItem as itemMore}
 use Rattle.records.specs.Clear.{Clear}
-use Rattle.grounds.specs.Statements.{arrays, sum, elements, loops, Latest, latest, items, waitingAfter, waiting}
+use Rattle.grounds.specs.Statements.{arrays, sum, elements, loops, latest, items, waitingAfter, waiting}
 
 pub sum-append : (ns ms : List ℕ) → sum (ns ++ ms) ≡ sum ns + sum ms
 sum-append [] ms = omega arith

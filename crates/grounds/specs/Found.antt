@@ -2,9 +2,9 @@
 use Prim.Native.Nat.{ℕ, zero, suc, _+_, _≤_, _<_}
 use native.Mathlib.Omega.{arith}
 use mathlib.Core.Path.{_≡_, refl, sym, subst, _∙_}
-use mathlib.Core.Logic.{_⊎_, inl, inr, ⊎-elim, _≢_}
+use mathlib.Core.Logic.{inl, inr, _≢_}
 use mathlib.Core.Bool.{Bool, true, false, not}
-use mathlib.Core.List.{List, [], _∷_}
+use mathlib.Core.List.{List}
 use lib.ListN.{length, getD}
 use lib.Dec.{ltb, leb, eqb}
 use borrow.Author.Tests.{ltb-true, ltb-false, leb-true, leb-false, eqb-true, eqb-false, not-true, not-false}
@@ -12,18 +12,14 @@ use Rattle.records.specs.declared.Kind.{Kind}
 use Rattle.records.specs.declared.Kind.the-variants as kind
 use Rattle.records.specs.declared.Record.{Record}
 use Rattle.records.specs.declared.Record.the-variants.{Unknown, Array, Loop, Read, Constant, Operation, End}
-use Rattle.records.specs.declared.Summary.{Summary}
-use Rattle.records.specs.Bytes.{byte, four, offset, kindOf, bodyLength, recordOf, recordAt}
+use Rattle.records.specs.Bytes.{byte, four, offset, kindOf, recordOf, recordAt}
 use Rattle.records.specs.History.{summary, lengths, operands}
 use Rattle.records.specs.Grounds.{_if_else_, early, edge, fields, orElse, ground}
-use Rattle.records.specs.Clear.{Clear, spanOf, span-kind}
-use Rattle.reader.specs.Reading.{Answer, accepted, refused, reading, tableOf}
-use Rattle.grounds.specs.Places.{after, Records, start, next, records-within}
+use Rattle.grounds.specs.Places.{after, Records, records-within}
 use Rattle.grounds.specs.Statements.{arrays, elements, loops, latest, items, waiting, Misplaced, OutOfRange, OneTooMany, ManyElements}
 use Rattle.grounds.specs.Statements.{Unnumbered, NotOneLeft, NinthOrTooFew, Outside, OutsideArray, AtKind, AtWhole}
-use Rattle.grounds.specs.Statements.{Torn, BadKind, BadField, Crowd, NoArray, BadBody, Edge, Tail, Ground}
-use Rattle.grounds.specs.Counted.{arrays-counted, elements-counted, loops-counted, Body, body-counted, Clears, loop-array, first-last, no-loop}
-use Rattle.grounds.specs.Trace.{Clean, Run, stop, tail, done, pass, run-reading}
+use Rattle.grounds.specs.Statements.{Edge, Ground}
+use Rattle.grounds.specs.Counted.{arrays-counted, elements-counted, loops-counted, Body, body-counted, Clears, first-last, no-loop}
 
 -- what a test's number says: 0 nothing, any other its ground
 abbrev pub Found : List ℕ → ℕ → ℕ → Type 0

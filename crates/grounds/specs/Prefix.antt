@@ -1,10 +1,10 @@
 -- The first 2,077 bytes of an input decide its answer: every table has ended or met a ground by then.
-use Prim.Native.Nat.{ℕ, zero, suc, _+_, _*_, _%_, _≤_, _<_}
+use Prim.Native.Nat.{ℕ, zero, suc, _+_, _≤_, _<_}
 use native.Mathlib.Omega.{arith}
 use native.Mathlib.Decide.{decLe}
 use mathlib.Core.Path.{_≡_, refl, sym, ap, subst, _∙_}
 use mathlib.Core.List.{List, [], _∷_}
-use lib.ListN.{length, getD, take}
+use lib.ListN.{length, take}
 use lib.Dec.{eqb, ltb, eqb·suc-zero}
 use lib.Seq.{getD-take, take-all, length-take-le}
 use borrow.Author.Tests.{lt-leb, le-ltb, lt-ltb}
@@ -14,12 +14,12 @@ use Rattle.records.specs.declared.Record.{Record}
 use Rattle.records.specs.declared.Summary.{Summary}
 use Rattle.records.specs.declared.Tested.{Tested}
 use Rattle.records.specs.declared.Tested.the-variants.{Refused, Passed, Ended}
-use Rattle.records.specs.Bytes.{byte, two, four, offset, kindOf, bodyLength, recordOf, recordAt}
+use Rattle.records.specs.Bytes.{byte, two, four, offset, kindOf, recordOf, recordAt}
 use Rattle.records.specs.History.{summary, lengths}
-use Rattle.records.specs.Grounds.{_if_else_, orElse, early, fields, ground, passed, pick, tested}
+use Rattle.records.specs.Grounds.{early, fields, ground, passed, pick, tested}
 use Rattle.records.specs.Clear.{spanOf, span-kind}
 use Rattle.records.specs.Outcome.{passed-whole, ended-whole}
-use Rattle.reader.specs.Reading.{Answer, accepted, refused, tableOf, choose, follow, readFrom, reading}
+use Rattle.reader.specs.Reading.{accepted, refused, tableOf, choose, follow, readFrom, reading}
 use Rattle.grounds.specs.Places.{after, Records, start, end-length}
 use Rattle.grounds.specs.Counted.{Clears}
 use Rattle.grounds.specs.Trace.{clean-next}

@@ -1,9 +1,9 @@
 -- How many bytes the records of a table take: a table ends within 2,065 bytes, and a refusal's place is at most 2,076.
-use Prim.Native.Nat.{ℕ, zero, suc, _+_, _*_, _-_, _≤_, _<_}
+use Prim.Native.Nat.{ℕ, _+_, _*_, _-_, _≤_, _<_}
 use native.Mathlib.Omega.{arith}
-use mathlib.Core.Path.{_≡_, refl, sym, subst}
+use mathlib.Core.Path.{_≡_, refl}
 use mathlib.Core.Bool.{Bool, true, false, cond, not}
-use mathlib.Core.List.{List, [], _∷_}
+use mathlib.Core.List.{List}
 use lib.Dec.{eqb, leb, ltb}
 use lib.ListN.{length}
 use borrow.Author.Tests.{leb-false, eqb-true, not-false}
@@ -12,7 +12,7 @@ use Rattle.records.specs.declared.Kind.the-variants as kind
 use Rattle.records.specs.declared.Record.{Record}
 use Rattle.records.specs.declared.Record.the-variants.{Unknown, Array, Loop, Read, Constant, Operation, End}
 use Rattle.records.specs.declared.Summary.{Summary}
-use Rattle.records.specs.Bytes.{byte, kindOf, bodyLength, recordOf, recordAt}
+use Rattle.records.specs.Bytes.{byte, kindOf, recordOf, recordAt}
 use Rattle.records.specs.History.{summary, lengths, advanced, blank, withArray, withLoop, withItem, operands}
 use Rattle.records.specs.Grounds.{_if_else_, early}
 use Rattle.records.specs.Clear.{Clear, spanOf, span-kind}
@@ -21,7 +21,7 @@ use Rattle.reader.specs.Reading.{Answer, accepted, refused, reading}
 use Rattle.grounds.specs.Places.{after, Records, start, next, end-length}
 use Rattle.grounds.specs.Counted.{Clears, Few, few}
 use Rattle.grounds.specs.Found.{nothing}
-use Rattle.grounds.specs.Trace.{Last, stop, tail, done, Ending, reading-ends}
+use Rattle.grounds.specs.Trace.{Last, stop, tail, done, reading-ends}
 
 -- A read or a constant is at most 5 bytes and adds a waiting number; an operation is 2 bytes, and takes away one number (binary) or none
 -- (unary). So w numbers wait after w + 2 binary + unary items, and these take at most 5 w + 7 binary + 2 unary bytes: at most 112 where one

@@ -1,24 +1,22 @@
 -- A refusal is given only where its ground holds, and an accepted table meets none of the grounds 1 to 8.
-use Prim.Native.Nat.{ℕ, zero, suc, _+_, _≤_, _<_}
+use Prim.Native.Nat.{ℕ, _≤_, _<_}
 use native.Mathlib.Omega.{arith}
 use mathlib.Core.Path.{_≡_, refl, sym, subst, _∙_}
-use mathlib.Core.Logic.{_⊎_, inl, inr, ⊎-elim}
-use mathlib.Core.List.{List, [], _∷_}
+use mathlib.Core.Logic.{⊎-elim}
+use mathlib.Core.List.{List, []}
 use lib.ListN.{length, getD}
-use Rattle.records.specs.declared.Kind.{Kind}
-use Rattle.records.specs.declared.Kind.the-variants as kind
 use Rattle.records.specs.declared.Record.{Record}
 use Rattle.records.specs.declared.Record.the-variants.{Unknown, Array, Loop, Read, Constant, Operation, End}
-use Rattle.records.specs.Bytes.{byte, kindOf, bodyLength, recordOf, recordAt}
+use Rattle.records.specs.Bytes.{recordAt}
 use Rattle.records.specs.History.{summary, lengths}
-use Rattle.records.specs.Clear.{Clear, Within, spanOf, span-kind}
+use Rattle.records.specs.Clear.{Clear, Within}
 use Rattle.reader.specs.Reading.{Answer, accepted, refused, reading}
 use Rattle.model.specs.Table.{Table}
-use Rattle.grounds.specs.Places.{after, Records, records-within, end-length}
+use Rattle.grounds.specs.Places.{Records, end-length}
 use Rattle.grounds.specs.Statements.{loops, Misplaced, OutOfRange, OneTooMany, ManyElements, Unnumbered, NotOneLeft, NinthOrTooFew}
 use Rattle.grounds.specs.Statements.{Outside, OutsideArray, Torn, Tail, Ground, by-number, ground-number, ground-place}
 use Rattle.grounds.specs.Counted.{arrays-counted, elements-counted, loops-counted, body-counted, Clears, loop-array}
-use Rattle.grounds.specs.Trace.{Clean, Last, stop, tail, done, Run, last, pass, run-reading, Ending, reading-ends, Earlier, visited}
+use Rattle.grounds.specs.Trace.{Clean, Last, stop, tail, done, Run, last, pass, run-reading, reading-ends, Earlier, visited}
 use Rattle.grounds.specs.Found.{Found, ground-found, found-ground}
 
 -- WHERE A READING ENDS, ITS GROUND HOLDS
@@ -39,6 +37,9 @@ refused-ground s n p e = let h = reading-ends s (refused n p) e in meaning s (h 
 -- A RECORD THAT MET NO GROUND IS NO GROUND FOR ANY REFUSAL
 abbrev Refuted : (Record → List Record → Type 0) → List Record → Type 0
 Refuted G rs = (r : Record) → Clear r (summary rs) (lengths rs) → G r rs → ⊥
+
+not-outside : (f l o n : ℕ) → Within f l o n → Outside f l o n → ⊥
+not-outside f l o n w (i, up, down, out) = ⊎-elim (λ e. omega arith) (λ e. omega arith) out
 
 module _ (rs : List Record) (clears : Clears rs) where
   not-misplaced : Refuted Misplaced rs
@@ -107,9 +108,6 @@ module _ (rs : List Record) (clears : Clears rs) where
   not-ninth-or-too-few (Operation o) c g = omega (arith, c .4, g .1, body-counted rs (g .0) .waiting)
   not-ninth-or-too-few End c g = g
 
-  not-outside : (f l o n : ℕ) → Within f l o n → Outside f l o n → ⊥
-  not-outside f l o n w (i, up, down, out) = ⊎-elim (λ e. omega arith) (λ e. omega arith) out
-
   not-outside-array : Refuted OutsideArray rs
   not-outside-array Unknown c g = g
   not-outside-array (Array n) c g = g
@@ -122,7 +120,7 @@ module _ (rs : List Record) (clears : Clears rs) where
   not-outside-array End c g = g
 
 -- A GROUND HOLDS AT NO PLACE BEFORE THAT OF THE REFUSAL, and with a table at none
-abbrev pub NotBefore : Answer → ℕ → Type 0
+abbrev NotBefore : Answer → ℕ → Type 0
 NotBefore (accepted t) q = ⊥
 NotBefore (refused n p) q = p ≤ q
 
