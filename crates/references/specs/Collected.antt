@@ -39,7 +39,7 @@ snoc c i (suc n) =
     let e : suc i + n ≡ i + suc n = omega arith in
     ap (λ (l : List Reference). refAt c i ∷ l) (snoc c (suc i) n ∙ ap (λ (j : ℕ). refsFrom c (suc i) n ++ (refAt c j ∷ [])) e)
 
-same-before : (c d : Columns) (m : ℕ) → ((j : ℕ) → j < m → refAt c j ≡ refAt d j) → (i n : ℕ) → i + n ≤ m → refsFrom c i n ≡ refsFrom d i n
+pub same-before : (c d : Columns) (m : ℕ) → ((j : ℕ) → j < m → refAt c j ≡ refAt d j) → (i n : ℕ) → i + n ≤ m → refsFrom c i n ≡ refsFrom d i n
 unfolding refsFrom
 same-before c d m e i zero h = refl
 same-before c d m e i (suc n) h =

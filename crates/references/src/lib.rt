@@ -1,4 +1,5 @@
 // The references of a table: from the columns of its reading to the columns that the chains are found in.
+use chains::Amounts;
 ghost use mathlib.Core.Path.{_≡_};
 ghost use mathlib.Core.Bool.{true};
 ghost use mathlib.Core.List.{_++_, _∷_, []};
@@ -9,8 +10,9 @@ ghost use Rattle.model.specs.References.{reads, refs};
 ghost use Rattle.reader.specs.Columns.{itemsFrom, tableAt};
 ghost use Rattle.reader.specs.Columns.{columns as kept};
 ghost use Rattle.reader.specs.Stored.{Row, Kept};
-ghost use Rattle.chains.specs.Columns.{columns, refsFrom};
-ghost use Rattle.references.specs.Collected.{Long, withReference, Added, Held, Collected};
+ghost use Rattle.chains.specs.Columns.{columns};
+ghost use Rattle.chains.specs.Walk.{shifts, peels};
+ghost use Rattle.references.specs.Collected.{Long, withReference, Added, Held, Collected, rowRefs};
 
 // One reference more, at place n.
 fn put_reference(
@@ -172,4 +174,34 @@ pub fn collect(
         k += 1;
     }
     n
+}
+
+// The shifts and peels of a table in columns.
+pub fn amounts_of(
+    count: usize,
+    starts: &[usize; 17],
+    kinds: &[u8; 528],
+    arrays: &[u32; 528],
+    values: &[u32; 528],
+) -> Amounts
+    requires { ⌜ Held (now starts) (now kinds) (now arrays) (now values) count ⌝ }
+    ensures { λ r. ⌜ r .shifts ≡ shifts (joined count (rowRefs (now (starts .entry)) (now (kinds .entry)) (now (arrays .entry)) (now (values .entry)))) ⌝ }
+    ensures { λ r. ⌜ r .peels ≡ peels (joined count (rowRefs (now (starts .entry)) (now (kinds .entry)) (now (arrays .entry)) (now (values .entry)))) ⌝ }
+{
+    let mut loops = [0u8; 528];
+    let mut names = [0u8; 528];
+    let mut offsets = [0u16; 528];
+    let mut stores = [0u8; 528];
+    let n = collect(
+        count,
+        starts,
+        kinds,
+        arrays,
+        values,
+        &mut loops,
+        &mut names,
+        &mut offsets,
+        &mut stores,
+    );
+    chains::shifts_and_peels(&loops[..n], &names[..n], &offsets[..n], &stores[..n])
 }
