@@ -2,3 +2,5 @@
 pub mod Serial
 -- ground 9: the statement, and that the test decides it
 pub mod Meeting
+-- a table is accepted where no loop collides
+pub mod Parallel

@@ -1,0 +1,2 @@
+-- two tables joined: the answer, and what the lent output then holds
+pub mod Joining

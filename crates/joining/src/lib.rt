@@ -1,0 +1,1 @@
+// Joins two loop tables.
