@@ -6,3 +6,7 @@ pub mod References
 pub mod Bodies
 -- the plain run
 pub mod PlainRun
+-- what holds of a table that is not refused
+pub mod Sound
+-- which iterations commute
+pub mod Commute

@@ -2,12 +2,14 @@
 use Prim.Native.Nat.{ℕ, zero, suc, _+_, _-_, _≤_, _<_}
 use mathlib.Core.Bool.{cond}
 use mathlib.Core.List.{List, [], _∷_}
-use lib.ListN.{getD, set, take}
+use native.Mathlib.Omega.{arith}
+use mathlib.Core.Path.{_≡_, refl, ap, _∙_}
+use lib.ListN.{getD, set, take, length}
 use lib.Dec.{eqb}
 use Rattle.records.specs.declared.Record.{Record}
 use Rattle.records.specs.declared.Record.the-variants as rec
 use Rattle.records.specs.declared.Summary.{Summary}
-use Rattle.model.specs.Table.{Item, read, constant, operation, Statement, Loop, Table}
+use Rattle.model.specs.Table.{Item, read, constant, operation, Statement, Loop, Table, noLoop, loop, count}
 use Rattle.reader.specs.declared.Reading.{Reading}
 use Rattle.reader.specs.declared.Reading.the-variants.{Refused, Accepted}
 use Rattle.reader.specs.Reading.{Answer, accepted, refused}
@@ -131,3 +133,22 @@ pub record Places (t : Summary) (r : ℕ) : Type 0 where
   pub arrays : t .arrays ≤ 16
   pub loops : t .loops ≤ 16
   pub rows : r ≤ 528
+
+-- LAWS: the table in the columns has so many loops, and each is where it is kept
+module _ (c : Columns) where
+  length-loops : (k n : ℕ) → length (loopsFrom c k n) ≡ n
+  unfolding loopsFrom
+  length-loops k zero = refl
+  length-loops k (suc n) = ap suc (length-loops (suc k) n)
+
+  getD-loops : (k n j : ℕ) → j < n → getD (loopsFrom c k n) j noLoop ≡ loopAt c (k + j)
+  unfolding loopsFrom
+  getD-loops k zero j l = absurd (omega arith)
+  getD-loops k (suc n) zero l = let e : k ≡ k + 0 = omega arith in ap (loopAt c) e
+  getD-loops k (suc n) (suc j) l = let e : suc k + j ≡ k + suc j = omega arith in getD-loops (suc k) n j (omega arith) ∙ ap (loopAt c) e
+
+  pub count-table : (a l : ℕ) → count (tableAt c a l) ≡ l
+  count-table a l = length-loops 0 l
+
+  pub loop-table : (a l k : ℕ) → k < l → loop (tableAt c a l) k ≡ loopAt c k
+  loop-table a l k h = let e : 0 + k ≡ k = omega arith in getD-loops 0 l k h ∙ ap (loopAt c) e

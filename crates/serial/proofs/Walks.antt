@@ -8,9 +8,9 @@ use mathlib.Core.List.{List, [], _∷_}
 use lib.ListN.{getD, length}
 use lib.Dec.{eqb}
 use borrow.Author.Tests.{eq-eqb, ne-eqb}
-use Rattle.model.specs.Table.{Item, read, constant, operation, Loop, Table, noLoop, loop, count}
+use Rattle.model.specs.Table.{Item, read, constant, operation, Loop, Table, loop}
 use Rattle.reader.specs.Reading.{Answer, accepted, refused, reading}
-use Rattle.reader.specs.Columns.{Columns, itemOf, itemAt, itemsFrom, loopAt, loopsFrom, tableAt}
+use Rattle.reader.specs.Columns.{Columns, itemOf, itemAt, itemsFrom, loopAt, tableAt, loop-table, count-table}
 use Rattle.reader.specs.Stored.{Sized, Kept, starts-up}
 use Rattle.serial.specs.declared.Collision.{Collision}
 use Rattle.serial.specs.declared.Collision.the-variants.{Nothing, Read}
@@ -84,24 +84,6 @@ rows-known c a l rows h k m =
     (omega (arith, h .few-loops), omega (arith, p, h .rising k m, h .end, h .few-rows), rw (add-one k) (omega (arith, p, h .end, h .few-rows)))
 
 module _ (c : Columns) (a : ℕ) where
-  length-loops : (k n : ℕ) → length (loopsFrom c k n) ≡ n
-  unfolding loopsFrom
-  length-loops k zero = refl
-  length-loops k (suc n) = ap suc (length-loops (suc k) n)
-
-  getD-loops : (k n j : ℕ) → j < n → getD (loopsFrom c k n) j noLoop ≡ loopAt c (k + j)
-  unfolding loopsFrom
-  getD-loops k zero j l = absurd (omega arith)
-  getD-loops k (suc n) zero l = let e : k ≡ k + 0 = omega arith in ap (loopAt c) e
-  getD-loops k (suc n) (suc j) l = let e : suc k + j ≡ k + suc j = omega arith in getD-loops (suc k) n j (omega arith) ∙ ap (loopAt c) e
-
-  -- the table in the columns has so many loops, and each is where it is kept
-  pub count-table : (l : ℕ) → count (tableAt c a l) ≡ l
-  count-table l = length-loops 0 l
-
-  pub loop-table : (l k : ℕ) → k < l → loop (tableAt c a l) k ≡ loopAt c k
-  loop-table l k h = let e : 0 + k ≡ k = omega arith in getD-loops 0 l k h ∙ ap (loopAt c) e
-
   module _ (l rows : ℕ) where
     -- the loops from k on give what all loops give
     pub record LoopInv (k : ℕ) : Type 0 where
@@ -116,7 +98,7 @@ module _ (c : Columns) (a : ℕ) where
       unfolding serialFrom
       turn =
           let e : l - k ≡ suc (l - suc k) = omega arith in
-          let f : loopHit (loop (tableAt c a l) k) ≡ x = ap loopHit (loop-table l k h) ∙ sym found in
+          let f : loopHit (loop (tableAt c a l) k) ≡ x = ap loopHit (loop-table c a l k h) ∙ sym found in
           rw f at (subst (λ (n : ℕ). serialFrom (tableAt c a l) k n ≡ serialFrom (tableAt c a l) 0 l) e (inv .rest))
 
       pub loop-passed : x ≡ Nothing → LoopInv (k + 1)
@@ -137,13 +119,14 @@ module _ (c : Columns) (s : List ℕ) (a l rows : ℕ) (e : accepted (tableAt c 
   whole = ap (serialFrom (tableAt c a l) 0) (sym (count-table c a l)) ∙ ap through e
 
   left : Sized c × Kept c a l rows → (r : Checked) → Which r c a l rows → Left r c s
-  left f (Refused g p) h = tt
+  left f (Refused g p) h = absurd h
   left f (Serial k n) h = (a, l, sym e, h .0, h .1)
   left f (Accepted b m r) h = rw (h .0, h .1, h .2) f
 
   pub checked : Sized c × Kept c a l rows → (r : Checked) → Lowest r c a l rows → (answer r c ≡ table s) × Left r c s
   checked f r h = (h .is ∙ whole, left f r (h .named))
 
-pub refused-reading : (c : Columns) (s : List ℕ) (g p : ℕ) → refused g p ≡ reading s → answer (Refused g p) c ≡ table s
+pub refused-reading : (c : Columns) (s : List ℕ) (g p : ℕ) → refused g p ≡ reading s
+    → (answer (Refused g p) c ≡ table s) × Left (Refused g p) c s
 unfolding table through answer
-refused-reading c s g p e = ap through e
+refused-reading c s g p e = (ap through e, sym e)

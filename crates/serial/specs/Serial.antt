@@ -70,8 +70,9 @@ pub record Lowest (r : Checked) (c : Columns) (a l rows : ℕ) : Type 0 where
   pub is : answer r c ≡ serialFrom (tableAt c a l) 0 l
   pub named : Which r c a l rows
 
--- what is left with the answer: an accepted table's columns, and of 9 that the loop is one of the table, with its first read that collides
+-- what is left with the answer: that the reading refused; of 9 that the loop is one of the table, with its first read that collides;
+-- an accepted table's columns
 abbrev pub Left : Checked → Columns → List ℕ → Type 0
-Left (Refused g p) c s = Unit {0}
+Left (Refused g p) c s = reading s ≡ refused g p
 Left (Serial k n) c s = (a : ℕ) × (l : ℕ) × (reading s ≡ accepted (tableAt c a l)) × (k < l) × (loopHit (loopAt c k) ≡ Read n)
 Left (Accepted a l r) c s = Sized c × Kept c a l r

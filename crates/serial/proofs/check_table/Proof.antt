@@ -24,7 +24,7 @@ check-loops-requires c κs = let z = c .before .before .before .before .before .
 
 returns : tie.Need-returns
 unfolding answer
-returns c = let z = c .before .before .before .read-table .last in let d = columns (z .1 .0) (z .1 .1 .0) (z .1 .1 .1 .0) (z .1 .1 .1 .1 .0) (z .1 .1 .1 .1 .1 .0) (z .1 .1 .1 .1 .1 .1 .0) (z .1 .1 .1 .1 .1 .1 .1 .0) in let e = subst (λ (x : Reading). answer x d ≡ reading (now (c .before .before .before .before .before .before .before .before .before .before .before .before .args .s))) (c .before .r .given .1) (c .before .before .before .read-table .ensures .0) in (refused-reading d (now (c .before .before .before .before .before .before .before .before .before .before .before .before .args .s)) _ _ e, tt)
+returns c = let z = c .before .before .before .read-table .last in let d = columns (z .1 .0) (z .1 .1 .0) (z .1 .1 .1 .0) (z .1 .1 .1 .1 .0) (z .1 .1 .1 .1 .1 .0) (z .1 .1 .1 .1 .1 .1 .0) (z .1 .1 .1 .1 .1 .1 .1 .0) in let e = subst (λ (x : Reading). answer x d ≡ reading (now (c .before .before .before .before .before .before .before .before .before .before .before .before .args .s))) (c .before .r .given .1) (c .before .before .before .read-table .ensures .0) in refused-reading d (now (c .before .before .before .before .before .before .before .before .before .before .before .before .args .s)) _ _ e
 
 returns-2 : tie.Need-returns-2
 unfolding answer

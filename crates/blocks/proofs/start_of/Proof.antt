@@ -1,0 +1,37 @@
+-- `blocks::start_of` meets its contract: each block before b has T / P indices, and the first (T mod P) have one more. Assumes nothing.
+use native.Mathlib.Omega.{arith}
+use Rattle.blocks.specs.Blocks.{start-fits, start-at}
+use borrow.Author.Needs.{needs}
+use Rattle.blocks.proofs.start_of.Statement.{statement}
+use Rattle.blocks.proofs.start_of.Tie as tie
+
+div-result : tie.Need-div-result
+div-result c = search needs
+
+mul-result : tie.Need-mul-result
+mul-result c =
+    let a = c .args in
+    let p = c .pre in
+    omega (arith, start-fits (a .count) (a .blocks) (a .b) (p .1) (p .0))
+
+rem-lesser : tie.Need-rem-lesser
+rem-lesser c = search needs
+
+lesser-requires : tie.Need-lesser-requires
+lesser-requires c κs = search needs
+
+add-result : tie.Need-add-result
+add-result c =
+    let a = c .before .args in
+    let p = c .before .pre in
+    omega (arith, start-fits (a .count) (a .blocks) (a .b) (p .1) (p .0))
+
+returns : tie.Need-returns
+returns c =
+    let a = c .before .args in
+    let p = c .before .pre in
+    (omega (arith, start-at (a .count) (a .blocks) (a .b)), omega (arith, start-fits (a .count) (a .blocks) (a .b) (p .1) (p .0)))
+
+pub start-of-spec : {M : Type 1} → statement M
+start-of-spec =
+    tie.close (tie.spec div-result mul-result rem-lesser lesser-requires add-result returns)

@@ -1,0 +1,100 @@
+-- The sum, the largest and the least of h 0, .., h (n - 1); and whether some of them passes a test. Assumes nothing.
+use mathlib.Core.Path.{_≡_, refl, ap}
+use mathlib.Core.Bool.{Bool, true, false, false≢true, _||_}
+use mathlib.Core.List.{List}
+use Prim.Native.Nat.{ℕ, zero, suc, _+_, _≤_, _<_, min, max}
+use native.Mathlib.Decide.{ℕ-discrete}
+use native.Mathlib.Numerals.{add-one}
+use native.Mathlib.Omega.{arith}
+use lib.ListN.{getD}
+
+abbrev pub total : ℕ → (ℕ → ℕ) → ℕ
+total zero h = 0
+total (suc n) h = total n h + h n
+
+-- 0 if there is none
+abbrev pub largest : ℕ → (ℕ → ℕ) → ℕ
+largest zero h = 0
+largest (suc n) h = max (largest n h) (h n)
+
+-- for n of 1 or more
+abbrev pub least : ℕ → (ℕ → ℕ) → ℕ
+least zero h = h 0
+least (suc n) h = min (least n h) (h n)
+
+abbrev pub some : ℕ → (ℕ → Bool) → Bool
+some zero f = false
+some (suc n) f = some n f || f n
+
+-- numbers kept in a list
+abbrev pub column : List ℕ → ℕ → ℕ
+column l k = getD l k 0
+
+-- LAWS
+pub total-same : (n : ℕ) (g h : ℕ → ℕ) → ((k : ℕ) → k < n → g k ≡ h k) → total n g ≡ total n h
+total-same zero g h e = refl
+total-same (suc n) g h e = omega (arith, total-same n g h (λ k l. e k (omega arith)), e n (omega arith))
+
+pub total-zero : (n : ℕ) (h : ℕ → ℕ) → ((k : ℕ) → k < n → h k ≡ 0) → total n h ≡ 0
+total-zero zero h e = refl
+total-zero (suc n) h e = omega (arith, total-zero n h (λ k l. e k (omega arith)), e n (omega arith))
+
+pub total-add : (n : ℕ) (f g h : ℕ → ℕ) → ((k : ℕ) → k < n → f k ≡ g k + h k) → total n f ≡ total n g + total n h
+total-add zero f g h e = refl
+total-add (suc n) f g h e = omega (arith, total-add n f g h (λ k l. e k (omega arith)), e n (omega arith))
+
+pub total-up : (m n : ℕ) (h : ℕ → ℕ) → m ≤ n → total m h ≤ total n h
+total-up m zero h l = let e : m ≡ 0 = omega arith in omega (arith, ap (λ (k : ℕ). total k h) e)
+total-up m (suc n) h l = go (ℕ-discrete m (suc n)) (total-up m n h)
+  where
+    go : Dec (m ≡ suc n) → (m ≤ n → total m h ≤ total n h) → total m h ≤ total (suc n) h
+    go (yes e) ih = omega (arith, ap (λ (k : ℕ). total k h) e)
+    go (no e) ih = omega (arith, ih (omega arith))
+
+pub total-next : (k : ℕ) (h : ℕ → ℕ) (sum x : ℕ) → sum ≡ total k h → x ≡ h k → sum + x ≡ total (k + 1) h
+total-next k h sum x e q = rw add-one (omega arith)
+
+pub largest-same : (n : ℕ) (g h : ℕ → ℕ) → ((k : ℕ) → k < n → g k ≡ h k) → largest n g ≡ largest n h
+largest-same zero g h e = refl
+largest-same (suc n) g h e = omega (arith, largest-same n g h (λ k l. e k (omega arith)), e n (omega arith))
+
+pub largest-bound : (n k : ℕ) (h : ℕ → ℕ) → k < n → h k ≤ largest n h
+largest-bound zero k h l = absurd (omega arith)
+largest-bound (suc n) k h l = go (ℕ-discrete k n) (largest-bound n k h)
+  where
+    go : Dec (k ≡ n) → (k < n → h k ≤ largest n h) → h k ≤ largest (suc n) h
+    go (yes e) ih = omega (arith, ap h e)
+    go (no e) ih = omega (arith, ih (omega arith))
+
+pub largest-next : (k : ℕ) (h : ℕ → ℕ) (most x : ℕ) → most ≡ largest k h → x ≡ h k → max most x ≡ largest (k + 1) h
+largest-next k h most x e q = rw add-one (omega arith)
+
+pub least-same : (n : ℕ) (g h : ℕ → ℕ) → 0 < n → ((k : ℕ) → k < n → g k ≡ h k) → least n g ≡ least n h
+least-same zero g h l e = absurd (omega arith)
+least-same (suc zero) g h l e = omega (arith, e 0 (omega arith))
+least-same (suc (suc n)) g h l e =
+    omega (arith, least-same (suc n) g h (omega arith) (λ k l. e k (omega arith)), e (suc n) (omega arith))
+
+pub least-bound : (n k : ℕ) (h : ℕ → ℕ) → k < n → least n h ≤ h k
+least-bound zero k h l = absurd (omega arith)
+least-bound (suc n) k h l = go (ℕ-discrete k n) (least-bound n k h)
+  where
+    go : Dec (k ≡ n) → (k < n → least n h ≤ h k) → least (suc n) h ≤ h k
+    go (yes e) ih = omega (arith, ap h e)
+    go (no e) ih = omega (arith, ih (omega arith))
+
+pub least-next : (k : ℕ) (h : ℕ → ℕ) (low x : ℕ) → low ≡ least k h → x ≡ h k → min low x ≡ least (k + 1) h
+least-next k h low x e q = rw add-one (omega arith)
+
+pub some-here : (n b : ℕ) (f : ℕ → Bool) → b < n → f b ≡ true → some n f ≡ true
+some-here zero b f l e = absurd (omega arith)
+some-here (suc n) b f l e = go (ℕ-discrete b n) (some n f) (f n) refl (λ i. some-here n b f i e)
+  where
+    go : Dec (b ≡ n) → (x y : Bool) → f n ≡ y → (b < n → x ≡ true) → (x || y) ≡ true
+    go d true y q ih = refl
+    go (yes d) false y q ih = cc (ap f d)
+    go (no d) false y q ih = absurd (false≢true (ih (omega arith)))
+
+pub some-none : (n : ℕ) (f : ℕ → Bool) → ((b : ℕ) → b < n → f b ≡ false) → some n f ≡ false
+some-none zero f h = refl
+some-none (suc n) f h = rw (some-none n f (λ b l. h b (omega arith)), h n (omega arith))

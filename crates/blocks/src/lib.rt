@@ -1,0 +1,141 @@
+// How the indices are cut into blocks, which part of a loop each block has, and when a block is too short.
+
+ghost use mathlib.Core.Path.{_≡_};
+ghost use mathlib.Core.Bool.{cond};
+ghost use Prim.Native.Nat.{ℕ, _+_, _-_, _*_, _/_, _%_, _^_, _≤_, _<_, min, max};
+ghost use lib.Dec.{eqb};
+ghost use lib.ListN.{length, getD};
+ghost use Rattle.blocks.specs.Sums.{column};
+ghost use Rattle.blocks.specs.Span.{spanOf};
+ghost use Rattle.blocks.specs.Blocks.{start, block, isShort};
+ghost use Rattle.blocks.specs.Parts.{fusedPart, peeledPart};
+
+// The indices from `from` up to `past`, `past` not among them.
+pub struct Range {
+    pub from: u32,
+    pub past: u32,
+}
+
+// `count` indices from `first` on.
+pub struct Span {
+    pub first: u32,
+    pub count: u32,
+}
+
+fn lesser(x: u32, y: u32) -> u32
+    ensures { λ r. ⌜ r ≡ min x y ⌝ }
+{
+    if x < y { x } else { y }
+}
+
+fn greater(x: u32, y: u32) -> u32
+    ensures { λ r. ⌜ r ≡ max x y ⌝ }
+{
+    if x < y { y } else { x }
+}
+
+// The difference, 0 where it would be below.
+fn minus(x: u32, y: u32) -> u32
+    ensures { λ r. ⌜ r ≡ x - y ⌝ }
+{
+    if x < y { 0 } else { x - y }
+}
+
+// The indices that loops run over: the least first, and how many up to the greatest last.
+pub fn span_of(firsts: &[u32], lasts: &[u32]) -> Span
+    requires { ⌜ (0 < length (now firsts)) × (length (now firsts) ≤ length (now lasts)) × ((k : ℕ) → k < length (now firsts) → getD (now lasts) k 0 < 2 ^ 31) ⌝ }
+    ensures { λ r. ⌜ r ≡ spanOf (length (now (firsts .entry))) (column (now (firsts .entry))) (column (now (lasts .entry))) ⌝ }
+{
+    let mut low = firsts[0];
+    let mut high: u32 = 0;
+    let mut k: usize = 0;
+    while k < firsts.len() {
+        low = lesser(low, firsts[k]);
+        high = greater(high, lasts[k]);
+        k += 1;
+    }
+    Span {
+        first: low,
+        count: minus(high + 1, low),
+    }
+}
+
+// How many of `count` indices stand before block b of `blocks`.
+fn start_of(count: u32, blocks: u32, b: u32) -> u32
+    requires { ⌜ (0 < blocks) × (b ≤ blocks) ⌝ }
+    ensures { λ r. ⌜ (r ≡ start count blocks b) × (r ≤ count) ⌝ }
+{
+    b * (count / blocks) + lesser(b, count % blocks)
+}
+
+// Block b of `blocks` of the `count` indices from `first` on.
+pub fn block_of(first: u32, count: u32, blocks: u32, b: u32) -> Range
+    requires { ⌜ (b < blocks) × (first + count < 2 ^ 32) ⌝ }
+    ensures { λ r. ⌜ r ≡ block first count blocks b ⌝ }
+{
+    Range {
+        from: first + start_of(count, blocks, b),
+        past: first + start_of(count, blocks, b + 1),
+    }
+}
+
+// Ground 11. The last block is the smallest, so it alone is held to the threshold.
+pub fn short(count: u32, blocks: u32, threshold: u32) -> bool
+    ensures { λ r. ⌜ r ≡ isShort count blocks threshold ⌝ }
+{
+    if count < blocks {
+        return true;
+    }
+    if blocks < 2 {
+        return false;
+    }
+    count / blocks < threshold
+}
+
+fn fused_from(own: u32, from: u32, b: u32, peel: u32) -> u32
+    requires { ⌜ from + peel < 2 ^ 32 ⌝ }
+    ensures { λ r. ⌜ r ≡ cond (eqb b 0) own (max (from + peel) own) ⌝ }
+{
+    if b == 0 {
+        own
+    } else {
+        greater(from + peel, own)
+    }
+}
+
+fn fused_past(own: u32, past: u32, blocks: u32, b: u32, shift: u32) -> u32
+    requires { ⌜ b < blocks ⌝ }
+    ensures { λ r. ⌜ r ≡ cond (eqb (b + 1) blocks) own (min (past - shift) own) ⌝ }
+{
+    if b + 1 == blocks {
+        own
+    } else {
+        lesser(minus(past, shift), own)
+    }
+}
+
+// The fused part of a loop, with the bounds `own`, in block b of `blocks`.
+pub fn fused_part(own: Range, blk: Range, blocks: u32, b: u32, shift: u32, peel: u32) -> Range
+    requires { ⌜ (b < blocks) × (blk .from + peel < 2 ^ 32) ⌝ }
+    ensures { λ r. ⌜ r ≡ fusedPart own blk blocks b shift peel ⌝ }
+{
+    Range {
+        from: fused_from(own.from, blk.from, b, peel),
+        past: fused_past(own.past, blk.past, blocks, b, shift),
+    }
+}
+
+// The part of a loop that block b of `blocks` peels.
+pub fn peeled_part(own: Range, blk: Range, blocks: u32, b: u32, shift: u32, peel: u32) -> Range
+    requires { ⌜ (b < blocks) × (blk .past + peel < 2 ^ 32) ⌝ }
+    ensures { λ r. ⌜ r ≡ peeledPart own blk blocks b shift peel ⌝ }
+{
+    if b + 1 == blocks {
+        Range { from: 0, past: 0 }
+    } else {
+        Range {
+            from: greater(minus(blk.past, shift), own.from),
+            past: lesser(blk.past + peel, own.past),
+        }
+    }
+}

@@ -1,0 +1,24 @@
+-- What is told of a table's bytes: 0 where they are accepted, else the number and the place of the refusal, and of 9 a read.
+use Prim.Native.Nat.{ℕ}
+use mathlib.Core.Path.{_≡_}
+use mathlib.Core.List.{List}
+use Rattle.model.specs.Table.{Table}
+use Rattle.reader.specs.Reading.{Answer, accepted, refused, reading}
+use Rattle.serial.specs.Serial.{table}
+use Rattle.serial.specs.Meeting.{Collides}
+use Rattle.tables.specs.declared.Verdict.{Verdict}
+
+abbrev pub numberOf : Answer → ℕ
+numberOf (accepted t) = 0
+numberOf (refused n p) = n
+
+abbrev pub placeOf : Answer → ℕ
+placeOf (accepted t) = 0
+placeOf (refused n p) = p
+
+-- the read that 9 names is one that meets the destination in another iteration; which, if several do, is left free
+pub record Told (s : List ℕ) (v : Verdict) : Type 0 where
+  pub number : v .number ≡ numberOf (table s)
+  pub place : v .place ≡ placeOf (table s)
+  pub named : (t : Table) → reading s ≡ accepted t → v .number ≡ 9 → Collides t (v .place) (v .read)
+  pub unnamed : (v .number ≡ 9 → ⊥) → v .read ≡ 0

@@ -1,0 +1,16 @@
+-- What an exported function leaves in the lent answer: the refusal's number (0 for none), its place, and the read that 9 names (else 0).
+use Prim.Native.Nat.{ℕ}
+use mathlib.Core.Path.{_≡_}
+use mathlib.Core.List.{List}
+use lib.ListN.{set}
+use Rattle.tables.specs.declared.Verdict.{Verdict}
+use Rattle.tables.specs.Verdict.{Told}
+
+abbrev pub answered : ℕ → ℕ → ℕ → List ℕ → List ℕ
+answered number place read w = set (set (set w 0 number) 1 place) 2 read
+
+-- the answer on a table's bytes s: `found` is what was lent, `left` what it then holds
+pub record CheckTold (s found left : List ℕ) : Type 0 where
+  pub verdict : Verdict
+  pub told : Told s verdict
+  pub is : left ≡ answered (verdict .number) (verdict .place) (verdict .read) found
