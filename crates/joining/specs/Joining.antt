@@ -1,9 +1,12 @@
 -- Two tables joined: left's arrays, left's loops, right's loops and one end; or a refusal.
-use Prim.Native.Nat.{ℕ, _+_, _*_, _-_}
+use Prim.Native.Nat.{ℕ, _+_, _*_, _-_, _≤_}
+use native.Mathlib.Omega.{arith}
+use mathlib.Core.Path.{_≡_, refl, sym}
 use mathlib.Core.Bool.{Bool, true, false, not, _&&_}
 use mathlib.Core.List.{List, [], _∷_, _++_}
 use lib.ListN.{length, take, drop}
 use lib.Dec.{eqb, ltb}
+use borrow.Author.Tests.{eqb-true, eq-eqb, ltb-false, not-false}
 use Rattle.model.specs.Table.{Table, count}
 use Rattle.reader.specs.Reading.{Answer, accepted}
 use Rattle.serial.specs.Serial.{table}
@@ -51,3 +54,69 @@ joining left right room =
 unfoldable pub final : Joined → List ℕ → List ℕ
 final (refused n p) out = out
 final (written bs) out = bs ++ drop (length bs) out
+
+-- LAWS
+-- alike means equal
+pub alike-same : (ns ms : List ℕ) → alike ns ms ≡ true → ns ≡ ms
+unfolding alike
+alike-same [] [] e = refl
+alike-same [] (m ∷ ms) e = let z : _≡_ {A = ℕ} 0 1 = cc in absurd (omega arith)
+alike-same (n ∷ ns) [] e = let z : _≡_ {A = ℕ} 0 1 = cc in absurd (omega arith)
+alike-same (n ∷ ns) (m ∷ ms) e = go (eqb n m) refl e (alike-same ns ms)
+  where
+    go : (b : Bool) → eqb n m ≡ b → (b && alike ns ms) ≡ true → (alike ns ms ≡ true → ns ≡ ms) → n ∷ ns ≡ m ∷ ms
+    go true f h rest = let x : n ≡ m = eqb-true n m f in let y : ns ≡ ms = rest h in cc
+    go false f h rest = let z : _≡_ {A = ℕ} 0 1 = cc in absurd (omega arith)
+
+pub same-alike : (ns : List ℕ) → alike ns ns ≡ true
+unfolding alike
+same-alike [] = refl
+same-alike (n ∷ ns) = rw (eq-eqb n n refl) (same-alike ns)
+
+-- where bytes are written, both tables were accepted and met none of 14, 4 and 13
+pub record Written (left right : List ℕ) (room : ℕ) (bs : List ℕ) : Type 0 where
+  pub ours : Table
+  pub theirs : Table
+  pub left-is : table left ≡ accepted ours
+  pub right-is : table right ≡ accepted theirs
+  pub like : ours .lengths ≡ theirs .lengths
+  pub few : count ours + count theirs ≤ 16
+  pub fits : length bs ≤ room
+  pub made : bs ≡ bytes left right (length (ours .lengths))
+
+refused-written : {n p : ℕ} {bs : List ℕ} → refused n p ≡ written bs → ⊥
+refused-written e = let z : _≡_ {A = ℕ} 0 1 = cc in omega arith
+
+-- a test before what is written
+passed : (n p : ℕ) (b : Bool) (more : Joined) (bs : List ℕ) → (refused n p if b else more) ≡ written bs → (b ≡ false) × (more ≡ written bs)
+passed n p true more bs e = absurd (refused-written e)
+passed n p false more bs e = (refl, e)
+
+pub written-known : (left right : List ℕ) (room : ℕ) (bs : List ℕ) → joining left right room ≡ written bs → Written left right room bs
+unfolding joining fitted
+written-known left right room bs e = go (table left) refl (table right) refl e
+  where
+    go : (x : Answer) → table left ≡ x → (y : Answer) → table right ≡ y
+        → (after x λ t.
+        after y λ u.
+        refused 14 0 if not (alike (t .lengths) (u .lengths)) else
+        refused 4 0 if ltb 16 (count t + count u) else
+        fitted room (bytes left right (length (t .lengths)))) ≡ written bs
+        → Written left right room bs
+    go (Answer.refused n p) f y g h = absurd (refused-written h)
+    go (accepted t) f (Answer.refused n p) g h = absurd (refused-written h)
+    go (accepted t) f (accepted u) g h =
+        let (like, h₂) = passed 14 0 (not (alike (t .lengths) (u .lengths))) _ bs h in
+        let (few, h₃) = passed 4 0 (ltb 16 (count t + count u)) _ bs h₂ in
+        let (fits, h₄) = passed 13 0 (ltb room (length (bytes left right (length (t .lengths))))) _ bs h₃ in
+        let made : bytes left right (length (t .lengths)) ≡ bs = cc in
+        record {
+          ours = t;
+          theirs = u;
+          left-is = f;
+          right-is = g;
+          like = alike-same (t .lengths) (u .lengths) (not-false (alike (t .lengths) (u .lengths)) like);
+          few = ltb-false 16 (count t + count u) few;
+          fits = rw made at (ltb-false room (length (bytes left right (length (t .lengths)))) fits);
+          made = sym made;
+        }

@@ -1,2 +1,6 @@
 -- two tables joined: the answer, and what the lent output then holds
 pub mod Joining
+-- a table's loops behind those of another: the two readings side by side
+pub mod Beside
+-- what is written is read back as one table
+pub mod ReadBack
