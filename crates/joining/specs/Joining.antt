@@ -1,10 +1,11 @@
 -- Two tables joined: left's arrays, left's loops, right's loops and one end; or a refusal.
-use Prim.Native.Nat.{ℕ, _+_, _*_, _-_, _≤_}
+use Prim.Native.Nat.{ℕ, _+_, _*_, _-_, _≤_, _<_}
 use native.Mathlib.Omega.{arith}
-use mathlib.Core.Path.{_≡_, refl, sym}
+use mathlib.Core.Path.{_≡_, refl, sym, _∙_}
 use mathlib.Core.Bool.{Bool, true, false, not, _&&_}
 use mathlib.Core.List.{List, [], _∷_, _++_}
-use lib.ListN.{length, take, drop}
+use lib.ListN.{length, take, drop, length-append, length-drop}
+use lib.Seq.{length-take-le}
 use lib.Dec.{eqb, ltb}
 use borrow.Author.Tests.{eqb-true, eq-eqb, ltb-false, not-false}
 use Rattle.model.specs.Table.{Table, count}
@@ -72,6 +73,12 @@ pub same-alike : (ns : List ℕ) → alike ns ns ≡ true
 unfolding alike
 same-alike [] = refl
 same-alike (n ∷ ns) = rw (eq-eqb n n refl) (same-alike ns)
+
+pub bytes-length : (left right : List ℕ) (arrays : ℕ) → 0 < length left → length (bytes left right arrays) ≡ length left - 1 + (length right - 5 * arrays)
+unfolding bytes
+bytes-length left right arrays some =
+    length-append (take (length left - 1) left) (drop (5 * arrays) right)
+    ∙ rw (length-take-le (length left - 1) left (omega arith), length-drop (5 * arrays) right)
 
 -- where bytes are written, both tables were accepted and met none of 14, 4 and 13
 pub record Written (left right : List ℕ) (room : ℕ) (bs : List ℕ) : Type 0 where

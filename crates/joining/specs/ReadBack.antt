@@ -4,7 +4,7 @@ use native.Mathlib.Omega.{arith}
 use native.Mathlib.Decide.{decLt}
 use mathlib.Core.Path.{_≡_, refl, sym, ap, subst, _∙_}
 use mathlib.Core.List.{List, [], _∷_, _++_}
-use lib.ListN.{length, take, drop, length-append, length-drop, List·getD-append}
+use lib.ListN.{length, take, drop, length-append, List·getD-append}
 use lib.Seq.{length-take-le, getD-append-add, getD-take, getD-drop}
 use Rattle.records.specs.declared.Record.{Record}
 use Rattle.records.specs.declared.Record.the-variants.{Loop, End}
@@ -21,7 +21,7 @@ use Rattle.reader.specs.Accepting.{Rest, ended, passed, rest-there, rest-accept
 use Rattle.serial.specs.declared.Collision.the-variants.{Nothing}
 use Rattle.serial.specs.Serial.{table, loopHit}
 use Rattle.serial.specs.Parallel.{Parallel, parallel-accepted, accepted-parallel}
-use Rattle.joining.specs.Joining.{bytes, joining, written, Written, written-known}
+use Rattle.joining.specs.Joining.{bytes, bytes-length, joining, written, Written, written-known}
 use Rattle.joining.specs.Beside.{Opening, opening, rest-opened, rest-end, Behind, behind-first, behind-clear, behind-more}
 
 -- how many bytes of the left table are kept: all but its end
@@ -42,9 +42,7 @@ module _ (left right : List ℕ) (arrays : ℕ) where
     kept-length = length-take-le (kept left) left (omega arith)
 
     both-length : length both ≡ kept left + (length right - 5 * arrays)
-    unfolding bytes
-    both-length =
-        length-append (take (kept left) left) (drop (5 * arrays) right) ∙ rw (kept-length, length-drop (5 * arrays) right)
+    both-length = bytes-length left right arrays some
 
     byte-left : (k : ℕ) → k < kept left → byte left k ≡ byte both k
     unfolding bytes

@@ -4,3 +4,5 @@ pub mod Serial
 pub mod Meeting
 -- a table is accepted where no loop collides
 pub mod Parallel
+-- the read that is named with 9 collides
+pub mod Named

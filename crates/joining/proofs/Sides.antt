@@ -1,0 +1,39 @@
+-- What the answer of reading a table through 9 says of one of the two tables.
+use Prim.Native.Nat.{ℕ, _*_, _<_}
+use native.Mathlib.Omega.{arith}
+use mathlib.Core.Path.{_≡_, refl, sym, _∙_}
+use mathlib.Core.List.{List}
+use lib.ListN.{length, take}
+use lib.Seq.{length-take-le}
+use Rattle.reader.specs.Reading.{Answer, accepted, reading}
+use Rattle.reader.specs.Columns.{Columns, tableAt, count-table}
+use Rattle.reader.specs.Accepting.{accepted-long, not-both}
+use Rattle.serial.specs.declared.Checked.the-variants.{Refused, Serial, Accepted}
+use Rattle.serial.specs.Serial.{table, answer, Left}
+use Rattle.serial.specs.Parallel.{accepted-parallel}
+use Rattle.serial.specs.Named.{named-collides}
+use Rattle.joining.specs.Told.{Refusal, Held}
+
+module _ (s : List ℕ) (c : Columns) where
+  pub side-refused : (g p n : ℕ) → answer (Refused g p) c ≡ table s → Left (Refused g p) c s → n ≡ g → Refusal s n p 0
+  unfolding answer
+  side-refused g p n e l f = record { is = rw f (sym e); named = λ t h. absurd (not-both (sym l ∙ h)); unnamed = λ h. refl }
+
+  pub side-serial : (k n : ℕ) → answer (Serial k n) c ≡ table s → Left (Serial k n) c s → Refusal s 9 k n
+  unfolding answer
+  side-serial k n e l = record { is = sym e; named = named-collides s c k n l; unnamed = λ h. absurd (h refl) }
+
+  pub side-accepted : (a l r : ℕ) → answer (Accepted a l r) c ≡ table s → Left (Accepted a l r) c s → Held s (c .lens) a l
+  unfolding answer
+  side-accepted a l r e (z, k) = record {
+    made = tableAt c a l;
+    is = sym e;
+    lens = refl;
+    sized = z .lens;
+    few-arrays = k .few-arrays;
+    counted = count-table c a l;
+    few-loops = k .few-loops;
+    long =
+        let n : length (take a (c .lens)) ≡ a = length-take-le a (c .lens) (omega (arith, z .lens, k .few-arrays)) in
+        omega (arith, n, accepted-long s (tableAt c a l) (accepted-parallel s (tableAt c a l) (sym e) .0));
+  }
