@@ -15,14 +15,14 @@ use Rattle.serial.specs.Serial.{table}
 use Rattle.joining.specs.declared.Outcome.{Outcome}
 use Rattle.joining.specs.Joining.{Joined, refused, written, _if_else_, after, alike, alike-same, bytes, bytes-length, fitted, joining, final}
 use Rattle.joining.specs.Told.{Says, Told, Refusal, Held}
+use Rattle.joining.proofs.Sides.{Is}
 use Rattle.joining.proofs.Walks.{copied-both}
 
--- an answer without a read or bytes
-abbrev pub Plain : Outcome → ℕ → Type 0
-Plain o n = (o .number ≡ n) × (o .place ≡ 0) × (o .read ≡ 0) × (o .written ≡ 0)
-
-says-plain : (o : Outcome) (n : ℕ) → Plain o n → Says o (refused n 0)
+says-plain : (o : Outcome) (n : ℕ) → Is o n 0 0 → Says o (refused n 0)
 says-plain o n (a, b, c, d) = record { number = a; place = b; written = d }
+
+says-refused : (s : List ℕ) (o : Outcome) → Refusal s o → Says o (refused (o .number) (o .place))
+says-refused s o h = record { number = refl; place = refl; written = h .nothing }
 
 -- WRITING
 module _ (left right out : List ℕ) (arrays : ℕ) where
@@ -36,7 +36,7 @@ module _ (left right out : List ℕ) (arrays : ℕ) where
   size = length left - 1 + (length right - 5 * arrays)
 
   module _ (some : 0 < length left) where
-    pub too-long : (o : Outcome) → length out < size → Plain o 13 → Wrote o out
+    pub too-long : (o : Outcome) → length out < size → Is o 13 0 0 → Wrote o out
     unfolding fitted final
     too-long o h p =
         let l : length out < length (bytes left right arrays) = omega (arith, bytes-length left right arrays some) in
@@ -65,30 +65,30 @@ module _ (left right out : List ℕ) where
   abbrev pub Result : Outcome → List ℕ → Type 0
   Result o then = Told left right (length out) o × (then ≡ final (joining left right (length out)) out)
 
-  pub left-refused : (n p r : ℕ) → Refusal left n p r → Result (record { number = n; place = p; read = r; written = 0 }) out
+  pub left-refused : (o : Outcome) → Refusal left o → Result o out
   unfolding joining final
-  left-refused n p r h = (told, rw (h .is))
-    where
-      told : Told left right (length out) (record { number = n; place = p; read = r; written = 0 })
-      told = record {
-        says = rw (h .is) (record { number = refl; place = refl; written = refl });
-        in-left = λ t e f. h .named t e;
-        in-right = λ t u e f g. absurd (not-both (sym (h .is) ∙ e));
-        unnamed = h .unnamed;
-      }
+  left-refused o h = (
+    record {
+      says = rw (h .is) (says-refused left o h);
+      in-left = λ t e f. h .named t e;
+      in-right = λ t u e f g. absurd (not-both (sym (h .is) ∙ e));
+      unnamed = h .unnamed;
+    },
+    rw (h .is),
+  )
 
   module _ (ours : List ℕ) (arrays loops : ℕ) (l : Held left ours arrays loops) where
-    pub right-refused : (n p r : ℕ) → Refusal right n p r → Result (record { number = n; place = p; read = r; written = 0 }) out
+    pub right-refused : (o : Outcome) → Refusal right o → Result o out
     unfolding joining final
-    right-refused n p r h = (told, rw (l .is, h .is))
-      where
-        told : Told left right (length out) (record { number = n; place = p; read = r; written = 0 })
-        told = record {
-          says = rw (l .is, h .is) (record { number = refl; place = refl; written = refl });
-          in-left = λ t e f. absurd (not-both (sym f ∙ l .is));
-          in-right = λ t u e f g. h .named u f;
-          unnamed = h .unnamed;
-        }
+    right-refused o h = (
+      record {
+        says = rw (l .is, h .is) (says-refused right o h);
+        in-left = λ t e f. absurd (not-both (sym f ∙ l .is));
+        in-right = λ t u e f g. h .named u f;
+        unnamed = h .unnamed;
+      },
+      rw (l .is, h .is),
+    )
 
     module _ (theirs : List ℕ) (a n : ℕ) (r : Held right theirs a n) where
       -- both are accepted: what is left of the tests
@@ -112,12 +112,12 @@ module _ (left right out : List ℕ) where
         rw e f,
       )
 
-      pub unlike-arrays : (o : Outcome) → Plain o 14 → false ≡ alike (take arrays ours) (take a theirs) → Result o out
+      pub unlike-arrays : (o : Outcome) → Is o 14 0 0 → false ≡ alike (take arrays ours) (take a theirs) → Result o out
       unfolding final
       unlike-arrays o p e = result o out (refused 14 0) (both ∙ rw (← e)) (says-plain o 14 p) (p .2) refl
 
       module _ (like : true ≡ alike (take arrays ours) (take a theirs)) where
-        pub many-loops : (o : Outcome) → Plain o 4 → 16 < loops + n → Result o out
+        pub many-loops : (o : Outcome) → Is o 4 0 0 → 16 < loops + n → Result o out
         unfolding final
         many-loops o p h = result o out (refused 4 0) (both ∙ rw (← like, lt-ltb _ _ h)) (says-plain o 4 p) (p .2) refl
 

@@ -12,16 +12,31 @@ use Rattle.serial.specs.declared.Checked.the-variants.{Refused, Serial, Accepte
 use Rattle.serial.specs.Serial.{table, answer, Left}
 use Rattle.serial.specs.Parallel.{accepted-parallel}
 use Rattle.serial.specs.Named.{named-collides}
+use Rattle.joining.specs.declared.Outcome.{Outcome}
 use Rattle.joining.specs.Told.{Refusal, Held}
 
-module _ (s : List ℕ) (c : Columns) where
-  pub side-refused : (g p n : ℕ) → answer (Refused g p) c ≡ table s → Left (Refused g p) c s → n ≡ g → Refusal s n p 0
-  unfolding answer
-  side-refused g p n e l f = record { is = rw f (sym e); named = λ t h. absurd (not-both (sym l ∙ h)); unnamed = λ h. refl }
+-- an answer with nothing written
+abbrev pub Is : Outcome → ℕ → ℕ → ℕ → Type 0
+Is o n p r = (o .number ≡ n) × (o .place ≡ p) × (o .read ≡ r) × (o .written ≡ 0)
 
-  pub side-serial : (k n : ℕ) → answer (Serial k n) c ≡ table s → Left (Serial k n) c s → Refusal s 9 k n
+module _ (s : List ℕ) (c : Columns) where
+  pub side-refused : (g p n : ℕ) (o : Outcome) → answer (Refused g p) c ≡ table s → Left (Refused g p) c s → n ≡ g → Is o n p 0 → Refusal s o
   unfolding answer
-  side-serial k n e l = record { is = sym e; named = named-collides s c k n l; unnamed = λ h. absurd (h refl) }
+  side-refused g p n o e l f (a, b, r, w) = record {
+    is = rw (a, b, f) (sym e);
+    named = λ t h. absurd (not-both (sym l ∙ h));
+    unnamed = λ h. r;
+    nothing = w;
+  }
+
+  pub side-serial : (k n : ℕ) (o : Outcome) → answer (Serial k n) c ≡ table s → Left (Serial k n) c s → Is o 9 k n → Refusal s o
+  unfolding answer
+  side-serial k n o e l (a, b, r, w) = record {
+    is = rw (a, b) (sym e);
+    named = λ t h. rw (b, r) (named-collides s c k n l t h);
+    unnamed = λ h. absurd (h a);
+    nothing = w;
+  }
 
   pub side-accepted : (a l r : ℕ) → answer (Accepted a l r) c ≡ table s → Left (Accepted a l r) c s → Held s (c .lens) a l
   unfolding answer

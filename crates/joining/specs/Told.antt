@@ -39,10 +39,11 @@ pub record Told (left right : List ℕ) (room : ℕ) (o : Outcome) : Type 0 wher
   pub unnamed : (o .number ≡ 9 → ⊥) → o .read ≡ 0
 
 -- one of the two tables: refused, with the read that 9 names
-pub record Refusal (s : List ℕ) (n p r : ℕ) : Type 0 where
-  pub is : table s ≡ Answer.refused n p
-  pub named : (t : Table) → reading s ≡ accepted t → Collides t p r
-  pub unnamed : (n ≡ 9 → ⊥) → r ≡ 0
+pub record Refusal (s : List ℕ) (o : Outcome) : Type 0 where
+  pub is : table s ≡ Answer.refused (o .number) (o .place)
+  pub named : (t : Table) → reading s ≡ accepted t → Collides t (o .place) (o .read)
+  pub unnamed : (o .number ≡ 9 → ⊥) → o .read ≡ 0
+  pub nothing : o .written ≡ 0
 
 -- or accepted, with so many arrays, whose lengths are the first of ns, and so many loops
 pub record Held (s ns : List ℕ) (arrays loops : ℕ) : Type 0 where
@@ -56,5 +57,5 @@ pub record Held (s ns : List ℕ) (arrays loops : ℕ) : Type 0 where
   pub long : 5 * arrays < length s
 
 abbrev pub Known : Side → List ℕ → List ℕ → Type 0
-Known (Refused n p r) ns s = Refusal s n p r
+Known (Refused o) ns s = Refusal s o
 Known (Accepted a l) ns s = Held s ns a l

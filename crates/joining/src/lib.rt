@@ -16,23 +16,28 @@ pub struct Outcome {
     pub written: usize,
 }
 
-// One of the two tables: a refusal, with the read that 9 names, else 0; or how many arrays and loops it has.
-pub enum Side {
-    Refused {
-        number: usize,
-        place: usize,
-        read: usize,
-    },
-    Accepted {
-        arrays: usize,
-        loops: usize,
-    },
+// One of the two tables: refused, or how many arrays and loops it has.
+enum Side {
+    Refused(Outcome),
+    Accepted { arrays: usize, loops: usize },
 }
 
 fn wide(x: u32) -> usize
     ensures { λ r. ⌜ r ≡ x ⌝ }
 {
     x as usize
+}
+
+// Nothing is written.
+fn refusal(number: usize, place: usize, read: usize) -> Outcome
+    ensures { λ r. ⌜ (r .number ≡ number) × (r .place ≡ place) × (r .read ≡ read) × (r .written ≡ 0) ⌝ }
+{
+    Outcome {
+        number,
+        place,
+        read,
+        written: 0,
+    }
 }
 
 // Reads a table through 9. Of its columns only the arrays' lengths are kept.
@@ -57,16 +62,8 @@ fn read_side(s: &[u8], lens: &mut [u32; 16]) -> Side
         &mut values,
     );
     match r {
-        Checked::Refused { number, place } => Side::Refused {
-            number: wide(number),
-            place,
-            read: 0,
-        },
-        Checked::Serial { number, read } => Side::Refused {
-            number: 9,
-            place: number,
-            read,
-        },
+        Checked::Refused { number, place } => Side::Refused(refusal(wide(number), place, 0)),
+        Checked::Serial { number, read } => Side::Refused(refusal(9, number, read)),
         Checked::Accepted {
             arrays: a,
             loops,
@@ -105,17 +102,6 @@ fn copy(from: &[u8], to: &mut [u8], at: usize)
     }
 }
 
-fn refusal(number: usize) -> Outcome
-    ensures { λ r. ⌜ (r .number ≡ number) × (r .place ≡ 0) × (r .read ≡ 0) × (r .written ≡ 0) ⌝ }
-{
-    Outcome {
-        number,
-        place: 0,
-        read: 0,
-        written: 0,
-    }
-}
-
 // Writes left without its end, and right without its arrays; or 13, with nothing written.
 fn write(left: &[u8], right: &[u8], arrays: usize, out: &mut [u8]) -> Outcome
     requires { ⌜ (0 < length (now left)) × (arrays ≤ 16) × (5 * arrays ≤ length (now right)) ⌝ }
@@ -126,7 +112,7 @@ fn write(left: &[u8], right: &[u8], arrays: usize, out: &mut [u8]) -> Outcome
     let skipped = 5 * arrays;
     let count = kept + (right.len() - skipped);
     if out.len() < count {
-        return refusal(13);
+        return refusal(13, 0, 0);
     }
     copy(&left[..kept], out, 0);
     copy(&right[skipped..], out, kept);
@@ -154,25 +140,18 @@ fn join_right(
     let mut theirs = [0u32; 16];
     let r = read_side(right, &mut theirs);
     match r {
-        Side::Refused {
-            number,
-            place,
-            read,
-        } => Outcome {
-            number,
-            place,
-            read,
-            written: 0,
-        },
+        Side::Refused(o) => o,
         Side::Accepted {
             arrays: a,
             loops: l,
         } => {
-            if !same_lengths(arrays, ours, a, &theirs) {
-                return refusal(14);
+            let like = same_lengths(arrays, ours, a, &theirs);
+            let total = loops + l;
+            if !like {
+                return refusal(14, 0, 0);
             }
-            if 16 < loops + l {
-                return refusal(4);
+            if 16 < total {
+                return refusal(4, 0, 0);
             }
             write(left, right, arrays, out)
         }
@@ -187,16 +166,7 @@ pub fn join(left: &[u8], right: &[u8], out: &mut [u8]) -> Outcome
     let mut lens = [0u32; 16];
     let r = read_side(left, &mut lens);
     match r {
-        Side::Refused {
-            number,
-            place,
-            read,
-        } => Outcome {
-            number,
-            place,
-            read,
-            written: 0,
-        },
+        Side::Refused(o) => o,
         Side::Accepted { arrays, loops } => join_right(left, right, out, arrays, loops, &lens),
     }
 }

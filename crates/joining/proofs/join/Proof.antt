@@ -17,10 +17,14 @@ enum-known-r-2 : tie.Need-enum-known-r-2
 enum-known-r-2 c = search needs
 
 join-right-requires : tie.Need-join-right-requires
-join-right-requires c κs = let a = c .before .before .before .before .before .before .before .before .before .before .args in let h = subst (λ (x : Side). Known x (c .before .before .before .before .before .read-side .last .1 .0) (now (a .left))) (c .before .before .before .r2 .given .1) (c .before .before .before .before .before .read-side .ensures) in h
+join-right-requires c κs = let a = c .before .before .before .before .before .before .before .before .before .before .args in
+    let h = subst (λ (x : Side). Known x (c .before .before .before .before .before .read-side .last .1 .0) (now (a .left))) (c .before .before .before .r2 .given .1) (c .before .before .before .before .before .read-side .ensures) in
+    h
 
 returns : tie.Need-returns
-returns c = let a = c .before .before .before .before .before .before .before .before .args in let h = subst (λ (x : Side). Known x (c .before .before .before .read-side .last .1 .0) (now (a .left))) (c .before .r .given .1) (c .before .before .before .read-side .ensures) in left-refused (now (a .left)) (now (a .right)) (now (a .out)) _ _ _ h
+returns c = let a = c .before .before .before .before .before .before .before .before .args in
+    let h = subst (λ (x : Side). Known x (c .before .before .before .read-side .last .1 .0) (now (a .left))) (c .before .r .given .1) (c .before .before .before .read-side .ensures) in
+    left-refused (now (a .left)) (now (a .right)) (now (a .out)) (c .before .r .given .0 .0) h
 
 same-length : tie.Need-same-length
 same-length c = search needs

@@ -25,13 +25,16 @@ refusal-requires : tie.Need-refusal-requires
 refusal-requires c κs = search needs
 
 returns : tie.Need-returns
-returns c = let a = c .before .before .before .before .before .args in too-long (now (a .left)) (now (a .right)) (now (a .out)) (a .arrays) (c .before .before .before .before .before .pre .0) (c .refusal .result) (c .before .if1 .taken) (c .refusal .ensures)
+returns c = let a = c .before .before .before .before .before .args in
+    too-long (now (a .left)) (now (a .right)) (now (a .out)) (a .arrays) (c .before .before .before .before .before .pre .0) (c .refusal .result) (c .before .if1 .taken) (c .refusal .ensures)
 
 slice-aggregate-copy : tie.Need-slice-aggregate-copy
-slice-aggregate-copy c = let a = c .before .before .before .before .before .args in sym (length-take-le (length (now (a .left)) - 1) (now (a .left)) (omega arith))
+slice-aggregate-copy c = let a = c .before .before .before .before .before .args in
+    sym (length-take-le (length (now (a .left)) - 1) (now (a .left)) (omega arith))
 
 copy-requires : tie.Need-copy-requires
-copy-requires c κs = let a = c .before .before .before .before .before .before .args in omega (arith, c .before .before .if1 .left, length-take-le (length (now (a .left)) - 1) (now (a .left)) (omega arith))
+copy-requires c κs = let a = c .before .before .before .before .before .before .args in
+    omega (arith, c .before .before .if1 .left, length-take-le (length (now (a .left)) - 1) (now (a .left)) (omega arith))
 
 sub-copy : tie.Need-sub-copy
 sub-copy c = search needs
@@ -49,7 +52,11 @@ same-length : tie.Need-same-length
 same-length c = search needs
 
 returns-2 : tie.Need-returns-2
-returns-2 c = let a = c .before .before .before .before .before .before .before .before .before .before .before .before .before .before .args in let r = now (a .right) in let n = 5 * a .arrays in wrote (now (a .left)) (now (a .right)) (now (a .out)) (a .arrays) (c .before .before .before .before .before .before .before .before .before .before .before .before .before .before .pre .0) (c .before .before .before .before .before .before .before .copy .last .1 .0) (c .before .before .copy2 .last .1 .0) (take (length r - n) (drop n r)) (c .before .before .before .before .before .before .before .before .before .before .if1 .left) (take-all (length r - n) (drop n r) (omega (arith, length-drop n r))) (c .before .before .before .before .before .before .before .copy .ensures) (c .before .before .copy2 .ensures)
+returns-2 c = let a = c .before .before .before .before .before .before .before .before .before .before .before .before .before .before .args in
+    let r = now (a .right) in
+    let n = 5 * a .arrays in
+    wrote (now (a .left)) (now (a .right)) (now (a .out)) (a .arrays) (c .before .before .before .before .before .before .before .before .before .before .before .before .before .before .pre .0) (c .before .before .before .before .before .before .before .copy .last .1 .0) (c .before .before .copy2 .last .1 .0) (take (length r - n) (drop n r)) (c .before .before .before .before .before .before .before .before .before .before .if1 .left)
+    (take-all (length r - n) (drop n r) (omega (arith, length-drop n r))) (c .before .before .before .before .before .before .before .copy .ensures) (c .before .before .copy2 .ensures)
 
 pub write-spec : {M : Type 1} → statement M
 write-spec =
