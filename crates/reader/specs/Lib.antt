@@ -4,3 +4,5 @@ pub mod Reading
 pub mod Columns
 -- the columns hold what was read
 pub mod Stored
+-- how a reading that accepts goes
+pub mod Accepting

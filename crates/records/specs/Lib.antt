@@ -8,3 +8,7 @@ pub mod Grounds
 pub mod Clear
 -- the three ways that the tests of a record end
 pub mod Outcome
+-- a whole record that is clear meets no ground
+pub mod Passing
+-- a record is told by its own bytes alone
+pub mod Same

@@ -2,3 +2,7 @@
 pub mod Serial
 -- ground 9: the statement, and that the test decides it
 pub mod Meeting
+-- a table is accepted where no loop collides
+pub mod Parallel
+-- the read that is named with 9 collides
+pub mod Named

@@ -1,0 +1,134 @@
+-- The answers of joining, case by case.
+use Prim.Native.Nat.{ℕ, _+_, _*_, _-_, _≤_, _<_}
+use native.Mathlib.Omega.{arith}
+use mathlib.Core.Path.{_≡_, refl, sym, ap, _∙_}
+use mathlib.Core.Bool.{Bool, true, false, not}
+use mathlib.Core.List.{List, _++_}
+use lib.ListN.{length, take, drop}
+use lib.Seq.{length-take-le, paste}
+use lib.Dec.{ltb}
+use borrow.Author.Tests.{lt-ltb, le-ltb}
+use Rattle.model.specs.Table.{Table, count}
+use Rattle.reader.specs.Reading.{Answer, accepted}
+use Rattle.reader.specs.Accepting.{not-both}
+use Rattle.serial.specs.Serial.{table}
+use Rattle.joining.specs.declared.Outcome.{Outcome}
+use Rattle.joining.specs.Joining.{Joined, refused, written, _if_else_, after, alike, alike-same, bytes, bytes-length, fitted, joining, final}
+use Rattle.joining.specs.Told.{Says, Told, Refusal, Held}
+use Rattle.joining.proofs.Sides.{Is}
+use Rattle.joining.proofs.Walks.{copied-both}
+
+says-plain : (o : Outcome) (n : ℕ) → Is o n 0 0 → Says o (refused n 0)
+says-plain o n (a, b, c, d) = record { number = a; place = b; written = d }
+
+says-refused : (s : List ℕ) (o : Outcome) → Refusal s o → Says o (refused (o .number) (o .place))
+says-refused s o h = record { number = refl; place = refl; written = h .nothing }
+
+-- WRITING
+module _ (left right out : List ℕ) (arrays : ℕ) where
+  -- what writing answers and leaves
+  abbrev pub Wrote : Outcome → List ℕ → Type 0
+  Wrote o then =
+      (Says o (fitted (length out) (bytes left right arrays)) × (o .read ≡ 0))
+      × (then ≡ final (fitted (length out) (bytes left right arrays)) out)
+
+  abbrev size : ℕ
+  size = length left - 1 + (length right - 5 * arrays)
+
+  module _ (some : 0 < length left) where
+    pub too-long : (o : Outcome) → length out < size → Is o 13 0 0 → Wrote o out
+    unfolding fitted final
+    too-long o h p =
+        let l : length out < length (bytes left right arrays) = omega (arith, bytes-length left right arrays some) in
+        rw (lt-ltb _ _ l) ((says-plain o 13 p, p .2), refl)
+
+    both-copied : (one two : List ℕ) → one ≡ paste out 0 (take (length left - 1) left) (length (take (length left - 1) left))
+        → two ≡ paste one (length left - 1) (drop (5 * arrays) right) (length (drop (5 * arrays) right))
+        → two ≡ bytes left right arrays ++ drop (length (bytes left right arrays)) out
+    unfolding bytes
+    both-copied one two f g =
+        copied-both (take (length left - 1) left) (drop (5 * arrays) right) out one two (length left - 1)
+        (length-take-le (length left - 1) left (omega arith)) f g
+
+    pub wrote : (one two ys : List ℕ) → size ≤ length out → ys ≡ drop (5 * arrays) right
+        → one ≡ paste out 0 (take (length left - 1) left) (length (take (length left - 1) left))
+        → two ≡ paste one (length left - 1) ys (length ys) → Wrote (record { number = 0; place = 0; read = 0; written = size }) two
+    unfolding fitted final
+    wrote one two ys h is f g =
+        let n = bytes-length left right arrays some in
+        let l : length (bytes left right arrays) ≤ length out = omega (arith, n) in
+        rw (le-ltb _ _ l) ((record { number = refl; place = refl; written = sym n }, refl), both-copied one two f (rw is at g))
+
+-- BOTH TABLES
+module _ (left right out : List ℕ) where
+  -- what joining answers and leaves
+  abbrev pub Result : Outcome → List ℕ → Type 0
+  Result o then = Told left right (length out) o × (then ≡ final (joining left right (length out)) out)
+
+  pub left-refused : (o : Outcome) → Refusal left o → Result o out
+  unfolding joining final
+  left-refused o h = (
+    record {
+      says = rw (h .is) (says-refused left o h);
+      in-left = λ t e f. h .named t e;
+      in-right = λ t u e f g. absurd (not-both (sym (h .is) ∙ e));
+      unnamed = h .unnamed;
+    },
+    rw (h .is),
+  )
+
+  module _ (ours : List ℕ) (arrays loops : ℕ) (l : Held left ours arrays loops) where
+    pub right-refused : (o : Outcome) → Refusal right o → Result o out
+    unfolding joining final
+    right-refused o h = (
+      record {
+        says = rw (l .is, h .is) (says-refused right o h);
+        in-left = λ t e f. absurd (not-both (sym f ∙ l .is));
+        in-right = λ t u e f g. h .named u f;
+        unnamed = h .unnamed;
+      },
+      rw (l .is, h .is),
+    )
+
+    module _ (theirs : List ℕ) (a n : ℕ) (r : Held right theirs a n) where
+      -- both are accepted: what is left of the tests
+      both : joining left right (length out)
+          ≡ (refused 14 0 if not (alike (take arrays ours) (take a theirs)) else
+          refused 4 0 if ltb 16 (loops + n) else
+          fitted (length out) (bytes left right arrays))
+      unfolding joining
+      both =
+          let len : length (take arrays ours) ≡ arrays = length-take-le arrays ours (omega (arith, l .sized, l .few-arrays)) in
+          rw (l .is, r .is, ← (l .lens), ← (r .lens), l .counted, r .counted, len)
+
+      result : (o : Outcome) (then : List ℕ) (j : Joined) → joining left right (length out) ≡ j → Says o j → o .read ≡ 0 → then ≡ final j out → Result o then
+      result o then j e s z f = (
+        record {
+          says = rw e s;
+          in-left = λ t g h. absurd (not-both (sym h ∙ l .is));
+          in-right = λ t u g h k. absurd (not-both (sym k ∙ r .is));
+          unnamed = λ g. z;
+        },
+        rw e f,
+      )
+
+      pub unlike-arrays : (o : Outcome) → Is o 14 0 0 → false ≡ alike (take arrays ours) (take a theirs) → Result o out
+      unfolding final
+      unlike-arrays o p e = result o out (refused 14 0) (both ∙ rw (← e)) (says-plain o 14 p) (p .2) refl
+
+      module _ (like : true ≡ alike (take arrays ours) (take a theirs)) where
+        pub many-loops : (o : Outcome) → Is o 4 0 0 → 16 < loops + n → Result o out
+        unfolding final
+        many-loops o p h = result o out (refused 4 0) (both ∙ rw (← like, lt-ltb _ _ h)) (says-plain o 4 p) (p .2) refl
+
+        pub joined : (o : Outcome) (then : List ℕ) → loops + n ≤ 16 → Wrote left right out arrays o then → Result o then
+        joined o then h ((s, z), f) =
+            result o then (fitted (length out) (bytes left right arrays)) (both ∙ rw (← like, le-ltb _ _ h)) s z f
+
+        -- right's arrays are as many as left's, so there is something of it past them
+        pub enough : (0 < length left) × (arrays ≤ 16) × (5 * arrays ≤ length right)
+        enough =
+            let same : take arrays ours ≡ take a theirs = alike-same (take arrays ours) (take a theirs) (sym like) in
+            let m : length (take arrays ours) ≡ arrays = length-take-le arrays ours (omega (arith, l .sized, l .few-arrays)) in
+            let k : length (take a theirs) ≡ a = length-take-le a theirs (omega (arith, r .sized, r .few-arrays)) in
+            (omega (arith, l .long), l .few-arrays, omega (arith, r .long, ap length same))

@@ -1,0 +1,6 @@
+-- what the answer of reading a table says
+pub mod Sides
+-- the comparison of lengths, and the copies
+pub mod Walks
+-- the answers of joining
+pub mod Answers

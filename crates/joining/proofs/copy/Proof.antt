@@ -1,0 +1,56 @@
+use native.Mathlib.Omega.{arith}
+use denote.Ref.{now}
+use Prim.Native.Nat.{_-_}
+use lib.ListN.{length}
+use Rattle.joining.proofs.Walks.{Copied, copy-start, copy-more, copy-done}
+use Rattle.joining.proofs.copy.Statement.{statement}
+use Rattle.joining.proofs.copy.Tie as tie
+
+abbrev Inv-loop : tie.InvT-loop
+Inv-loop from to₀ at k₀ to k = Copied from to₀ at to k
+
+abbrev μ-loop : tie.MeasureT-loop
+μ-loop from to₀ at k₀ to k = length from - k
+
+loop-holds : tie.Need-loop-holds Inv-loop μ-loop
+loop-holds c = let a = c .args in copy-start (now (a .from)) (now (a .to)) (a .at)
+
+shared-slice-read-to : tie.Need-shared-slice-read-to Inv-loop μ-loop
+shared-slice-read-to c = omega arith
+
+add-to : tie.Need-add-to Inv-loop μ-loop
+add-to c = omega (arith, c .before .before .before .pre, c .before .before .loop .inv .long)
+
+slice-write-to : tie.Need-slice-write-to Inv-loop μ-loop
+slice-write-to c = omega (arith, c .before .before .before .pre, c .before .before .loop .inv .long)
+
+add-k : tie.Need-add-k Inv-loop μ-loop
+add-k c = omega arith
+
+loop-less : tie.Need-loop-less Inv-loop μ-loop
+loop-less c = omega arith
+
+loop-again : tie.Need-loop-again Inv-loop μ-loop
+loop-again c = let a = c .before .before .before .args in copy-more (now (a .from)) (now (a .to)) (a .at) (c .before .before .loop .to) (c .before .before .loop .k) (c .before .before .loop .inv) (c .before .before .before .pre) (c .before .loop-test .taken)
+
+same-length : tie.Need-same-length Inv-loop μ-loop
+same-length c = c .before .loop .inv .long
+
+returns : tie.Need-returns Inv-loop μ-loop
+returns c = let a = c .before .before .args in copy-done (now (a .from)) (now (a .to)) (a .at) (c .before .loop .to) (c .before .loop .k) (c .before .loop .inv) (c .loop-test .left)
+
+pub copy-spec : {M : Type 1} → statement M
+copy-spec =
+    tie.close
+    (tie.spec
+    Inv-loop
+    μ-loop
+    loop-holds
+    shared-slice-read-to
+    add-to
+    slice-write-to
+    add-k
+    loop-less
+    loop-again
+    same-length
+    returns)

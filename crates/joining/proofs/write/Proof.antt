@@ -1,0 +1,78 @@
+use native.Mathlib.Omega.{arith}
+use mathlib.Core.Path.{sym}
+use denote.Ref.{now}
+use Prim.Native.Nat.{_-_, _*_}
+use lib.ListN.{length, take, drop, length-drop}
+use lib.Seq.{length-take-le, take-all}
+use Rattle.joining.proofs.Answers.{too-long, wrote}
+use borrow.Author.Needs.{needs}
+use Rattle.joining.proofs.write.Statement.{statement}
+use Rattle.joining.proofs.write.Tie as tie
+
+sub-kept : tie.Need-sub-kept
+sub-kept c = search needs
+
+mul-skipped : tie.Need-mul-skipped
+mul-skipped c = search needs
+
+sub-count : tie.Need-sub-count
+sub-count c = search needs
+
+add-count : tie.Need-add-count
+add-count c = search needs
+
+refusal-requires : tie.Need-refusal-requires
+refusal-requires c κs = search needs
+
+returns : tie.Need-returns
+returns c = let a = c .before .before .before .before .before .args in
+    too-long (now (a .left)) (now (a .right)) (now (a .out)) (a .arrays) (c .before .before .before .before .before .pre .0) (c .refusal .result) (c .before .if1 .taken) (c .refusal .ensures)
+
+slice-aggregate-copy : tie.Need-slice-aggregate-copy
+slice-aggregate-copy c = let a = c .before .before .before .before .before .args in
+    sym (length-take-le (length (now (a .left)) - 1) (now (a .left)) (omega arith))
+
+copy-requires : tie.Need-copy-requires
+copy-requires c κs = let a = c .before .before .before .before .before .before .args in
+    omega (arith, c .before .before .if1 .left, length-take-le (length (now (a .left)) - 1) (now (a .left)) (omega arith))
+
+sub-copy : tie.Need-sub-copy
+sub-copy c = search needs
+
+part-copy-start : tie.Need-part-copy-start
+part-copy-start c = search needs
+
+part-copy-end : tie.Need-part-copy-end
+part-copy-end c = search needs
+
+copy-requires-2 : tie.Need-copy-requires-2
+copy-requires-2 c κs = search needs
+
+same-length : tie.Need-same-length
+same-length c = search needs
+
+returns-2 : tie.Need-returns-2
+returns-2 c = let a = c .before .before .before .before .before .before .before .before .before .before .before .before .before .before .args in
+    let r = now (a .right) in
+    let n = 5 * a .arrays in
+    wrote (now (a .left)) (now (a .right)) (now (a .out)) (a .arrays) (c .before .before .before .before .before .before .before .before .before .before .before .before .before .before .pre .0) (c .before .before .before .before .before .before .before .copy .last .1 .0) (c .before .before .copy2 .last .1 .0) (take (length r - n) (drop n r)) (c .before .before .before .before .before .before .before .before .before .before .if1 .left)
+    (take-all (length r - n) (drop n r) (omega (arith, length-drop n r))) (c .before .before .before .before .before .before .before .copy .ensures) (c .before .before .copy2 .ensures)
+
+pub write-spec : {M : Type 1} → statement M
+write-spec =
+    tie.close
+    (tie.spec
+    sub-kept
+    mul-skipped
+    sub-count
+    add-count
+    refusal-requires
+    returns
+    slice-aggregate-copy
+    copy-requires
+    sub-copy
+    part-copy-start
+    part-copy-end
+    copy-requires-2
+    same-length
+    returns-2)

@@ -1,0 +1,129 @@
+-- Two tables joined: left's arrays, left's loops, right's loops and one end; or a refusal.
+use Prim.Native.Nat.{ℕ, _+_, _*_, _-_, _≤_, _<_}
+use native.Mathlib.Omega.{arith}
+use mathlib.Core.Path.{_≡_, refl, sym, _∙_}
+use mathlib.Core.Bool.{Bool, true, false, not, _&&_}
+use mathlib.Core.List.{List, [], _∷_, _++_}
+use lib.ListN.{length, take, drop, length-append, length-drop}
+use lib.Seq.{length-take-le}
+use lib.Dec.{eqb, ltb}
+use borrow.Author.Tests.{eqb-true, eq-eqb, ltb-false, not-false}
+use Rattle.model.specs.Table.{Table, count}
+use Rattle.reader.specs.Reading.{Answer, accepted}
+use Rattle.serial.specs.Serial.{table}
+
+-- a refusal with its number and its place, or the bytes written
+pub data Joined : Type 0 where
+  refused : (number place : ℕ) → Joined
+  written : List ℕ → Joined
+
+infixr 20 _if_else_
+abbrev pub _if_else_ : Joined → Bool → Joined → Joined
+_if_else_ a true b = a
+_if_else_ a false b = b
+
+-- what follows the reading of a table: its refusal, or more
+abbrev pub after : Answer → (Table → Joined) → Joined
+after (Answer.refused n p) more = refused n p
+after (accepted t) more = more t
+
+-- two lists of arrays' lengths are the same
+unfoldable pub alike : List ℕ → List ℕ → Bool
+alike [] [] = true
+alike [] (m ∷ ms) = false
+alike (n ∷ ns) [] = false
+alike (n ∷ ns) (m ∷ ms) = eqb n m && alike ns ms
+
+-- left without its end, which is its last byte; right without its arrays, which are its first records, of five bytes each
+unfoldable pub bytes : List ℕ → List ℕ → ℕ → List ℕ
+bytes left right arrays = take (length left - 1) left ++ drop (5 * arrays) right
+
+-- 13 where the bytes don't fit the lent ones
+unfoldable pub fitted : ℕ → List ℕ → Joined
+fitted room bs = refused 13 0 if ltb room (length bs) else written bs
+
+-- left, then right, each through 9; then 14; 4 for too many loops in all; 13
+unfoldable pub joining : List ℕ → List ℕ → ℕ → Joined
+joining left right room =
+    after (table left) λ t.
+    after (table right) λ u.
+    refused 14 0 if not (alike (t .lengths) (u .lengths)) else
+    refused 4 0 if ltb 16 (count t + count u) else
+    fitted room (bytes left right (length (t .lengths)))
+
+-- what the lent output then holds: as found, or the bytes and what stood past them
+unfoldable pub final : Joined → List ℕ → List ℕ
+final (refused n p) out = out
+final (written bs) out = bs ++ drop (length bs) out
+
+-- LAWS
+-- alike means equal
+pub alike-same : (ns ms : List ℕ) → alike ns ms ≡ true → ns ≡ ms
+unfolding alike
+alike-same [] [] e = refl
+alike-same [] (m ∷ ms) e = let z : _≡_ {A = ℕ} 0 1 = cc in absurd (omega arith)
+alike-same (n ∷ ns) [] e = let z : _≡_ {A = ℕ} 0 1 = cc in absurd (omega arith)
+alike-same (n ∷ ns) (m ∷ ms) e = go (eqb n m) refl e (alike-same ns ms)
+  where
+    go : (b : Bool) → eqb n m ≡ b → (b && alike ns ms) ≡ true → (alike ns ms ≡ true → ns ≡ ms) → n ∷ ns ≡ m ∷ ms
+    go true f h rest = let x : n ≡ m = eqb-true n m f in let y : ns ≡ ms = rest h in cc
+    go false f h rest = let z : _≡_ {A = ℕ} 0 1 = cc in absurd (omega arith)
+
+pub same-alike : (ns : List ℕ) → alike ns ns ≡ true
+unfolding alike
+same-alike [] = refl
+same-alike (n ∷ ns) = rw (eq-eqb n n refl) (same-alike ns)
+
+pub bytes-length : (left right : List ℕ) (arrays : ℕ) → 0 < length left → length (bytes left right arrays) ≡ length left - 1 + (length right - 5 * arrays)
+unfolding bytes
+bytes-length left right arrays some =
+    length-append (take (length left - 1) left) (drop (5 * arrays) right)
+    ∙ rw (length-take-le (length left - 1) left (omega arith), length-drop (5 * arrays) right)
+
+-- where bytes are written, both tables were accepted and met none of 14, 4 and 13
+pub record Written (left right : List ℕ) (room : ℕ) (bs : List ℕ) : Type 0 where
+  pub ours : Table
+  pub theirs : Table
+  pub left-is : table left ≡ accepted ours
+  pub right-is : table right ≡ accepted theirs
+  pub like : ours .lengths ≡ theirs .lengths
+  pub few : count ours + count theirs ≤ 16
+  pub fits : length bs ≤ room
+  pub made : bs ≡ bytes left right (length (ours .lengths))
+
+refused-written : {n p : ℕ} {bs : List ℕ} → refused n p ≡ written bs → ⊥
+refused-written e = let z : _≡_ {A = ℕ} 0 1 = cc in omega arith
+
+-- a test before what is written
+passed : (n p : ℕ) (b : Bool) (more : Joined) (bs : List ℕ) → (refused n p if b else more) ≡ written bs → (b ≡ false) × (more ≡ written bs)
+passed n p true more bs e = absurd (refused-written e)
+passed n p false more bs e = (refl, e)
+
+pub written-known : (left right : List ℕ) (room : ℕ) (bs : List ℕ) → joining left right room ≡ written bs → Written left right room bs
+unfolding joining fitted
+written-known left right room bs e = go (table left) refl (table right) refl e
+  where
+    go : (x : Answer) → table left ≡ x → (y : Answer) → table right ≡ y
+        → (after x λ t.
+        after y λ u.
+        refused 14 0 if not (alike (t .lengths) (u .lengths)) else
+        refused 4 0 if ltb 16 (count t + count u) else
+        fitted room (bytes left right (length (t .lengths)))) ≡ written bs
+        → Written left right room bs
+    go (Answer.refused n p) f y g h = absurd (refused-written h)
+    go (accepted t) f (Answer.refused n p) g h = absurd (refused-written h)
+    go (accepted t) f (accepted u) g h =
+        let (like, h₂) = passed 14 0 (not (alike (t .lengths) (u .lengths))) _ bs h in
+        let (few, h₃) = passed 4 0 (ltb 16 (count t + count u)) _ bs h₂ in
+        let (fits, h₄) = passed 13 0 (ltb room (length (bytes left right (length (t .lengths))))) _ bs h₃ in
+        let made : bytes left right (length (t .lengths)) ≡ bs = cc in
+        record {
+          ours = t;
+          theirs = u;
+          left-is = f;
+          right-is = g;
+          like = alike-same (t .lengths) (u .lengths) (not-false (alike (t .lengths) (u .lengths)) like);
+          few = ltb-false 16 (count t + count u) few;
+          fits = rw made at (ltb-false room (length (bytes left right (length (t .lengths)))) fits);
+          made = sym made;
+        }
