@@ -1,17 +1,13 @@
 -- A word byte by byte, and a number digit by digit. Assumes nothing.
-use mathlib.Core.Path.{_≡_, ap, subst, _∙_}
-use mathlib.Core.List.{List, [], _∷_, _++_}
+use mathlib.Core.Path.{_≡_, subst}
+use mathlib.Core.List.{List}
 use Prim.Native.Nat.{ℕ, _+_, _/_, _^_, _≤_, _<_}
 use native.Mathlib.Numerals.{add-one}
 use native.Mathlib.Omega.{arith}
 use lib.ListN.{length, getD, set, take}
 use lib.Seq.{take-suc, take-all}
-use Rattle.text.specs.Written.{Put, put-one, put-none, put-then, length-written}
+use Rattle.text.specs.Written.{Put, put-one, put-none, put-then}
 use Rattle.text.specs.Decimal.{decimal, lastDigit, decimal-small, decimal-more, length-decimal}
-
--- the bytes lent stay as many
-pub same-count : {out : List ℕ} {at : ℕ} {text : List ℕ} {most : ℕ} {left : List ℕ} {past : ℕ} → Put out at text most left past → length left ≡ length out
-same-count {out} {at} {text} p = ap length (p .bytes) ∙ length-written out at text
 
 module _ (out : List ℕ) (at : ℕ) (w : List ℕ) where
   -- after i bytes of a word

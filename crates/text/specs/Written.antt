@@ -1,8 +1,8 @@
 -- What lent bytes hold after a text was written into them. Assumes nothing.
 use mathlib.Core.Path.{_≡_, refl, ap, _∙_}
 use mathlib.Core.List.{List, [], _∷_, _++_}
-use Prim.Native.Nat.{ℕ, zero, suc, _+_, _≤_, _<_}
-use native.Mathlib.Nat.{add-zero, add-suc, suc-add}
+use Prim.Native.Nat.{ℕ, suc, _+_, _≤_}
+use native.Mathlib.Nat.{add-zero}
 use native.Mathlib.Omega.{arith}
 use lib.ListN.{length, take, drop, set, length-append, length-set}
 use lib.Seq.{sets, sets-eq}
@@ -69,3 +69,7 @@ put-then {out} {mid} {left} {at} {between} {past} {a} {b} f g = record {
 
 pub put-most : {out left : List ℕ} {at past : ℕ} {text : List ℕ} {m : ℕ} (n : ℕ) → m ≤ n → Put out at text m left past → Put out at text n left past
 put-most n l f = record { bytes = f .bytes; place = f .place; few = omega (arith, f .few) }
+
+-- the bytes lent stay as many
+pub put-length : {out left : List ℕ} {at past : ℕ} {text : List ℕ} {most : ℕ} → Put out at text most left past → length left ≡ length out
+put-length {out} {at = at} {text = text} p = ap length (p .bytes) ∙ length-written out at text

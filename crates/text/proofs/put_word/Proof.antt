@@ -2,7 +2,8 @@ use native.Mathlib.Omega.{arith}
 use denote.Ref.{now}
 use Prim.Native.Nat.{_-_}
 use lib.ListN.{length}
-use Rattle.text.proofs.Laws.{WordInv, word-start, word-next, word-end, same-count}
+use Rattle.text.proofs.Laws.{WordInv, word-start, word-next, word-end}
+use Rattle.text.specs.Written.{put-length}
 use Rattle.text.proofs.put_word.Statement.{statement}
 use Rattle.text.proofs.put_word.Tie as tie
 
@@ -31,7 +32,7 @@ loop-again : tie.Need-loop-again Inv-loop μ-loop
 loop-again c = let a = c .before .before .before .before .before .before .before .before .before .args in let l = c .before .before .before .before .before .before .loop in word-next (now (a .out)) (a .at) (now (a .w)) (l .i) (l .out) (l .next) _ _ (l .inv) (c .before .before .before .before .before .loop-test .taken) (c .before .before .put-byte .ensures)
 
 same-length : tie.Need-same-length Inv-loop μ-loop
-same-length c = same-count (c .before .loop .inv .1)
+same-length c = put-length (c .before .loop .inv .1)
 
 returns : tie.Need-returns Inv-loop μ-loop
 returns c = let a = c .before .before .before .before .args in let l = c .before .loop in word-end (now (a .out)) (a .at) (now (a .w)) (l .i) (l .out) (l .next) (l .inv) (c .loop-test .left)
