@@ -19,6 +19,12 @@ pub record Put (out : List ℕ) (at : ℕ) (text : List ℕ) (most : ℕ) (left 
   pub place : past ≡ at + length text
   pub few : length text ≤ most
 
+-- a call that writes a whole text of at most `most` bytes, from the first byte on, answers its length
+pub record Whole (out : List ℕ) (text : List ℕ) (most : ℕ) (left : List ℕ) (count : ℕ) : Type 0 where
+  pub bytes : left ≡ written out 0 text
+  pub size : count ≡ length text
+  pub few : count ≤ most
+
 -- LAWS
 -- one text and then another
 pub written-append : (out : List ℕ) (at : ℕ) (a b : List ℕ) → written out at (a ++ b) ≡ written (written out at a) (at + length a) b
@@ -43,6 +49,9 @@ stores out at (b ∷ text) = stores (set out at b) (suc at) text
 pub written-room : (out : List ℕ) (at : ℕ) (text : List ℕ) → at + length text ≤ length out
     → written out at text ≡ take at out ++ text ++ drop (at + length text) out
 written-room out at text h = stores out at text ∙ sets-eq text out at h
+
+pub written-front : (out text : List ℕ) → length text ≤ length out → written out 0 text ≡ text ++ drop (length text) out
+written-front out text h = let e : 0 + length text ≡ length text = omega arith in rw e at (written-room out 0 text (omega arith))
 
 -- no byte, no change
 pub written-nowhere : (at : ℕ) (text : List ℕ) → written [] at text ≡ []
@@ -73,3 +82,7 @@ put-most n l f = record { bytes = f .bytes; place = f .place; few = omega (arith
 -- the bytes lent stay as many
 pub put-length : {out left : List ℕ} {at past : ℕ} {text : List ℕ} {most : ℕ} → Put out at text most left past → length left ≡ length out
 put-length {out} {at = at} {text = text} p = ap length (p .bytes) ∙ length-written out at text
+
+-- from the first byte on
+pub put-whole : {out left : List ℕ} {past : ℕ} {text : List ℕ} {most : ℕ} → Put out 0 text most left past → Whole out text most left past
+put-whole p = record { bytes = p .bytes; size = omega (arith, p .place); few = omega (arith, p .place, p .few) }
