@@ -1,0 +1,2 @@
+-- a word byte by byte, and a number digit by digit
+pub mod Laws

@@ -1,0 +1,6 @@
+-- characters as bytes
+pub mod Ascii
+-- what lent bytes hold after a text was written into them
+pub mod Written
+-- a number in decimal
+pub mod Decimal
