@@ -1,0 +1,133 @@
+-- Numbers written one after the other, and what is told of them.
+use Prim.Native.Nat.{ℕ, zero, suc, _+_, _*_, _≤_, _<_}
+use native.Mathlib.Omega.{arith}
+use native.Mathlib.Numerals.{add-one}
+use mathlib.Core.Path.{_≡_, refl, sym, ap, subst, _∙_}
+use mathlib.Core.Bool.{Bool, true, false}
+use mathlib.Core.List.{List, [], _∷_, _++_, append-nil}
+use lib.ListN.{length, getD, length-append}
+use borrow.Author.Tests.{lt-ltb, le-ltb}
+use Rattle.order.specs.Lists.{joined}
+use Rattle.model.specs.Table.{Table, count}
+use Rattle.model.specs.References.{allRefs}
+use Rattle.reader.specs.Reading.{Answer, accepted, reading}
+use Rattle.reader.specs.Columns.{Columns, tableAt, count-table}
+use Rattle.serial.specs.Serial.{table}
+use Rattle.chains.specs.Walk.{shifts, peels}
+use Rattle.text.specs.Written.{written, Put, put-none, put-then, put-most, written-front}
+use Rattle.numbers.specs.declared.Outcome.{Outcome}
+use Rattle.numbers.specs.Numbers.{four, encoded, four-length, encoded-length, encoded-append}
+use Rattle.numbers.specs.Given.{Given, refused, numbers, final, numberOf, placeOf, countOf, Says}
+use Rattle.tables.specs.declared.Outline.{Outline}
+use Rattle.tables.specs.Verdict.{Outlined}
+use Rattle.tables.specs.Verdict as Verdict
+use Rattle.plans.specs.declared.Measured.{Measured}
+use Rattle.plans.specs.Plans.{Measures, shiftOf, peelOf}
+use Rattle.entries.specs.Entries.{after, amountsOf, amounts, Told}
+
+-- A ROW OF NUMBERS
+module _ (f : ℕ → List ℕ) where
+  pub row-start : (out : List ℕ) → Put out 0 (joined 0 f) (8 * 0) out 0
+  row-start out = put-none out 0
+
+  pub row-next : (out mid left : List ℕ) (k at past : ℕ) → Put out 0 (joined k f) (8 * k) mid at → Put mid at (f k) 8 left past
+      → Put out 0 (joined (k + 1) f) (8 * (k + 1)) left past
+  row-next out mid left k at past p q = rw (add-one k) (put-most (8 * suc k) (omega arith) (put-then p q))
+
+-- pairs of numbers, as one row
+pub pairs : (n : ℕ) (x y : ℕ → ℕ) → joined n (λ k. four (x k) ++ four (y k)) ≡ encoded (joined n (λ k. x k ∷ y k ∷ []))
+unfolding encoded
+pairs zero x y = refl
+pairs (suc n) x y =
+    ap (λ (l : List ℕ). l ++ (four (x n) ++ four (y n))) (pairs n x y)
+    ∙ ap (λ (l : List ℕ). encoded (joined n (λ k. x k ∷ y k ∷ [])) ++ (four (x n) ++ l)) (sym (append-nil (four (y n))))
+    ∙ sym (encoded-append (joined n (λ k. x k ∷ y k ∷ [])) (x n ∷ y n ∷ []))
+
+pairs-length : (n : ℕ) (x y : ℕ → ℕ) → length (encoded (joined n (λ k. x k ∷ y k ∷ []))) ≡ 8 * n
+pairs-length n x y = encoded-length (joined n (λ k. x k ∷ y k ∷ [])) ∙ go n
+  where
+    go : (n : ℕ) → 4 * length (joined n (λ k. x k ∷ y k ∷ [])) ≡ 8 * n
+    go zero = refl
+    go (suc n) = omega (arith, go n, length-append (joined n (λ k. x k ∷ y k ∷ [])) (x n ∷ y n ∷ []))
+
+-- AN ENTRY'S OUTCOME
+abbrev pub refusing : ℕ → ℕ → ℕ → Outcome
+refusing number place read = record { number = number; place = place; read = read; written = 0 }
+
+-- what a refused table gives, whatever was asked
+refused-after : (a : Answer) (more : Table → Given) → (Verdict.numberOf a ≡ 0 → ⊥)
+    → (numberOf (after a more) ≡ Verdict.numberOf a) × (placeOf (after a more) ≡ Verdict.placeOf a) × (countOf (after a more) ≡ 0)
+    × ((out : List ℕ) → final (after a more) out ≡ out)
+unfolding final
+refused-after (accepted t) more n = absurd (n refl)
+refused-after (Answer.refused g p) more n = (refl, refl, refl, λ out. refl)
+
+module _ (s : List ℕ) (c : Columns) (m : Measured) (h : Measures s m c) (out : List ℕ) where
+  abbrev pub o : Outline
+  o = m .outline
+
+  abbrev pub given : Given
+  given = amounts s (length out)
+
+  pub entry-refused : (o .number ≡ 0 → ⊥) → Told s given (refusing (o .number) (o .place) (o .read)) × (out ≡ final given out)
+  unfolding amounts
+  entry-refused n =
+      let told = h .outlined .told in
+      let (a, b, d, e) = refused-after (table s) (λ t. numbers (length out) (amountsOf t)) (λ z. n (told .number ∙ z)) in (
+        record {
+          says = record { number = told .number ∙ sym a; place = told .place ∙ sym b; count = sym d };
+          named = told .named;
+          unnamed = told .unnamed;
+        },
+        sym (e out),
+      )
+
+  module _ (none : o .number ≡ 0) where
+    abbrev pub t : Table
+    t = tableAt c (o .arrays) (o .loops)
+
+    abbrev pub xs : List ℕ
+    xs = amountsOf t
+
+    is : given ≡ numbers (length out) xs
+    unfolding amounts
+    is = ap (λ (a : Answer). after a (λ u. numbers (length out) (amountsOf u))) (h .outlined .held none .0)
+
+    -- the pairs that the code writes are the table's
+    wrote : joined (o .loops) (λ k. four (getD (m .amounts .shifts) k 0) ++ four (getD (m .amounts .peels) k 0)) ≡ encoded xs
+    wrote =
+        rw (h .shifts-are none, h .peels-are none)
+        (pairs (o .loops) (shiftOf t) (peelOf t) ∙ ap (λ (n : ℕ). encoded (joined n (λ k. shiftOf t k ∷ peelOf t k ∷ []))) (sym (count-table c (o .arrays) (o .loops))))
+
+    pub size : length (encoded xs) ≡ 8 * o .loops
+    size =
+        ap (λ (n : ℕ). length (encoded (joined n (λ k. shiftOf t k ∷ peelOf t k ∷ [])))) (count-table c (o .arrays) (o .loops))
+        ∙ pairs-length (o .loops) (shiftOf t) (peelOf t)
+
+    pub entry-short : length out < 8 * o .loops → Told s given (refusing 13 0 0) × (out ≡ final given out)
+    unfolding numbers final
+    entry-short l =
+        let e : given ≡ refused 13 0 = is ∙ (rw (lt-ltb (length out) (length (encoded xs)) (rw size l))) in
+        rw e (
+          record {
+            says = record { number = refl; place = refl; count = refl };
+            named = λ u q z. absurd (omega (arith, z));
+            unnamed = λ z. refl;
+          },
+          refl,
+        )
+
+    pub entry-written : 8 * o .loops ≤ length out → (left : List ℕ) (past : ℕ)
+        → Put out 0 (joined (o .loops) (λ k. four (getD (m .amounts .shifts) k 0) ++ four (getD (m .amounts .peels) k 0))) (8 * o .loops) left past
+        → Told s given (record { number = 0; place = 0; read = 0; written = past }) × (left ≡ final given out)
+    unfolding numbers final
+    entry-written l left past p =
+        let e : given ≡ Given.written (encoded xs) = is ∙ (rw (le-ltb (length out) (length (encoded xs)) (rw size l))) in
+        rw e (
+          record {
+            says = record { number = refl; place = refl; count = p .place ∙ ap (λ (w : List ℕ). 0 + length w) wrote ∙ omega arith };
+            named = λ u q z. absurd (omega (arith, z));
+            unnamed = λ z. refl;
+          },
+          p .bytes ∙ ap (written out 0) wrote ∙ written-front out (encoded xs) (rw size l),
+        )

@@ -1,0 +1,47 @@
+-- The numbers that each entry gives, four bytes each, or the refusal: 1 to 9, then 10 and 11 where P is asked, then 13.
+use Prim.Native.Nat.{ℕ, zero, suc, _+_, _-_}
+use mathlib.Core.Path.{_≡_}
+use mathlib.Core.List.{List, [], _∷_, _++_}
+use Rattle.order.specs.Lists.{joined}
+use Rattle.model.specs.Table.{Table, count}
+use Rattle.reader.specs.Reading.{Answer, accepted, reading}
+use Rattle.serial.specs.Serial.{table}
+use Rattle.serial.specs.Meeting.{Collides}
+use Rattle.blocks.specs.declared.Range.{Range}
+use Rattle.blocks.specs.Blocks.{block}
+use Rattle.blocks.specs.Span.{tableSpan}
+use Rattle.numbers.specs.declared.Outcome.{Outcome}
+use Rattle.numbers.specs.Given.{Given, refused, written, numbers, Says}
+use Rattle.plans.specs.Plans.{shiftOf, peelOf, thresholdOf, planned}
+
+-- an answer's refusal, or the numbers of the table
+abbrev pub after : Answer → (Table → Given) → Given
+after (Answer.refused n p) more = refused n p
+after (accepted t) more = more t
+
+-- shift and peel of each loop
+abbrev pub amountsOf : Table → List ℕ
+amountsOf t = joined (count t) (λ k. shiftOf t k ∷ peelOf t k ∷ [])
+
+-- a and e of each block
+abbrev pub ends : Range → List ℕ
+ends r = r .from ∷ (r .past - 1) ∷ []
+
+abbrev pub blocksOf : ℕ → Table → List ℕ
+blocksOf P t = joined P (λ b. ends (block (tableSpan t .first) (tableSpan t .count) P b))
+
+-- each entry, with so much room
+unfoldable pub amounts : List ℕ → ℕ → Given
+amounts s room = after (table s) (λ t. numbers room (amountsOf t))
+
+unfoldable pub threshold : List ℕ → ℕ → Given
+threshold s room = after (table s) (λ t. numbers room (thresholdOf t ∷ []))
+
+unfoldable pub blocks : List ℕ → ℕ → ℕ → Given
+blocks s P room = after (planned s P) (λ t. numbers room (blocksOf P t))
+
+-- what is told: the outcome, and the read that 9 names, which collides
+pub record Told (s : List ℕ) (g : Given) (o : Outcome) : Type 0 where
+  pub says : Says o g
+  pub named : (t : Table) → reading s ≡ accepted t → o .number ≡ 9 → Collides t (o .place) (o .read)
+  pub unnamed : (o .number ≡ 9 → ⊥) → o .read ≡ 0

@@ -1,0 +1,2 @@
+-- the numbers that each entry gives
+pub mod Entries
