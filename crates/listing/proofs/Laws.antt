@@ -1,55 +1,16 @@
--- A line field by field, and lines one after the other. Assumes nothing.
-use mathlib.Core.Path.{_≡_, ap, subst}
-use mathlib.Core.List.{List, [], _∷_, _++_, append-assoc}
+-- Lines one after the other. Assumes nothing.
+use mathlib.Core.Path.{_≡_, ap}
+use mathlib.Core.List.{List, [], _∷_}
 use Prim.Native.Nat.{ℕ, suc, _+_, _-_, _*_, _^_, _≤_, _<_}
 use native.Mathlib.Nat.{mul-suc}
 use native.Mathlib.Numerals.{add-one}
 use native.Mathlib.Omega.{arith}
-use lib.ListN.{length, set}
 use borrow.Author.Tests.{lt-ltb, le-ltb}
-use Rattle.text.specs.Decimal.{decimal}
-use Rattle.text.specs.Written.{Put, put-one, put-none, put-then, put-most}
+use Rattle.text.specs.Line.{line}
+use Rattle.text.specs.Written.{Put, put-none, put-then, put-most}
 use Rattle.blocks.specs.declared.Range.{Range}
 use Rattle.blocks.specs.Blocks.{start, start-up, start-last, block}
-use Rattle.listing.specs.Listing.{field, fields, line, rangeLine, each}
-
-pub field-put : (out : List ℕ) (at x : ℕ) (mid : List ℕ) (next : ℕ) {left : List ℕ} {past : ℕ} → (mid ≡ set out at 32) × (next ≡ at + 1)
-    → Put mid next (decimal x) 20 left past → Put out at (field x) 21 left past
-field-put out at x mid next h p = put-then (put-one out at 32 mid next h) p
-
--- A LINE
-regroup : (a b c d e f : List ℕ) → a ++ b ++ c ++ d ++ e ++ f ≡ a ++ (b ++ (c ++ (d ++ (e ++ f))))
-regroup a b c d e f = simp append-assoc
-
-module _ {out : List ℕ} {at : ℕ} (w : List ℕ) (x y : ℕ) where
-  pub head-put : {mid mid′ left : List ℕ} {next next′ past : ℕ} → length w ≤ 7 → Put out at w (length w) mid next
-      → Put mid next (field x) 21 mid′ next′ → Put mid′ next′ (field y) 21 left past → Put out at (w ++ field x ++ field y) 49 left past
-  head-put short f g h = put-most 49 (omega arith) (put-then (put-then f g) h)
-
-  module _ {head : List ℕ} {next : ℕ} (f : Put out at (w ++ field x ++ field y) 49 head next) where
-    pub two-put : (left : List ℕ) (past : ℕ) → (left ≡ set head next 10) × (past ≡ next + 1) → Put out at (line w (x ∷ y ∷ [])) 100 left past
-    unfolding line
-    two-put left past h =
-        let e : w ++ field x ++ field y ++ (10 ∷ []) ≡ w ++ fields (x ∷ y ∷ []) = simp append-assoc in
-        let p = put-then f (put-one head next 10 left past h) in
-        subst (λ (t : List ℕ). Put out at t 100 left past) e (put-most 100 (omega arith) p)
-
-    pub three-put : (z : ℕ) {mid : List ℕ} {third : ℕ} (left : List ℕ) (past : ℕ) → Put head next (field z) 21 mid third
-        → (left ≡ set mid third 10) × (past ≡ third + 1) → Put out at (line w (x ∷ y ∷ z ∷ [])) 100 left past
-    unfolding line
-    three-put z {mid} {third} left past g h =
-        let e : w ++ field x ++ field y ++ field z ++ (10 ∷ []) ≡ w ++ fields (x ∷ y ∷ z ∷ []) = simp append-assoc in
-        let p = put-then (put-then f g) (put-one mid third 10 left past h) in
-        subst (λ (t : List ℕ). Put out at t 100 left past) e (put-most 100 (omega arith) p)
-
-    pub four-put : (z v : ℕ) {mid mid′ : List ℕ} {third fourth : ℕ} (left : List ℕ) (past : ℕ) → Put head next (field z) 21 mid third
-        → Put mid third (field v) 21 mid′ fourth → (left ≡ set mid′ fourth 10) × (past ≡ fourth + 1)
-        → Put out at (line w (x ∷ y ∷ z ∷ v ∷ [])) 100 left past
-    unfolding line
-    four-put z v {mid′ = mid′} {fourth = fourth} left past g i h =
-        let e : w ++ field x ++ field y ++ field z ++ field v ++ (10 ∷ []) ≡ w ++ fields (x ∷ y ∷ z ∷ v ∷ []) = regroup w (field x) (field y) (field z) (field v) (10 ∷ []) in
-        let p = put-then (put-then (put-then f g) i) (put-one mid′ fourth 10 left past h) in
-        subst (λ (t : List ℕ). Put out at t 100 left past) e (put-most 100 (omega arith) p)
+use Rattle.listing.specs.Listing.{rangeLine, each}
 
 -- A RANGE, empty or not
 module _ (out : List ℕ) (at : ℕ) (word : List ℕ) (b k from past : ℕ) where

@@ -1,2 +1,2 @@
--- a line field by field, and lines one after the other
+-- lines one after the other
 pub mod Laws

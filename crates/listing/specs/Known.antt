@@ -4,9 +4,10 @@ use mathlib.Core.List.{_++_}
 use Prim.Native.Nat.{ℕ, _+_}
 use Rattle.text.specs.Ascii.{ascii}
 use Rattle.text.specs.Decimal.{decimal, digits}
+use Rattle.text.specs.Line.{line}
 use Rattle.blocks.specs.Blocks.{size, start, edge}
 use Rattle.blocks.specs.Parts.{fusedPart, peeledPart}
-use Rattle.listing.specs.Listing.{line, listing, refusal}
+use Rattle.listing.specs.Listing.{listing, refusal}
 
 -- loop 0 has shift and peel 0, loop 1 has 1 and 1
 abbrev amount : ℕ → ℕ

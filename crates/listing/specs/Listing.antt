@@ -6,23 +6,10 @@ use Prim.Native.Nat.{ℕ, zero, suc, _-_, _<_}
 use native.Mathlib.Omega.{arith}
 use lib.Dec.{ltb}
 use Rattle.text.specs.Ascii.{ascii}
-use Rattle.text.specs.Decimal.{decimal}
+use Rattle.text.specs.Line.{line}
 use Rattle.blocks.specs.declared.Range.{Range}
 use Rattle.blocks.specs.Blocks.{blockAt}
 use Rattle.blocks.specs.Parts.{fusedPart, peeledPart}
-
--- one blank and a number
-abbrev pub field : ℕ → List ℕ
-field x = 32 ∷ decimal x
-
--- the fields of a line, and a line feed
-abbrev pub fields : List ℕ → List ℕ
-fields [] = 10 ∷ []
-fields (x ∷ xs) = field x ++ fields xs
-
--- a word, its fields, a line feed
-unfoldable pub line : List ℕ → List ℕ → List ℕ
-line word xs = word ++ fields xs
 
 -- loop, shift, peel
 abbrev pub loopLine : ℕ → ℕ → ℕ → List ℕ

@@ -2,9 +2,9 @@
 // is the text's whole length, so a first call with no bytes tells how many are needed.
 
 use blocks::Range;
-use text::put_byte;
-use text::put_decimal;
-use text::put_word;
+use text::put_line_of_four;
+use text::put_line_of_three;
+use text::put_line_of_two;
 ghost use mathlib.Core.Path.{_≡_};
 ghost use mathlib.Core.List.{[], _∷_, _++_};
 ghost use Prim.Native.Nat.{suc, _+_, _-_, _^_, _≤_, _<_};
@@ -12,62 +12,13 @@ ghost use lib.ListN.{length};
 ghost use Rattle.text.specs.Written.{Put, Whole};
 ghost use Rattle.blocks.specs.Sums.{column};
 ghost use Rattle.blocks.specs.Blocks.{edge, block};
-ghost use Rattle.listing.specs.Listing.{field, line, loopLine, blockLine, rangeLine, each, rangeLines, listing, refusal};
+ghost use Rattle.listing.specs.Listing.{loopLine, blockLine, rangeLine, each, rangeLines, listing, refusal};
 ghost use Rattle.listing.specs.Code.{partName, partOf, partRange, ownOf, Sizes};
 
 // Which parts of the loops the lines are of.
 enum Part {
     Fused,
     Peeled,
-}
-
-// One blank and a number.
-fn put_field(out: &mut [u8], at: usize, x: usize) -> usize
-    requires { ⌜ at + 21 < 2 ^ 64 ⌝ }
-    ensures { λ r. ⌜ Put (now (out .entry)) at (field x) 21 (now (out .exit)) r ⌝ }
-{
-    let next = put_byte(out, at, 32);
-    put_decimal(out, next, x)
-}
-
-// A line's word and its first two fields.
-fn put_head(out: &mut [u8], at: usize, word: &[u8], x: usize, y: usize) -> usize
-    requires { ⌜ (at < 2 ^ 32) × (length (now word) ≤ 7) ⌝ }
-    ensures { λ r. ⌜ Put (now (out .entry)) at (now (word .entry) ++ field x ++ field y) 49 (now (out .exit)) r ⌝ }
-{
-    let first = put_word(out, at, word);
-    let second = put_field(out, first, x);
-    put_field(out, second, y)
-}
-
-// A line of two fields.
-fn put_two(out: &mut [u8], at: usize, word: &[u8], x: usize, y: usize) -> usize
-    requires { ⌜ (at < 2 ^ 32) × (length (now word) ≤ 7) ⌝ }
-    ensures { λ r. ⌜ Put (now (out .entry)) at (line (now (word .entry)) (x ∷ y ∷ [])) 100 (now (out .exit)) r ⌝ }
-{
-    let end = put_head(out, at, word, x, y);
-    put_byte(out, end, 10)
-}
-
-// A line of three fields.
-fn put_three(out: &mut [u8], at: usize, word: &[u8], x: usize, y: usize, z: usize) -> usize
-    requires { ⌜ (at < 2 ^ 32) × (length (now word) ≤ 7) ⌝ }
-    ensures { λ r. ⌜ Put (now (out .entry)) at (line (now (word .entry)) (x ∷ y ∷ z ∷ [])) 100 (now (out .exit)) r ⌝ }
-{
-    let third = put_head(out, at, word, x, y);
-    let end = put_field(out, third, z);
-    put_byte(out, end, 10)
-}
-
-// A line of four fields.
-fn put_four(out: &mut [u8], at: usize, word: &[u8], x: usize, y: usize, z: usize, w: usize) -> usize
-    requires { ⌜ (at < 2 ^ 32) × (length (now word) ≤ 7) ⌝ }
-    ensures { λ r. ⌜ Put (now (out .entry)) at (line (now (word .entry)) (x ∷ y ∷ z ∷ w ∷ [])) 100 (now (out .exit)) r ⌝ }
-{
-    let third = put_head(out, at, word, x, y);
-    let fourth = put_field(out, third, z);
-    let end = put_field(out, fourth, w);
-    put_byte(out, end, 10)
 }
 
 // The last index of a range that is past at `past`.
@@ -85,7 +36,7 @@ fn put_loop(out: &mut [u8], at: usize, k: usize, shift: u32, peel: u32) -> usize
     requires { ⌜ at < 2 ^ 32 ⌝ }
     ensures { λ r. ⌜ Put (now (out .entry)) at (loopLine k shift peel) 100 (now (out .exit)) r ⌝ }
 {
-    put_three(out, at, b"loop", k, shift as usize, peel as usize)
+    put_line_of_three(out, at, b"loop", k, shift as usize, peel as usize)
 }
 
 // Block b, its first and its last index.
@@ -96,7 +47,7 @@ fn put_block(out: &mut [u8], at: usize, processors: u32, b: u32, first: u32, cou
     let r = blocks::block_of(first, count, processors, b);
     let from = r.from;
     let to = last_before(r.past);
-    put_three(out, at, b"block", b as usize, from as usize, to)
+    put_line_of_three(out, at, b"block", b as usize, from as usize, to)
 }
 
 // Block b, loop k, the first and the last index of the range; nothing if it is empty.
@@ -109,8 +60,8 @@ fn put_range(out: &mut [u8], at: usize, part: Part, b: u32, k: usize, from: u32,
     }
     let to = last_before(past);
     match part {
-        Part::Fused => put_four(out, at, b"fused", b as usize, k, from as usize, to),
-        Part::Peeled => put_four(out, at, b"peeled", b as usize, k, from as usize, to),
+        Part::Fused => put_line_of_four(out, at, b"fused", b as usize, k, from as usize, to),
+        Part::Peeled => put_line_of_four(out, at, b"peeled", b as usize, k, from as usize, to),
     }
 }
 
@@ -319,12 +270,12 @@ pub fn write_listing(
         shifts,
         peels,
     );
-    put_two(out, d, b"sweeps", before as usize, after as usize)
+    put_line_of_two(out, d, b"sweeps", before as usize, after as usize)
 }
 
 // The line of a refusal.
 pub fn write_refusal(out: &mut [u8], number: usize, place: usize) -> usize
     ensures { λ r. ⌜ Whole (now (out .entry)) (refusal number place) 100 (now (out .exit)) r ⌝ }
 {
-    put_two(out, 0, b"refused", number, place)
+    put_line_of_two(out, 0, b"refused", number, place)
 }

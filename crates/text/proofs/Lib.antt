@@ -1,2 +1,2 @@
--- a word byte by byte, and a number digit by digit
+-- a word byte by byte, a number digit by digit, a line field by field
 pub mod Laws

@@ -4,3 +4,5 @@ pub mod Ascii
 pub mod Written
 -- a number in decimal
 pub mod Decimal
+-- a line: a word and numbers
+pub mod Line

@@ -19,18 +19,18 @@ put-parts-requires c κs = (lt-of-le-of-lt (past-most 1600 (past-most 0 (le-refl
 put-parts-requires-2 : tie.Need-put-parts-requires-2
 put-parts-requires-2 c κs = (lt-of-le-of-lt (past-most 8000 (past-most 1600 (past-most 0 (le-refl 0) (c .before .before .before .before .before .before .before .before .before .before .before .put-loops .ensures)) (c .before .before .before .before .before .before .before .put-blocks .ensures)) (c .before .before .before .put-parts .ensures)) (lit< tt), c .before .before .before .before .before .before .before .before .before .before .before .before .before .before .pre)
 
-slice-aggregate-put-two : tie.Need-slice-aggregate-put-two
-slice-aggregate-put-two c = refl
+slice-aggregate-put-line-of-two : tie.Need-slice-aggregate-put-line-of-two
+slice-aggregate-put-line-of-two c = refl
 
-put-two-requires : tie.Need-put-two-requires
-put-two-requires c κs = (lt-of-le-of-lt (past-most 110400 (past-most 8000 (past-most 1600 (past-most 0 (le-refl 0) (c .before .before .before .before .before .before .before .before .before .before .before .before .before .before .before .before .put-loops .ensures)) (c .before .before .before .before .before .before .before .before .before .before .before .before .put-blocks .ensures)) (c .before .before .before .before .before .before .before .before .put-parts .ensures)) (c .before .before .before .before .put-parts2 .ensures)) (lit< tt), lit≤ tt)
+put-line-of-two-requires : tie.Need-put-line-of-two-requires
+put-line-of-two-requires c κs = (lt-of-le-of-lt (past-most 110400 (past-most 8000 (past-most 1600 (past-most 0 (le-refl 0) (c .before .before .before .before .before .before .before .before .before .before .before .before .before .before .before .before .put-loops .ensures)) (c .before .before .before .before .before .before .before .before .before .before .before .before .put-blocks .ensures)) (c .before .before .before .before .before .before .before .before .put-parts .ensures)) (c .before .before .before .before .put-parts2 .ensures)) (lit< tt), lit≤ tt)
 
 same-length : tie.Need-same-length
-same-length c = c .before .before .put-two .kept .0 ∙ c .before .before .before .before .before .before .before .put-parts2 .kept .0 ∙ c .before .before .before .before .before .before .before .before .before .before .before .put-parts .kept .0 ∙ c .before .before .before .before .before .before .before .before .before .before .before .before .before .before .before .put-blocks .kept .0 ∙ c .before .before .before .before .before .before .before .before .before .before .before .before .before .before .before .before .before .before .before .put-loops .kept .0
+same-length c = c .before .before .put-line-of-two .kept .0 ∙ c .before .before .before .before .before .before .before .put-parts2 .kept .0 ∙ c .before .before .before .before .before .before .before .before .before .before .before .put-parts .kept .0 ∙ c .before .before .before .before .before .before .before .before .before .before .before .before .before .before .before .put-blocks .kept .0 ∙ c .before .before .before .before .before .before .before .before .before .before .before .before .before .before .before .before .before .before .before .put-loops .kept .0
 
 returns : tie.Need-returns
 unfolding listing
-returns c = put-whole (put-then (put-then (put-then (put-then (c .before .before .before .before .before .before .before .before .before .before .before .before .before .before .before .before .before .before .before .put-loops .ensures) (c .before .before .before .before .before .before .before .before .before .before .before .before .before .before .before .put-blocks .ensures)) (c .before .before .before .before .before .before .before .before .before .before .before .put-parts .ensures)) (c .before .before .before .before .before .before .before .put-parts2 .ensures)) (c .before .before .put-two .ensures))
+returns c = put-whole (put-then (put-then (put-then (put-then (c .before .before .before .before .before .before .before .before .before .before .before .before .before .before .before .before .before .before .before .put-loops .ensures) (c .before .before .before .before .before .before .before .before .before .before .before .before .before .before .before .put-blocks .ensures)) (c .before .before .before .before .before .before .before .before .before .before .before .put-parts .ensures)) (c .before .before .before .before .before .before .before .put-parts2 .ensures)) (c .before .before .put-line-of-two .ensures))
 
 pub write-listing-spec : {M : Type 1} → statement M
 write-listing-spec =
@@ -40,7 +40,7 @@ write-listing-spec =
     put-blocks-requires
     put-parts-requires
     put-parts-requires-2
-    slice-aggregate-put-two
-    put-two-requires
+    slice-aggregate-put-line-of-two
+    put-line-of-two-requires
     same-length
     returns)

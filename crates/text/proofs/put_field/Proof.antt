@@ -1,8 +1,8 @@
 use denote.Ref.{now}
-use Rattle.listing.proofs.Laws.{field-put}
+use Rattle.text.proofs.Laws.{field-put}
 use borrow.Author.Needs.{needs}
-use Rattle.listing.proofs.put_field.Statement.{statement}
-use Rattle.listing.proofs.put_field.Tie as tie
+use Rattle.text.proofs.put_field.Statement.{statement}
+use Rattle.text.proofs.put_field.Tie as tie
 
 put-byte-requires : tie.Need-put-byte-requires
 put-byte-requires c κs = search needs

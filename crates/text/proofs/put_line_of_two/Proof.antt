@@ -1,8 +1,8 @@
 use denote.Ref.{now}
-use Rattle.listing.proofs.Laws.{two-put}
+use Rattle.text.proofs.Laws.{two-put}
 use borrow.Author.Needs.{needs}
-use Rattle.listing.proofs.put_two.Statement.{statement}
-use Rattle.listing.proofs.put_two.Tie as tie
+use Rattle.text.proofs.put_line_of_two.Statement.{statement}
+use Rattle.text.proofs.put_line_of_two.Tie as tie
 
 put-head-requires : tie.Need-put-head-requires
 put-head-requires c κs = search needs
@@ -16,5 +16,5 @@ same-length c = search needs
 returns : tie.Need-returns
 returns c = let a = c .before .before .before .before .before .before .before .before .before .before .args in two-put (now (a .word)) (a .x) (a .y) (c .before .before .before .before .before .before .put-head .ensures) _ _ (c .before .before .put-byte .ensures)
 
-pub put-two-spec : {M : Type 1} → statement M
-put-two-spec = tie.close (tie.spec put-head-requires put-byte-requires same-length returns)
+pub put-line-of-two-spec : {M : Type 1} → statement M
+put-line-of-two-spec = tie.close (tie.spec put-head-requires put-byte-requires same-length returns)

@@ -1,8 +1,8 @@
 use denote.Ref.{now}
-use Rattle.listing.proofs.Laws.{three-put}
+use Rattle.text.proofs.Laws.{three-put}
 use borrow.Author.Needs.{needs}
-use Rattle.listing.proofs.put_three.Statement.{statement}
-use Rattle.listing.proofs.put_three.Tie as tie
+use Rattle.text.proofs.put_line_of_three.Statement.{statement}
+use Rattle.text.proofs.put_line_of_three.Tie as tie
 
 put-head-requires : tie.Need-put-head-requires
 put-head-requires c κs = search needs
@@ -19,6 +19,6 @@ same-length c = search needs
 returns : tie.Need-returns
 returns c = let a = c .before .before .before .before .before .before .before .before .before .before .before .before .before .before .args in three-put (now (a .word)) (a .x) (a .y) (c .before .before .before .before .before .before .before .before .before .before .put-head .ensures) (a .z) _ _ (c .before .before .before .before .before .before .put-field .ensures) (c .before .before .put-byte .ensures)
 
-pub put-three-spec : {M : Type 1} → statement M
-put-three-spec =
+pub put-line-of-three-spec : {M : Type 1} → statement M
+put-line-of-three-spec =
     tie.close (tie.spec put-head-requires put-field-requires put-byte-requires same-length returns)

@@ -1,8 +1,8 @@
 use denote.Ref.{now}
-use Rattle.listing.proofs.Laws.{head-put}
+use Rattle.text.proofs.Laws.{head-put}
 use borrow.Author.Needs.{needs}
-use Rattle.listing.proofs.put_head.Statement.{statement}
-use Rattle.listing.proofs.put_head.Tie as tie
+use Rattle.text.proofs.put_head.Statement.{statement}
+use Rattle.text.proofs.put_head.Tie as tie
 
 put-word-requires : tie.Need-put-word-requires
 put-word-requires c κs = search needs

@@ -1,8 +1,8 @@
 use denote.Ref.{now}
-use Rattle.listing.proofs.Laws.{four-put}
+use Rattle.text.proofs.Laws.{four-put}
 use borrow.Author.Needs.{needs}
-use Rattle.listing.proofs.put_four.Statement.{statement}
-use Rattle.listing.proofs.put_four.Tie as tie
+use Rattle.text.proofs.put_line_of_four.Statement.{statement}
+use Rattle.text.proofs.put_line_of_four.Tie as tie
 
 put-head-requires : tie.Need-put-head-requires
 put-head-requires c κs = search needs
@@ -22,8 +22,8 @@ same-length c = search needs
 returns : tie.Need-returns
 returns c = let a = c .before .before .before .before .before .before .before .before .before .before .before .before .before .before .before .before .before .before .args in four-put (now (a .word)) (a .x) (a .y) (c .before .before .before .before .before .before .before .before .before .before .before .before .before .before .put-head .ensures) (a .z) (a .w) _ _ (c .before .before .before .before .before .before .before .before .before .before .put-field .ensures) (c .before .before .before .before .before .before .put-field2 .ensures) (c .before .before .put-byte .ensures)
 
-pub put-four-spec : {M : Type 1} → statement M
-put-four-spec =
+pub put-line-of-four-spec : {M : Type 1} → statement M
+put-line-of-four-spec =
     tie.close
     (tie.spec
     put-head-requires
