@@ -3,7 +3,7 @@ use mathlib.Core.Path.{_≡_, _∙_, ap}
 use Prim.Native.Nat.{ℕ, suc, _+_, _-_, _≤_, _<_}
 use native.Mathlib.Omega.{arith}
 use Rattle.model.specs.Table.{Table, count, first, last}
-use Rattle.blocks.specs.Sums.{least, largest, least-same, least-bound, largest-same, largest-bound}
+use Rattle.blocks.specs.Sums.{least, largest, least-same, least-bound, largest-same, largest-bound, largest-most}
 use Rattle.blocks.specs.declared.Span.{Span}
 
 -- of n loops, each from `from k` to `to k`: the least first, and T
@@ -34,6 +34,11 @@ module _ (n : ℕ) (from to : ℕ → ℕ) where
   pub span-some : (k : ℕ) → k < n → from k ≤ to k → 0 < spanOf n from to .count
   unfolding spanOf
   span-some k l h = omega (arith, largest-bound n k to l, least-bound n k from l)
+
+  -- and none is past the greatest last
+  pub span-most : (most : ℕ) → 0 < n → from 0 ≤ to 0 → ((k : ℕ) → k < n → to k ≤ most) → spanOf n from to .first + spanOf n from to .count ≤ suc most
+  unfolding spanOf
+  span-most most pos h e = omega (arith, largest-most n to most e, least-bound n 0 from pos, e 0 pos)
 
   -- a walk over the loops has come to the end
   pub span-found : (k low high T : ℕ) → n ≤ k → k ≤ n → low ≡ least k from → high ≡ largest k to → T ≡ high + 1 - low

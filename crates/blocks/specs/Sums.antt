@@ -66,6 +66,10 @@ largest-bound (suc n) k h l = go (ℕ-discrete k n) (largest-bound n k h)
     go (yes e) ih = omega (arith, ap h e)
     go (no e) ih = omega (arith, ih (omega arith))
 
+pub largest-most : (n : ℕ) (h : ℕ → ℕ) (most : ℕ) → ((k : ℕ) → k < n → h k ≤ most) → largest n h ≤ most
+largest-most zero h most e = omega arith
+largest-most (suc n) h most e = omega (arith, largest-most n h most (λ k l. e k (omega arith)), e n (omega arith))
+
 pub largest-next : (k : ℕ) (h : ℕ → ℕ) (most x : ℕ) → most ≡ largest k h → x ≡ h k → max most x ≡ largest (k + 1) h
 largest-next k h most x e q = rw add-one (omega arith)
 

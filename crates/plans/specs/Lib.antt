@@ -2,3 +2,5 @@
 pub mod Plans
 -- what is known of a table that was accepted
 pub mod Known
+-- what is known where a plan is not refused
+pub mod Fitting

@@ -1,0 +1,15 @@
+// Reads P as one byte, then a table, and writes the table's listing for P processors, or its refusal. It keeps the table's first 4,096
+// bytes, which decide the answer. With no input at all there is no table byte, and whatever P is, the answer is the table's refusal.
+use libc::STDIN_FILENO;
+use libc::STDOUT_FILENO;
+
+fn main() {
+    let mut processors = [0u8; 1];
+    io::read_full(STDIN_FILENO, &mut processors);
+    let mut table = io::buffer();
+    let n = io::read_full(STDIN_FILENO, &mut table);
+    // No listing is longer, so it is never refused.
+    let mut lines = [0u8; 212992];
+    let printed = printing::print_plan(&table[..n], processors[0] as u32, &mut lines);
+    io::write_all(STDOUT_FILENO, &lines[..printed.written]);
+}

@@ -1,0 +1,2 @@
+-- what is printed is the table's text
+pub mod Laws

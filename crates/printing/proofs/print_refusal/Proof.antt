@@ -1,0 +1,43 @@
+use denote.Ref.{now}
+use lib.Dec.{lit≤}
+use Rattle.printing.proofs.Laws.{no-room, room}
+use borrow.Author.Needs.{needs}
+use Rattle.printing.proofs.print_refusal.Statement.{statement}
+use Rattle.printing.proofs.print_refusal.Tie as tie
+
+slice-relend-prefix-write-refusal : tie.Need-slice-relend-prefix-write-refusal
+slice-relend-prefix-write-refusal c = search needs
+
+slice-aggregate-write-refusal : tie.Need-slice-aggregate-write-refusal
+slice-aggregate-write-refusal c = search needs
+
+write-refusal-requires : tie.Need-write-refusal-requires
+write-refusal-requires c κs = search needs
+
+same-length : tie.Need-same-length
+same-length c = search needs
+
+returns : tie.Need-returns
+returns c = no-room _ (now (c .before .before .before .before .before .before .args .out)) _ _ _ (lit≤ tt) (c .before .before .before .write-refusal .ensures) (c .if1 .taken)
+
+write-refusal-requires-2 : tie.Need-write-refusal-requires-2
+write-refusal-requires-2 c κs = search needs
+
+same-length-2 : tie.Need-same-length-2
+same-length-2 c = search needs
+
+returns-2 : tie.Need-returns-2
+returns-2 c = room _ (now (c .before .before .before .before .before .before .before .before .before .before .args .out)) _ _ _ (lit≤ tt) (c .before .before .before .before .before .before .before .write-refusal .ensures) _ _ (c .before .before .write-refusal2 .ensures) (c .before .before .before .before .if1 .left)
+
+pub print-refusal-spec : {M : Type 1} → statement M
+print-refusal-spec =
+    tie.close
+    (tie.spec
+    slice-relend-prefix-write-refusal
+    slice-aggregate-write-refusal
+    write-refusal-requires
+    same-length
+    returns
+    write-refusal-requires-2
+    same-length-2
+    returns-2)
