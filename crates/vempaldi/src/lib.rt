@@ -2,7 +2,10 @@
 ghost use mathlib.Core.Path.{_≡_};
 ghost use lib.ListN.{length};
 ghost use Rattle.joining.specs.Joining.{joining, final};
-ghost use Rattle.vempaldi.specs.Answers.{answered, CheckTold, JoinTold};
+ghost use Rattle.numbers.specs.Given as Given;
+ghost use Rattle.entries.specs.Entries.{amounts};
+ghost use Rattle.printing.specs.Printing.{text};
+ghost use Rattle.vempaldi.specs.Answers.{answered, CheckTold, JoinTold, EntryTold, ListingTold};
 
 fn write_answer(answer: &mut [u64; 3], number: usize, place: usize, read: usize)
     ensures { λ _. ⌜ now (answer .exit) ≡ answered number place read (now (answer .entry)) ⌝ }
@@ -35,4 +38,34 @@ pub extern "C" fn vempaldi_join(
     let o = joining::join(left, right, out);
     write_answer(answer, o.number, o.place, o.read);
     o.written as u64
+}
+
+// Shift and peel of each loop, four bytes each; answers how many bytes were written, 0 where it refuses.
+#[no_mangle]
+pub extern "C" fn vempaldi_shifts_and_peels(
+    table: &[u8],
+    out: &mut [u8],
+    answer: &mut [u64; 3],
+) -> u64
+    ensures { λ r. ⌜ EntryTold (now (table .entry)) (amounts (now (table .entry)) (length (now (out .entry)))) (now (answer .entry)) (now (answer .exit)) r ⌝ }
+    ensures { λ r. ⌜ now (out .exit) ≡ Given.final (amounts (now (table .entry)) (length (now (out .entry)))) (now (out .entry)) ⌝ }
+{
+    let o = entries::shifts_and_peels(table, out);
+    write_answer(answer, o.number, o.place, o.read);
+    o.written as u64
+}
+
+// The listing of a plan, or the line of its refusal; 13 alone refuses the call. Answers how many bytes were written.
+#[no_mangle]
+pub extern "C" fn vempaldi_listing(
+    table: &[u8],
+    processors: u32,
+    out: &mut [u8],
+    answer: &mut [u64; 3],
+) -> u64
+    ensures { λ r. ⌜ ListingTold (text (now (table .entry)) processors) (now (out .entry)) (now (out .exit)) (now (answer .entry)) (now (answer .exit)) r ⌝ }
+{
+    let p = printing::print_plan(table, processors, out);
+    write_answer(answer, p.number, 0, 0);
+    p.written as u64
 }
