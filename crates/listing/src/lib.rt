@@ -6,9 +6,7 @@ use text::put_line_of_four;
 use text::put_line_of_three;
 use text::put_line_of_two;
 ghost use mathlib.Core.Path.{_≡_};
-ghost use mathlib.Core.List.{[], _∷_, _++_};
 ghost use Prim.Native.Nat.{suc, _+_, _-_, _^_, _≤_, _<_};
-ghost use lib.ListN.{length};
 ghost use Rattle.text.specs.Written.{Put, Whole};
 ghost use Rattle.blocks.specs.Sums.{column};
 ghost use Rattle.blocks.specs.Blocks.{edge, block};
@@ -19,6 +17,14 @@ ghost use Rattle.listing.specs.Code.{partName, partOf, partRange, ownOf,
 enum Part {
     Fused,
     Peeled,
+}
+
+// How many loops and processors there are, and the indices that the blocks split: `count` of them from `first` on.
+struct Shape {
+    loops: usize,
+    processors: u32,
+    first: u32,
+    count: u32,
 }
 
 // The last index of a range that is past at `past`.
@@ -116,28 +122,25 @@ fn put_block_parts(
     out: &mut [u8],
     at: usize,
     part: Part,
-    loops: usize,
-    processors: u32,
+    shape: Shape,
     b: u32,
-    first: u32,
-    count: u32,
     firsts: &[u32; 16],
     lasts: &[u32; 16],
     shifts: &[u32; 16],
     peels: &[u32; 16],
 ) -> usize
-    requires { ⌜ (at < 2 ^ 31) × (b < processors) × Sizes loops processors first count (now lasts) (now peels) ⌝ }
-    ensures { λ r. ⌜ Put (now (out .entry)) at (each loops (λ k. rangeLine (partName part) b k (partRange part first count processors (now (firsts .entry)) (now (lasts .entry)) (now (shifts .entry)) (now (peels .entry)) b k))) 1600 (now (out .exit)) r ⌝ }
+    requires { ⌜ (at < 2 ^ 31) × (b < shape .processors) × Sizes (shape .loops) (shape .processors) (shape .first) (shape .count) (now lasts) (now peels) ⌝ }
+    ensures { λ r. ⌜ Put (now (out .entry)) at (each (shape .loops) (λ k. rangeLine (partName part) b k (partRange part (shape .first) (shape .count) (shape .processors) (now (firsts .entry)) (now (lasts .entry)) (now (shifts .entry)) (now (peels .entry)) b k))) 1600 (now (out .exit)) r ⌝ }
 {
-    let blk = blocks::block_of(first, count, processors, b);
+    let blk = blocks::block_of(shape.first, shape.count, shape.processors, b);
     let mut next = at;
     let mut k: usize = 0;
-    while k < loops {
+    while k < shape.loops {
         next = put_part(
             out,
             next,
             part,
-            processors,
+            shape.processors,
             b,
             blk,
             k,
@@ -156,35 +159,19 @@ fn put_parts(
     out: &mut [u8],
     at: usize,
     part: Part,
-    loops: usize,
-    processors: u32,
-    first: u32,
-    count: u32,
+    shape: Shape,
     firsts: &[u32; 16],
     lasts: &[u32; 16],
     shifts: &[u32; 16],
     peels: &[u32; 16],
 ) -> usize
-    requires { ⌜ (at < 2 ^ 30) × Sizes loops processors first count (now lasts) (now peels) ⌝ }
-    ensures { λ r. ⌜ Put (now (out .entry)) at (rangeLines (partName part) processors loops (partRange part first count processors (now (firsts .entry)) (now (lasts .entry)) (now (shifts .entry)) (now (peels .entry)))) 102400 (now (out .exit)) r ⌝ }
+    requires { ⌜ (at < 2 ^ 30) × Sizes (shape .loops) (shape .processors) (shape .first) (shape .count) (now lasts) (now peels) ⌝ }
+    ensures { λ r. ⌜ Put (now (out .entry)) at (rangeLines (partName part) (shape .processors) (shape .loops) (partRange part (shape .first) (shape .count) (shape .processors) (now (firsts .entry)) (now (lasts .entry)) (now (shifts .entry)) (now (peels .entry)))) 102400 (now (out .exit)) r ⌝ }
 {
     let mut next = at;
     let mut b: u32 = 0;
-    while b < processors {
-        next = put_block_parts(
-            out,
-            next,
-            part,
-            loops,
-            processors,
-            b,
-            first,
-            count,
-            firsts,
-            lasts,
-            shifts,
-            peels,
-        );
+    while b < shape.processors {
+        next = put_block_parts(out, next, part, shape, b, firsts, lasts, shifts, peels);
         b += 1;
     }
     next
@@ -242,34 +229,16 @@ pub fn write_listing(
     requires { ⌜ Sizes loops processors first count (now lasts) (now peels) ⌝ }
     ensures { λ r. ⌜ Whole (now (out .entry)) (listing loops (ownOf (now (firsts .entry)) (now (lasts .entry))) (column (now (shifts .entry))) (column (now (peels .entry))) processors (edge first count processors) before after) 212900 (now (out .exit)) r ⌝ }
 {
+    let shape = Shape {
+        loops,
+        processors,
+        first,
+        count,
+    };
     let a = put_loops(out, 0, loops, shifts, peels);
     let b = put_blocks(out, a, processors, first, count);
-    let c = put_parts(
-        out,
-        b,
-        Part::Fused,
-        loops,
-        processors,
-        first,
-        count,
-        firsts,
-        lasts,
-        shifts,
-        peels,
-    );
-    let d = put_parts(
-        out,
-        c,
-        Part::Peeled,
-        loops,
-        processors,
-        first,
-        count,
-        firsts,
-        lasts,
-        shifts,
-        peels,
-    );
+    let c = put_parts(out, b, Part::Fused, shape, firsts, lasts, shifts, peels);
+    let d = put_parts(out, c, Part::Peeled, shape, firsts, lasts, shifts, peels);
     put_line_of_two(out, d, b"sweeps", before as usize, after as usize)
 }
 
