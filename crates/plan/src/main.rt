@@ -3,6 +3,10 @@
 use libc::STDIN_FILENO;
 use libc::STDOUT_FILENO;
 
+fn wide(x: u8) -> u32 {
+    x as u32
+}
+
 fn main() {
     let mut processors = [0u8; 1];
     io::read_full(STDIN_FILENO, &mut processors);
@@ -10,6 +14,6 @@ fn main() {
     let n = io::read_full(STDIN_FILENO, &mut table);
     // No listing is longer, so it is never refused.
     let mut lines = [0u8; 212992];
-    let printed = printing::print_plan(&table[..n], processors[0] as u32, &mut lines);
+    let printed = printing::print_plan(&table[..n], wide(processors[0]), &mut lines);
     io::write_all(STDOUT_FILENO, &lines[..printed.written]);
 }

@@ -72,8 +72,8 @@ fn print_lines(
     requires { ⌜ Small p processors (now lasts) ⌝ }
     ensures { λ r. ⌜ Prints (planLines p w processors (now (firsts .entry)) (now (lasts .entry))) (now (out .entry)) (now (out .exit)) r ⌝ }
 {
-    let size = write_lines(&mut out[..0], p, w, processors, firsts, lasts);
-    if out.len() < size {
+    let total = write_lines(&mut out[..0], p, w, processors, firsts, lasts);
+    if out.len() < total {
         return Printed {
             number: 13,
             written: 0,
@@ -82,7 +82,7 @@ fn print_lines(
     write_lines(out, p, w, processors, firsts, lasts);
     Printed {
         number: 0,
-        written: size,
+        written: total,
     }
 }
 

@@ -1,70 +1,51 @@
+use mathlib.Core.Path.{sym}
+use lib.Seq.{length-take-le}
 use borrow.Author.Needs.{needs}
 use Rattle.plan.proofs.main.Statement.{statement}
 use Rattle.plan.proofs.main.Tie as tie
-use Rattle.plan.proofs.main.Reads as reads
-use Rattle.plan.proofs.main.Lts as lts
-use Rattle.io.proofs.buffer.Reads as buffer-reads
-use Rattle.io.proofs.read_full.Reads as read-full-reads
-use Rattle.io.proofs.write_all.Reads as write-all-reads
-use Rattle.printing.proofs.print_plan.Reads as print-plan-reads
 
--- src/main.rt:8:33
 slice-aggregate-read-full : tie.Need-slice-aggregate-read-full
 slice-aggregate-read-full c = search needs
 
--- src/main.rt:8:5
 read-full-requires : tie.Need-read-full-requires
 read-full-requires c κs = search needs
 
--- src/main.rt:9:21
 buffer-requires : tie.Need-buffer-requires
 buffer-requires c κs = search needs
 
--- src/main.rt:10:41
 slice-aggregate-read-full-2 : tie.Need-slice-aggregate-read-full-2
 slice-aggregate-read-full-2 c = search needs
 
--- src/main.rt:10:9
 read-full-requires-2 : tie.Need-read-full-requires-2
 read-full-requires-2 c κs = search needs
 
--- src/main.rt:13:40
 array-share-prefix-table : tie.Need-array-share-prefix-table
 array-share-prefix-table c = search needs
 
--- src/main.rt:13:40
 slice-aggregate-print-plan : tie.Need-slice-aggregate-print-plan
 slice-aggregate-print-plan c = search needs
 
--- src/main.rt:13:53
-array-read-print-plan : tie.Need-array-read-print-plan
-array-read-print-plan c = search needs
+array-read-wide : tie.Need-array-read-wide
+array-read-wide c = search needs
 
--- src/main.rt:13:53
-cast-print-plan : tie.Need-cast-print-plan
-cast-print-plan c = ?
+wide-requires : tie.Need-wide-requires
+wide-requires c κs = search needs
 
--- src/main.rt:13:75
 slice-aggregate-print-plan-2 : tie.Need-slice-aggregate-print-plan-2
 slice-aggregate-print-plan-2 c = search needs
 
--- src/main.rt:13:9
 print-plan-requires : tie.Need-print-plan-requires
 print-plan-requires c κs = search needs
 
--- src/main.rt:14:34
 array-share-prefix-lines : tie.Need-array-share-prefix-lines
 array-share-prefix-lines c = search needs
 
--- src/main.rt:14:34
 slice-aggregate-write-all : tie.Need-slice-aggregate-write-all
-slice-aggregate-write-all c = ?
+slice-aggregate-write-all c = sym (length-take-le _ _ (c .before .before .print-plan .ensures .fits))
 
--- src/main.rt:14:5
 write-all-requires : tie.Need-write-all-requires
 write-all-requires c κs = search needs
 
--- src/main.rt:6:1
 returns : tie.Need-returns
 returns c = search needs
 
@@ -79,8 +60,8 @@ main-spec =
     read-full-requires-2
     array-share-prefix-table
     slice-aggregate-print-plan
-    array-read-print-plan
-    cast-print-plan
+    array-read-wide
+    wide-requires
     slice-aggregate-print-plan-2
     print-plan-requires
     array-share-prefix-lines

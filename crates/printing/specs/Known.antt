@@ -1,0 +1,59 @@
+-- Known results, from bytes to text, by computation.
+use Prim.Native.Nat.{ℕ}
+use mathlib.Core.Path.{_≡_, refl}
+use mathlib.Core.List.{List, [], _∷_, _++_}
+use Rattle.records.specs.Bytes.{two, four, offset, kindOf, bodyLength, recordOf, recordAt}
+use Rattle.records.specs.Grounds.{early, edge, fields, ground, passed, tested}
+use Rattle.records.specs.History.{operands, withArray, withLoop, withItem, advanced, blank, summary, lengths}
+use Rattle.reader.specs.Reading.{loopsOf, follow, readFrom, reading}
+use Rattle.serial.specs.Serial.{collides, hit, loopHit, serialFrom, through, table}
+use Rattle.chains.specs.Dependence.{dependence}
+use Rattle.chains.specs.Walk.{required, raised, walk, numbers}
+use Rattle.chains.specs.Threshold.{threshold}
+use Rattle.blocks.specs.Span.{spanOf}
+use Rattle.blocks.specs.Blocks.{size, start, isShort}
+use Rattle.blocks.specs.Parts.{fusedPart, peeledPart}
+use Rattle.plans.specs.Plans.{fitting, planned}
+use Rattle.marks.specs.Marks.{countFrom}
+use Rattle.sweeps.specs.Sweeps.{some}
+use Rattle.text.specs.Ascii.{ascii}
+use Rattle.text.specs.Decimal.{decimal, digits}
+use Rattle.text.specs.Line.{line}
+use Rattle.listing.specs.Listing.{listing, refusal}
+use Rattle.printing.specs.Printing.{textOf, text}
+
+-- no table byte, whatever P is
+pub empty-input : (P : ℕ) → text [] P ≡ ascii "refused 1 0\n"
+unfolding text textOf planned fitting table through reading readFrom follow tested ground refusal line decimal digits
+empty-input P = refl
+
+-- the example: three arrays of 12; loop 0, 1 to 10: A0[i] = A1[i] + 1; loop 1, 1 to 10: A2[i] = A0[i−1] + A0[i+1]
+abbrev array : List ℕ
+array = 1 ∷ 12 ∷ 0 ∷ 0 ∷ 0 ∷ []
+
+abbrev loopTo : ℕ → List ℕ
+loopTo a = 2 ∷ 1 ∷ 0 ∷ 0 ∷ 0 ∷ 10 ∷ 0 ∷ 0 ∷ 0 ∷ a ∷ 0 ∷ 0 ∷ []
+
+abbrev add : List ℕ
+add = 5 ∷ 1 ∷ []
+
+abbrev pub example : List ℕ
+example =
+    array ++ array ++ array
+    ++ loopTo 0 ++ (3 ∷ 1 ∷ 0 ∷ 0 ∷ []) ++ (4 ∷ 1 ∷ 0 ∷ 0 ∷ 0 ∷ []) ++ add
+    ++ loopTo 2 ++ (3 ∷ 0 ∷ 255 ∷ 255 ∷ []) ++ (3 ∷ 0 ∷ 1 ∷ 0 ∷ []) ++ add
+    ++ (6 ∷ [])
+
+pub example-text : text example 2
+    ≡ ascii "loop 0 0 0\n"
+    ++ ascii "loop 1 1 1\n"
+    ++ ascii "block 0 1 5\n"
+    ++ ascii "block 1 6 10\n"
+    ++ ascii "fused 0 0 1 5\n"
+    ++ ascii "fused 0 1 1 4\n"
+    ++ ascii "fused 1 0 6 10\n"
+    ++ ascii "fused 1 1 7 10\n"
+    ++ ascii "peeled 0 1 5 6\n"
+    ++ ascii "sweeps 6 5\n"
+unfolding text textOf planned fitting table through serialFrom loopHit hit collides reading readFrom follow loopsOf tested ground early fields passed edge two four offset kindOf bodyLength recordOf recordAt operands withArray withLoop withItem advanced blank summary lengths dependence required raised walk numbers threshold spanOf size start isShort fusedPart peeledPart some countFrom listing line decimal digits
+example-text = refl
