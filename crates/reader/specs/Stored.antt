@@ -43,6 +43,7 @@ pub record Kept (c : Columns) (arrays loops rows : ℕ) : Type 0 where
   pub start : getD (c .starts) 0 0 ≡ 0
   pub rising : (k : ℕ) → k < loops → getD (c .starts) k 0 < getD (c .starts) (suc k) 0
   pub end : getD (c .starts) loops 0 ≡ rows
+  pub head : (k : ℕ) → k < loops → getD (c .kinds) (getD (c .starts) k 0) 0 ≡ 2
   pub each : (r : ℕ) → r < rows → Row c r
 
 -- of an accepted table
@@ -179,17 +180,32 @@ module _ (c d : Columns) (j rows kind q v : ℕ) (g : Grown c d j rows kind q v)
             offset = λ h. rw (← (g .agree .values r m)) (old r m .offset (rw (← (g .agree .kinds r m)) at h));
           }
 
-  kept-grown : (a n : ℕ) → Kept c a n rows → j ≤ n → suc j ≤ 16 → rows < 528 → q < 16 → (kind < 4 → v ≤ 510) → Kept d a (suc j) (rows + 1)
-  kept-grown a n h l few room small offset = record {
+  kept-grown : (a n : ℕ) → Kept c a n rows → (getD (c .starts) j 0 ≡ rows → kind ≡ 2) → j ≤ n → suc j ≤ 16 → rows < 528 → q < 16 → (kind < 4 → v ≤ 510) → Kept d a (suc j) (rows + 1)
+  kept-grown a n h top l few room small offset = record {
     few-arrays = h .few-arrays;
     few-loops = few;
     few-rows = omega arith;
     start = rw (← (g .agree .starts 0 (omega arith))) (h .start);
     rising = λ k m. rise k m (ℕ-discrete k j);
     end = g .past;
+    head = λ k m. rw (← (g .agree .starts k (omega arith))) (heads k m (ℕ-discrete (getD (c .starts) k 0) rows));
     each = row-grown small offset (h .each);
   }
     where
+      heads : (k : ℕ) → k < suc j → Dec (getD (c .starts) k 0 ≡ rows) → getD (d .kinds) (getD (c .starts) k 0) 0 ≡ 2
+      heads k m (yes e) = at (ℕ-discrete k j)
+        where
+          at : Dec (k ≡ j) → getD (d .kinds) (getD (c .starts) k 0) 0 ≡ 2
+          at (yes s) = rw (e, g .kind-is) (top (rw s at e))
+          at (no s) = absurd (omega (arith, g .agree .inside k (omega arith)))
+      heads k m (no e) =
+          let low : getD (c .starts) k 0 < rows = omega (arith, g .agree .within k (omega arith)) in
+          rw (← (g .agree .kinds (getD (c .starts) k 0) low)) (h .head k (before (ℕ-discrete k n)))
+        where
+          before : Dec (k ≡ n) → k < n
+          before (yes s) = absurd (e (rw s (h .end)))
+          before (no s) = omega arith
+
       rise : (k : ℕ) → k < suc j → Dec (k ≡ j) → getD (d .starts) k 0 < getD (d .starts) (suc k) 0
       rise k m (yes e) = rw (e, ← (g .agree .starts j (omega arith)), g .past) (omega (arith, g .agree .within j (omega arith)))
       rise k m (no e) =
@@ -311,7 +327,8 @@ module _ (c : Columns) (rs : List Record) (rows : ℕ) (s : Stored c rs rows) wh
               rw loops (added xs ∙ s .loops (x ∷ xs) ∙ ap (λ (n : ℕ). shown c n rows (x ∷ xs)) open-loop ∙ latest xs);
           kept =
               rw (arrays, loops)
-              (kept-grown c d m rows kind q v grown (summary rs .arrays) (suc m) kept-then (omega arith) (kept-then .few-loops) (few free) small offset);
+              (kept-grown c d m rows kind q v grown (summary rs .arrays) (suc m) kept-then
+              (λ e. absurd (omega (arith, kept-then .rising m (omega arith), kept-then .end))) (omega arith) (kept-then .few-loops) (few free) small offset);
           items = omega arith;
           room = omega (arith, s .room);
         }
@@ -373,7 +390,7 @@ module _ (c : Columns) (rs : List Record) (rows : ℕ) (s : Stored c rs rows) wh
       loops = λ xs. rw (add-one (summary rs .loops)) (loops-begun xs);
       kept =
           rw (add-one (summary rs .loops))
-          (kept-grown c e n rows 2 q o begun (summary rs .arrays) n (s .kept) (omega arith) free (omega (arith, s .room, s .items)) small (λ h. offset));
+          (kept-grown c e n rows 2 q o begun (summary rs .arrays) n (s .kept) (λ e. refl) (omega arith) free (omega (arith, s .room, s .items)) small (λ h. offset));
       items = omega arith;
       room = omega (arith, s .room, s .items);
     }
@@ -410,6 +427,7 @@ module _ (c : Columns) (rs : List Record) (rows : ℕ) (s : Stored c rs rows) wh
       start = s .kept .start;
       rising = s .kept .rising;
       end = s .kept .end;
+      head = s .kept .head;
       each = λ r h. record { array = s .kept .each r h .array; offset = s .kept .each r h .offset };
     };
     items = s .items;
@@ -459,6 +477,7 @@ stored-start c z e = record {
     start = e;
     rising = λ k h. absurd (omega arith);
     end = e;
+    head = λ k h. absurd (omega arith);
     each = λ r h. absurd (omega arith);
   };
   items = omega arith;

@@ -11,7 +11,8 @@ use Rattle.serial.specs.declared.Checked.the-variants.{Refused, Serial, Accepte
 use Rattle.serial.specs.Serial.{table, answer, Left, loopHit}
 use Rattle.serial.specs.Meeting.{Collides, hit-collides}
 use Rattle.tables.specs.declared.Verdict.{Verdict}
-use Rattle.tables.specs.Verdict.{numberOf, placeOf, Told}
+use Rattle.grounds.specs.Theorems.{refused-number}
+use Rattle.tables.specs.Verdict.{numberOf, placeOf, Told, refusing, Outlined}
 
 module _ (s : List ℕ) (c : Columns) where
   pub told-refused : (g p n : ℕ) → answer (Refused g p) c ≡ table s → Left (Refused g p) c s → n ≡ g
@@ -50,3 +51,17 @@ module _ (s : List ℕ) (c : Columns) where
     named = λ t q z. absurd (omega (arith, z));
     unnamed = λ z. refl;
   }
+
+  pub outlined-refused : (g p n : ℕ) → answer (Refused g p) c ≡ table s → Left (Refused g p) c s → n ≡ g → Outlined s (refusing n p 0) c
+  outlined-refused g p n e l f = record {
+    told = told-refused g p n e l f;
+    held = λ z. absurd (omega (arith, refused-number s g p l .0));
+  }
+
+  pub outlined-serial : (k n : ℕ) → answer (Serial k n) c ≡ table s → Left (Serial k n) c s → Outlined s (refusing 9 k n) c
+  outlined-serial k n e l = record { told = told-serial k n e l; held = λ z. absurd (omega (arith, z)) }
+
+  pub outlined-accepted : (a l r : ℕ) → answer (Accepted a l r) c ≡ table s → Left (Accepted a l r) c s
+      → Outlined s (record { number = 0; place = 0; read = 0; arrays = a; loops = l; rows = r }) c
+  unfolding answer
+  outlined-accepted a l r e h = record { told = told-accepted a l r e; held = λ z. (sym e, h .0, h .1) }

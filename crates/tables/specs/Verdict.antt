@@ -6,7 +6,10 @@ use Rattle.model.specs.Table.{Table}
 use Rattle.reader.specs.Reading.{Answer, accepted, refused, reading}
 use Rattle.serial.specs.Serial.{table}
 use Rattle.serial.specs.Meeting.{Collides}
+use Rattle.reader.specs.Columns.{Columns, tableAt}
+use Rattle.reader.specs.Stored.{Sized, Kept}
 use Rattle.tables.specs.declared.Verdict.{Verdict}
+use Rattle.tables.specs.declared.Outline.{Outline}
 
 abbrev pub numberOf : Answer → ℕ
 numberOf (accepted t) = 0
@@ -22,3 +25,12 @@ pub record Told (s : List ℕ) (v : Verdict) : Type 0 where
   pub place : v .place ≡ placeOf (table s)
   pub named : (t : Table) → reading s ≡ accepted t → v .number ≡ 9 → Collides t (v .place) (v .read)
   pub unnamed : (v .number ≡ 9 → ⊥) → v .read ≡ 0
+
+-- a refusal has no columns
+abbrev pub refusing : ℕ → ℕ → ℕ → Outline
+refusing number place read = record { number = number; place = place; read = read; arrays = 0; loops = 0; rows = 0 }
+
+-- the same of an outline, and where there is no refusal the columns hold the table
+pub record Outlined (s : List ℕ) (r : Outline) (c : Columns) : Type 0 where
+  pub told : Told s (record { number = r .number; place = r .place; read = r .read })
+  pub held : r .number ≡ 0 → (table s ≡ accepted (tableAt c (r .arrays) (r .loops))) × Sized c × Kept c (r .arrays) (r .loops) (r .rows)

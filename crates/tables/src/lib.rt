@@ -1,8 +1,9 @@
 // A table's bytes, accepted or refused.
 use serial::Checked;
 ghost use mathlib.Core.Path.{_≡_};
-ghost use Prim.Native.Nat.{_<_};
-ghost use Rattle.tables.specs.Verdict.{Told};
+ghost use Rattle.reader.specs.Columns.{columns};
+ghost use Rattle.reader.specs.Stored.{Sized};
+ghost use Rattle.tables.specs.Verdict.{Told, refusing, Outlined};
 
 // The number of the refusal, 0 where there is none; its place; and the read that 9 names, else 0.
 pub struct Verdict {
@@ -17,6 +18,62 @@ fn wide(x: u32) -> usize
     x as usize
 }
 
+// The same, with how many arrays, loops and rows the columns of an accepted table have.
+pub struct Outline {
+    pub number: usize,
+    pub place: usize,
+    pub read: usize,
+    pub arrays: usize,
+    pub loops: usize,
+    pub rows: usize,
+}
+
+fn refusal(number: usize, place: usize, read: usize) -> Outline
+    ensures { λ r. ⌜ r ≡ refusing number place read ⌝ }
+{
+    Outline {
+        number,
+        place,
+        read,
+        arrays: 0,
+        loops: 0,
+        rows: 0,
+    }
+}
+
+// Reads a table through 9 into lent columns.
+pub fn read_through(
+    s: &[u8],
+    lens: &mut [u32; 16],
+    firsts: &mut [u32; 16],
+    lasts: &mut [u32; 16],
+    starts: &mut [usize; 17],
+    kinds: &mut [u8; 528],
+    arrays: &mut [u32; 528],
+    values: &mut [u32; 528],
+) -> Outline
+    requires { ⌜ Sized (columns (now lens) (now firsts) (now lasts) (now starts) (now kinds) (now arrays) (now values)) ⌝ }
+    ensures { λ r. ⌜ Outlined (now (s .entry)) r (columns (now (lens .exit)) (now (firsts .exit)) (now (lasts .exit)) (now (starts .exit)) (now (kinds .exit)) (now (arrays .exit)) (now (values .exit))) ⌝ }
+{
+    let r = serial::check_table(s, lens, firsts, lasts, starts, kinds, arrays, values);
+    match r {
+        Checked::Refused { number, place } => refusal(wide(number), place, 0),
+        Checked::Serial { number, read } => refusal(9, number, read),
+        Checked::Accepted {
+            arrays: a,
+            loops,
+            rows,
+        } => Outline {
+            number: 0,
+            place: 0,
+            read: 0,
+            arrays: a,
+            loops,
+            rows,
+        },
+    }
+}
+
 pub fn check(s: &[u8]) -> Verdict
     ensures { λ r. ⌜ Told (now (s .entry)) r ⌝ }
 {
@@ -27,7 +84,7 @@ pub fn check(s: &[u8]) -> Verdict
     let mut kinds = [0u8; 528];
     let mut arrays = [0u32; 528];
     let mut values = [0u32; 528];
-    let r = serial::check_table(
+    let r = read_through(
         s,
         &mut lens,
         &mut firsts,
@@ -37,25 +94,9 @@ pub fn check(s: &[u8]) -> Verdict
         &mut arrays,
         &mut values,
     );
-    match r {
-        Checked::Refused { number, place } => Verdict {
-            number: wide(number),
-            place,
-            read: 0,
-        },
-        Checked::Serial { number, read } => Verdict {
-            number: 9,
-            place: number,
-            read,
-        },
-        Checked::Accepted {
-            arrays: _,
-            loops: _,
-            rows: _,
-        } => Verdict {
-            number: 0,
-            place: 0,
-            read: 0,
-        },
+    Verdict {
+        number: r.number,
+        place: r.place,
+        read: r.read,
     }
 }

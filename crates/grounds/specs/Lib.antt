@@ -1,0 +1,18 @@
+-- the records before a place
+pub mod Places
+-- each of the grounds 1 to 8 by itself
+pub mod Statements
+-- the summary that the tests look at, in the words of the statements
+pub mod Counted
+-- how a reading goes
+pub mod Trace
+-- what a test finds is a ground
+pub mod Found
+-- a refusal is given only where its ground holds; an accepted table meets none
+pub mod Theorems
+-- what an accepted table is
+pub mod Accepted
+-- how many bytes the records of a table take
+pub mod Sizes
+-- the first 2,077 bytes decide the answer
+pub mod Prefix

@@ -1,0 +1,253 @@
+-- The grounds 1 to 8, each by itself: what it says of the record at a place and of the records before that place.
+use Prim.Native.Nat.{ℕ, zero, suc, _+_, _-_, _≤_, _<_}
+use native.Mathlib.Omega.{arith}
+use mathlib.Core.Path.{_≡_}
+use mathlib.Core.Logic.{_⊎_, ⊎-elim, _≢_}
+use mathlib.Core.List.{List, [], _∷_}
+use lib.ListN.{length, getD}
+use Rattle.records.specs.declared.Record.{Record}
+use Rattle.records.specs.declared.Record.the-variants.{Unknown, Array, Loop, Read, Constant, Operation, End}
+use Rattle.records.specs.Bytes.{recordAt}
+use Rattle.records.specs.History.{lengths, operands}
+use Rattle.model.specs.Table.{Item, read, constant, operation}
+use Rattle.grounds.specs.Places.{after, Records, records-within}
+
+-- WHAT THE RECORDS rs SAY, the latest first
+
+-- how many arrays there are, and how many elements in all
+abbrev pub arrays : List Record → ℕ
+arrays rs = length (lengths rs)
+
+abbrev pub sum : List ℕ → ℕ
+sum [] = 0
+sum (n ∷ ns) = n + sum ns
+
+abbrev pub elements : List Record → ℕ
+elements rs = sum (lengths rs)
+
+-- how many loops
+unfoldable pub loops : List Record → ℕ
+loops [] = 0
+loops (Unknown ∷ rs) = loops rs
+loops (Array n ∷ rs) = loops rs
+loops (Loop f l q o ∷ rs) = suc (loops rs)
+loops (Read q o ∷ rs) = loops rs
+loops (Constant n ∷ rs) = loops rs
+loops (Operation o ∷ rs) = loops rs
+loops (End ∷ rs) = loops rs
+
+-- the latest loop: its first, its last, and its items so far, the latest first
+pub record Latest : Type 0 where
+  pub first : ℕ
+  pub last : ℕ
+  pub items : List Item
+
+abbrev pub begun : ℕ → ℕ → Latest
+begun f l = record { first = f; last = l; items = [] }
+
+abbrev pub withItem : Item → Latest → Latest
+withItem x b = record { first = b .first; last = b .last; items = x ∷ b .items }
+
+unfoldable pub latest : List Record → Latest
+latest [] = begun 0 0
+latest (Unknown ∷ rs) = latest rs
+latest (Array n ∷ rs) = latest rs
+latest (Loop f l q o ∷ rs) = begun f l
+latest (Read q o ∷ rs) = withItem (read q o) (latest rs)
+latest (Constant n ∷ rs) = withItem (constant n) (latest rs)
+latest (Operation o ∷ rs) = withItem (operation o) (latest rs)
+latest (End ∷ rs) = latest rs
+
+-- how many items its body has
+abbrev pub items : List Record → ℕ
+items rs = length (latest rs .items)
+
+-- how many numbers wait after items: a read or a constant adds one, an operation takes one or two and adds one
+unfoldable pub waitingAfter : List Item → ℕ
+waitingAfter [] = 0
+waitingAfter (read q o ∷ xs) = waitingAfter xs + 1
+waitingAfter (constant n ∷ xs) = waitingAfter xs + 1
+waitingAfter (operation o ∷ xs) = waitingAfter xs - operands o + 1
+
+abbrev pub waiting : List Record → ℕ
+waiting rs = waitingAfter (latest rs .items)
+
+-- WHAT A GROUND SAYS OF A RECORD, after the records rs
+
+-- 2: kind unknown or out of its order, or no array or loop before end
+abbrev pub Misplaced : Record → List Record → Type 0
+Misplaced Unknown rs = Unit {0}
+Misplaced (Array n) rs = 0 < loops rs
+Misplaced (Loop f l q o) rs = ⊥
+Misplaced (Read q o) rs = loops rs ≡ 0
+Misplaced (Constant n) rs = loops rs ≡ 0
+Misplaced (Operation o) rs = loops rs ≡ 0
+Misplaced End rs = (arrays rs ≡ 0) ⊎ (loops rs ≡ 0)
+
+-- 3: a field outside its range, or first above last. (An offset is kept with 255 added.)
+abbrev pub OutOfRange : Record → List Record → Type 0
+OutOfRange Unknown rs = ⊥
+OutOfRange (Array n) rs = (n < 1) ⊎ (65536 < n)
+OutOfRange (Loop f l q o) rs = (131071 < l) ⊎ ((l < f) ⊎ (510 < o))
+OutOfRange (Read q o) rs = 510 < o
+OutOfRange (Constant n) rs = ⊥
+OutOfRange (Operation o) rs = (o < 1) ⊎ (5 < o)
+OutOfRange End rs = ⊥
+
+-- 4: one array, loop or item too many
+abbrev pub OneTooMany : Record → List Record → Type 0
+OneTooMany Unknown rs = ⊥
+OneTooMany (Array n) rs = 16 < arrays rs + 1
+OneTooMany (Loop f l q o) rs = 16 < loops rs + 1
+OneTooMany (Read q o) rs = (0 < loops rs) × (32 < items rs + 1)
+OneTooMany (Constant n) rs = (0 < loops rs) × (32 < items rs + 1)
+OneTooMany (Operation o) rs = (0 < loops rs) × (32 < items rs + 1)
+OneTooMany End rs = ⊥
+
+-- 4: an element too many
+abbrev pub ManyElements : Record → List Record → Type 0
+ManyElements Unknown rs = ⊥
+ManyElements (Array n) rs = 262144 < elements rs + n
+ManyElements (Loop f l q o) rs = ⊥
+ManyElements (Read q o) rs = ⊥
+ManyElements (Constant n) rs = ⊥
+ManyElements (Operation o) rs = ⊥
+ManyElements End rs = ⊥
+
+-- 5: no array of that number. (Arrays are numbered from 0.)
+abbrev pub Unnumbered : Record → List Record → Type 0
+Unnumbered Unknown rs = ⊥
+Unnumbered (Array n) rs = ⊥
+Unnumbered (Loop f l q o) rs = arrays rs ≤ q
+Unnumbered (Read q o) rs = arrays rs ≤ q
+Unnumbered (Constant n) rs = ⊥
+Unnumbered (Operation o) rs = ⊥
+Unnumbered End rs = ⊥
+
+-- 6: the body before a loop or the end does not leave one
+abbrev pub NotOneLeft : Record → List Record → Type 0
+NotOneLeft Unknown rs = ⊥
+NotOneLeft (Array n) rs = ⊥
+NotOneLeft (Loop f l q o) rs = (0 < loops rs) × (waiting rs ≢ 1)
+NotOneLeft (Read q o) rs = ⊥
+NotOneLeft (Constant n) rs = ⊥
+NotOneLeft (Operation o) rs = ⊥
+NotOneLeft End rs = (0 < loops rs) × (waiting rs ≢ 1)
+
+-- 6: a ninth, or too few waiting numbers
+abbrev pub NinthOrTooFew : Record → List Record → Type 0
+NinthOrTooFew Unknown rs = ⊥
+NinthOrTooFew (Array n) rs = ⊥
+NinthOrTooFew (Loop f l q o) rs = ⊥
+NinthOrTooFew (Read q o) rs = (0 < loops rs) × (8 < waiting rs + 1)
+NinthOrTooFew (Constant n) rs = (0 < loops rs) × (8 < waiting rs + 1)
+NinthOrTooFew (Operation o) rs = (0 < loops rs) × (waiting rs < operands o)
+NinthOrTooFew End rs = ⊥
+
+-- 7: some iteration i, from first to last, reaches outside an array of n elements: the element i + o - 255 is below 0, or not below n
+abbrev pub Outside : ℕ → ℕ → ℕ → ℕ → Type 0
+Outside first last o n = (i : ℕ) × (first ≤ i) × (i ≤ last) × ((i + o < 255) ⊎ (n + 255 ≤ i + o))
+
+abbrev pub OutsideArray : Record → List Record → Type 0
+OutsideArray Unknown rs = ⊥
+OutsideArray (Array n) rs = ⊥
+OutsideArray (Loop f l q o) rs = (q < arrays rs) × Outside f l o (getD (lengths rs) q 0)
+OutsideArray (Read q o) rs = (0 < loops rs) × (q < arrays rs) × Outside (latest rs .first) (latest rs .last) o (getD (lengths rs) q 0)
+OutsideArray (Constant n) rs = ⊥
+OutsideArray (Operation o) rs = ⊥
+OutsideArray End rs = ⊥
+
+-- THE GROUNDS OF AN INPUT s AT A PLACE p
+module _ (s : List ℕ) (p : ℕ) where
+  -- there is a kind byte at p, and something holds of its record and of the records before it
+  abbrev pub AtKind : (Record → List Record → Type 0) → Type 0
+  AtKind G = (rs : List Record) × Records s p rs × (p < length s) × G (recordAt s p) rs
+
+  -- the whole record at p is there
+  abbrev pub AtWhole : (Record → List Record → Type 0) → Type 0
+  AtWhole G = (rs : List Record) × Records s p rs × (after s p ≤ length s) × G (recordAt s p) rs
+
+  -- 1: bytes end inside a record or before the end record
+  abbrev pub Torn : Type 0
+  Torn = (rs : List Record) × Records s p rs × ((p ≡ length s) ⊎ ((p < length s) × (length s < after s p)))
+
+  -- 2: kind unknown or out of its order, or no array or loop before end
+  abbrev pub BadKind : Type 0
+  BadKind = AtKind Misplaced
+
+  -- 3: a field outside its range, or first above last
+  abbrev pub BadField : Type 0
+  BadField = AtWhole OutOfRange
+
+  -- 4: one array, loop, item or element too many
+  abbrev pub Crowd : Type 0
+  Crowd = AtKind OneTooMany ⊎ AtWhole ManyElements
+
+  -- 5: no array of that number
+  abbrev pub NoArray : Type 0
+  NoArray = AtWhole Unnumbered
+
+  -- 6: too few waiting numbers, a ninth, or not one left
+  abbrev pub BadBody : Type 0
+  BadBody = AtKind NotOneLeft ⊎ AtWhole NinthOrTooFew
+
+  -- 7: some iteration reaches outside the array
+  abbrev pub Edge : Type 0
+  Edge = AtWhole OutsideArray
+
+  -- 8: bytes follow the end record, from p on
+  abbrev pub Tail : Type 0
+  Tail = (q : ℕ) × (rs : List Record) × Records s q rs × (q < length s) × (recordAt s q ≡ End) × (p ≡ q + 1) × (p < length s)
+
+-- by number, from 1
+abbrev pub statements : List ℕ → ℕ → List (Type 0)
+statements s p = ⊥ ∷ Torn s p ∷ BadKind s p ∷ BadField s p ∷ Crowd s p ∷ NoArray s p ∷ BadBody s p ∷ Edge s p ∷ Tail s p ∷ []
+
+abbrev pub Ground : ℕ → List ℕ → ℕ → Type 0
+Ground n s p = getD (statements s p) n ⊥
+
+listed : (l : List (Type 0)) (n : ℕ) → getD l n ⊥ → n < length l
+listed [] n g = absurd g
+listed (A ∷ l) zero g = omega arith
+listed (A ∷ l) (suc n) g = omega (arith, listed l n g)
+
+pub ground-number : (s : List ℕ) (n p : ℕ) → Ground n s p → (1 ≤ n) × (n ≤ 8)
+ground-number s zero p g = absurd g
+ground-number s (suc n) p g = (omega arith, omega (arith, listed (statements s p) (suc n) g))
+
+-- what follows from each of the statements
+pub record Cases (s : List ℕ) (p : ℕ) (B : Type 0) : Type 0 where
+  pub torn : Torn s p → B
+  pub kind : BadKind s p → B
+  pub field : BadField s p → B
+  pub crowd : Crowd s p → B
+  pub array : NoArray s p → B
+  pub body : BadBody s p → B
+  pub edge : Edge s p → B
+  pub tail : Tail s p → B
+
+pub by-number : (s : List ℕ) (p : ℕ) (B : Type 0) → Cases s p B → (n : ℕ) → Ground n s p → B
+by-number s p B c zero g = absurd g
+by-number s p B c (suc zero) g = c .torn g
+by-number s p B c (suc (suc zero)) g = c .kind g
+by-number s p B c (suc (suc (suc zero))) g = c .field g
+by-number s p B c (suc (suc (suc (suc zero)))) g = c .crowd g
+by-number s p B c (suc (suc (suc (suc (suc zero))))) g = c .array g
+by-number s p B c (suc (suc (suc (suc (suc (suc zero)))))) g = c .body g
+by-number s p B c (suc (suc (suc (suc (suc (suc (suc zero))))))) g = c .edge g
+by-number s p B c (suc (suc (suc (suc (suc (suc (suc (suc zero)))))))) g = c .tail g
+by-number s p B c (suc (suc (suc (suc (suc (suc (suc (suc (suc n))))))))) g = absurd g
+
+-- a place is in the input, or just past it
+pub ground-place : (s : List ℕ) (n p : ℕ) → Ground n s p → p ≤ length s
+ground-place s n p g =
+    by-number s p (p ≤ length s) (record {
+      torn = λ h. records-within s p (h .0) (h .1);
+      kind = λ h. records-within s p (h .0) (h .1);
+      field = λ h. records-within s p (h .0) (h .1);
+      crowd = ⊎-elim (λ h. records-within s p (h .0) (h .1)) (λ h. records-within s p (h .0) (h .1));
+      array = λ h. records-within s p (h .0) (h .1);
+      body = ⊎-elim (λ h. records-within s p (h .0) (h .1)) (λ h. records-within s p (h .0) (h .1));
+      edge = λ h. records-within s p (h .0) (h .1);
+      tail = λ h. omega (arith, h .6);
+    }) n g

@@ -1,0 +1,2 @@
+-- lines one after the other
+pub mod Laws

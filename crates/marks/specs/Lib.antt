@@ -1,0 +1,2 @@
+-- sets of sixteen marks, and their masks
+pub mod Marks

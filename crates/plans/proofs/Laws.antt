@@ -1,0 +1,142 @@
+-- What the code found is the table's plan.
+use Prim.Native.Nat.{ℕ, zero, suc, _+_, _≤_, _<_}
+use native.Mathlib.Omega.{arith}
+use mathlib.Core.Path.{_≡_, refl, sym, ap, subst, _∙_}
+use mathlib.Core.Bool.{Bool, true, false, _||_}
+use mathlib.Core.List.{List}
+use lib.Dec.{eqb, ltb}
+use Rattle.order.specs.Lists.{joined}
+use Rattle.model.specs.Table.{Table}
+use Rattle.model.specs.References.{allRefs}
+use Rattle.reader.specs.Reading.{Answer, accepted, refused, choose, reading}
+use Rattle.reader.specs.Columns.{Columns, tableAt}
+use Rattle.reader.specs.Stored.{Sized, Kept}
+use Rattle.serial.specs.Serial.{table}
+use Rattle.chains.specs.declared.Amounts.{Amounts}
+use Rattle.chains.specs.Walk.{shifts, peels}
+use lib.ListN.{length, take}
+use Rattle.chains.specs.Threshold.{threshold}
+use Rattle.grounds.specs.Accepted.{Valid}
+use Rattle.blocks.specs.declared.Span.{Span}
+use Rattle.blocks.specs.Sums.{column}
+use Rattle.blocks.specs.Span.{spanOf, tableSpan}
+use Rattle.plans.specs.Known.{valid, threshold-small, span-is}
+use Rattle.blocks.specs.Blocks.{isShort}
+use Rattle.references.specs.Collected.{rowRefs, table-refs}
+use Rattle.tables.specs.declared.Outline.{Outline}
+use Rattle.tables.specs.Verdict.{numberOf, placeOf, Told, Outlined}
+use Rattle.plans.specs.declared.Measured.{Measured}
+use Rattle.plans.specs.declared.Plan.{Plan}
+use Rattle.plans.specs.Plans.{Measures, Tells, Made, Plans, refusing, planned, fitting, badProcessors, thresholdOf}
+
+-- 10 and 11 are asked of an accepted table alone
+refused-stays : (P : ℕ) (a : Answer) → (numberOf a ≡ 0 → ⊥) → (numberOf a ≡ numberOf (fitting P a)) × (placeOf a ≡ placeOf (fitting P a))
+unfolding fitting
+refused-stays P (accepted t) n = absurd (n refl)
+refused-stays P (refused g p) n = (refl, refl)
+
+planned-is : (s : List ℕ) (P : ℕ) (G : Answer → Type 0) → G (fitting P (table s)) → G (planned s P)
+unfolding planned
+planned-is s P G g = g
+
+module _ (s : List ℕ) (c : Columns) (o : Outline) (a : Amounts) (outlined : Outlined s o c) where
+  pub measures-refused : (o .number ≡ 0 → ⊥) → Measures s (record { outline = o; amounts = a }) c
+  measures-refused n = record { outlined = outlined; shifts-are = λ e. absurd (n e); peels-are = λ e. absurd (n e) }
+
+  pub measures-found : a .shifts ≡ shifts (joined (o .loops) (rowRefs (c .starts) (c .kinds) (c .arrays) (c .values)))
+      → a .peels ≡ peels (joined (o .loops) (rowRefs (c .starts) (c .kinds) (c .arrays) (c .values)))
+      → Measures s (record { outline = o; amounts = a }) c
+  measures-found e f = record {
+    outlined = outlined;
+    shifts-are = λ z. e ∙ ap shifts (sym (table-refs c (o .arrays) (o .loops)));
+    peels-are = λ z. f ∙ ap peels (sym (table-refs c (o .arrays) (o .loops)));
+  }
+
+-- the tests after the reading
+module _ (s : List ℕ) (P : ℕ) (c : Columns) (m : Measured) (h : Measures s m c) where
+  open Measures h using (outlined, shifts-are, peels-are)
+
+  abbrev pub o : Outline
+  o = m .outline
+
+  pub plans-refused : (o .number ≡ 0 → ⊥) → Plans s P (refusing (o .number) (o .place) (o .read) (m .amounts)) c
+  plans-refused n = record {
+    tells = record {
+      number-is = outlined .told .number ∙ same .0;
+      place-is = outlined .told .place ∙ same .1;
+      named = outlined .told .named;
+      unnamed = outlined .told .unnamed;
+    };
+    made = λ e. absurd (n e);
+  }
+    where
+      go : (a : Answer) → (o .number ≡ numberOf a) → (numberOf a ≡ numberOf (fitting P a)) × (placeOf a ≡ placeOf (fitting P a))
+      go a e = refused-stays P a (λ z. n (e ∙ z))
+
+      same : (numberOf (table s) ≡ numberOf (planned s P)) × (placeOf (table s) ≡ placeOf (planned s P))
+      same = planned-is s P (λ b. (numberOf (table s) ≡ numberOf b) × (placeOf (table s) ≡ placeOf b)) (go (table s) (outlined .told .number))
+
+  module _ (zero-number : o .number ≡ 0) where
+    abbrev pub t : Table
+    t = tableAt c (o .arrays) (o .loops)
+
+    pub read : table s ≡ accepted t
+    read = outlined .held zero-number .0
+
+    pub sized : Sized c
+    sized = outlined .held zero-number .1
+
+    pub kept : Kept c (o .arrays) (o .loops) (o .rows)
+    kept = outlined .held zero-number .2
+
+    found : planned s P ≡ choose (badProcessors P) (refused 10 0) (choose (isShort (tableSpan t .count) P (thresholdOf t)) (refused 11 0) (accepted t))
+    unfolding planned fitting
+    found = ap (fitting P) read
+
+    pub ready : Valid t
+    ready = valid s t read
+
+    pub threshold-is : threshold (m .amounts .shifts) (m .amounts .peels) ≡ thresholdOf t
+    threshold-is = rw (shifts-are zero-number, peels-are zero-number)
+
+    pub threshold-fits : (u : ℕ) → u ≡ threshold (m .amounts .shifts) (m .amounts .peels) → u ≤ 15300
+    threshold-fits u e = omega (arith, e, threshold-is, threshold-small t ready)
+
+    -- the span's code found the table's span, and ground 11 was asked of it
+    pub asked : (x : Span) (u : ℕ) (b : Bool) → x ≡ spanOf (length (take (o .loops) (c .firsts))) (column (take (o .loops) (c .firsts))) (column (take (o .loops) (c .lasts)))
+        → u ≡ threshold (m .amounts .shifts) (m .amounts .peels) → b ≡ isShort (x .count) P u
+        → (x ≡ tableSpan t) × (isShort (tableSpan t .count) P (thresholdOf t) ≡ b)
+    asked x u b e f g =
+        let y = e ∙ span-is c (o .arrays) (o .loops) (o .rows) sized kept ready in
+        (y, ap (λ (q : Span). isShort (q .count) P (thresholdOf t)) (sym y) ∙ ap (isShort (x .count) P) (sym (f ∙ threshold-is)) ∙ sym g)
+
+    -- a refusal at place 0
+    plain : (g : ℕ) → (g ≡ 9 → ⊥) → (g ≡ 0 → ⊥) → planned s P ≡ refused g 0 → Plans s P (refusing g 0 0 (m .amounts)) c
+    plain g n z e = record {
+      tells = record { number-is = sym (ap numberOf e); place-is = sym (ap placeOf e); named = λ t r q. absurd (n q); unnamed = λ q. refl };
+      made = λ q. absurd (z q);
+    }
+
+    pub plans-ten : badProcessors P ≡ true → Plans s P (refusing 10 0 0 (m .amounts)) c
+    plans-ten e = plain 10 (λ q. omega (arith, q)) (λ q. omega (arith, q)) (rw e at found)
+
+    pub plans-eleven : badProcessors P ≡ false → isShort (tableSpan t .count) P (thresholdOf t) ≡ true → Plans s P (refusing 11 0 0 (m .amounts)) c
+    plans-eleven e f = plain 11 (λ q. omega (arith, q)) (λ q. omega (arith, q)) (rw (e, f) at found)
+
+    pub plans-made : badProcessors P ≡ false → isShort (tableSpan t .count) P (thresholdOf t) ≡ false → (first T : ℕ) → first ≡ tableSpan t .first
+        → T ≡ tableSpan t .count
+        → Plans s P (record { number = 0; place = 0; read = 0; arrays = o .arrays; loops = o .loops; rows = o .rows; first = first; count = T; amounts = m .amounts }) c
+    plans-made e f first T g q =
+        let r : planned s P ≡ accepted t = rw (e, f) at found in
+        record {
+          tells = record { number-is = sym (ap numberOf r); place-is = sym (ap placeOf r); named = λ u z w. absurd (omega (arith, w)); unnamed = λ w. refl };
+          made = λ z. record {
+            is = r;
+            sized = sized;
+            kept = kept;
+            shifts-are = shifts-are zero-number;
+            peels-are = peels-are zero-number;
+            first-is = g;
+            count-is = q;
+          };
+        }

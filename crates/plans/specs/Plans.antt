@@ -1,0 +1,92 @@
+-- The plan of a table: a shift and a peel for each loop, and for P processors the blocks and lists that follow. Grounds 10 and 11.
+use Prim.Native.Nat.{ℕ, _+_}
+use mathlib.Core.Path.{_≡_}
+use mathlib.Core.Bool.{Bool, _||_}
+use mathlib.Core.List.{List}
+use lib.Dec.{eqb, ltb}
+use lib.ListN.{getD}
+use Rattle.model.specs.Table.{Table}
+use Rattle.model.specs.References.{allRefs}
+use Rattle.reader.specs.Reading.{Answer, accepted, refused, choose, reading}
+use Rattle.reader.specs.Columns.{Columns, tableAt}
+use Rattle.reader.specs.Stored.{Sized, Kept}
+use Rattle.serial.specs.Serial.{table}
+use Rattle.serial.specs.Meeting.{Collides}
+use Rattle.chains.specs.declared.Amounts.{Amounts}
+use Rattle.chains.specs.Walk.{shifts, peels}
+use Rattle.chains.specs.Threshold.{threshold}
+use Rattle.blocks.specs.Span.{tableSpan}
+use Rattle.blocks.specs.Blocks.{isShort}
+use Rattle.lists.specs.Fusion.{Fusion, fusionOf}
+use Rattle.tables.specs.Verdict.{numberOf, placeOf, Outlined}
+use Rattle.plans.specs.declared.Measured.{Measured}
+use Rattle.plans.specs.declared.Plan.{Plan}
+
+module _ (t : Table) where
+  abbrev pub shiftOf : ℕ → ℕ
+  shiftOf k = getD (shifts (allRefs t)) k 0
+
+  abbrev pub peelOf : ℕ → ℕ
+  peelOf k = getD (peels (allRefs t)) k 0
+
+  -- the largest sum of shift and peel of one loop
+  abbrev pub thresholdOf : ℕ
+  thresholdOf = threshold (shifts (allRefs t)) (peels (allRefs t))
+
+  -- for P processors: their blocks, and so their fused and peeled lists (lists' Fusion)
+  abbrev pub planOf : ℕ → Fusion
+  planOf P = fusionOf t P shiftOf peelOf
+
+-- 10: P outside 1 to 64
+abbrev pub badProcessors : ℕ → Bool
+badProcessors P = eqb P 0 || ltb 64 P
+
+-- after 1 to 9: 10, then 11
+unfoldable pub fitting : ℕ → Answer → Answer
+fitting P (refused n p) = refused n p
+fitting P (accepted t) =
+    choose (badProcessors P) (refused 10 0) (choose (isShort (tableSpan t .count) P (thresholdOf t)) (refused 11 0) (accepted t))
+
+unfoldable pub planned : List ℕ → ℕ → Answer
+planned s P = fitting P (table s)
+
+-- what the code leaves of a table read through 9: its columns, shifts and peels
+pub record Measures (s : List ℕ) (r : Measured) (c : Columns) : Type 0 where
+  pub outlined : Outlined s (r .outline) c
+  pub shifts-are : r .outline .number ≡ 0 → r .amounts .shifts ≡ shifts (allRefs (tableAt c (r .outline .arrays) (r .outline .loops)))
+  pub peels-are : r .outline .number ≡ 0 → r .amounts .peels ≡ peels (allRefs (tableAt c (r .outline .arrays) (r .outline .loops)))
+
+-- what is told of a refusal; the read that 9 names collides, and which, if several do, is left free
+pub record Tells (s : List ℕ) (P number place read : ℕ) : Type 0 where
+  pub number-is : number ≡ numberOf (planned s P)
+  pub place-is : place ≡ placeOf (planned s P)
+  pub named : (t : Table) → reading s ≡ accepted t → number ≡ 9 → Collides t place read
+  pub unnamed : (number ≡ 9 → ⊥) → read ≡ 0
+
+-- and where nothing is refused: the table, its amounts, and the least first and T
+pub record Made (s : List ℕ) (P : ℕ) (r : Plan) (c : Columns) : Type 0 where
+  pub is : planned s P ≡ accepted (tableAt c (r .arrays) (r .loops))
+  pub sized : Sized c
+  pub kept : Kept c (r .arrays) (r .loops) (r .rows)
+  pub shifts-are : r .amounts .shifts ≡ shifts (allRefs (tableAt c (r .arrays) (r .loops)))
+  pub peels-are : r .amounts .peels ≡ peels (allRefs (tableAt c (r .arrays) (r .loops)))
+  pub first-is : r .first ≡ tableSpan (tableAt c (r .arrays) (r .loops)) .first
+  pub count-is : r .count ≡ tableSpan (tableAt c (r .arrays) (r .loops)) .count
+
+pub record Plans (s : List ℕ) (P : ℕ) (r : Plan) (c : Columns) : Type 0 where
+  pub tells : Tells s P (r .number) (r .place) (r .read)
+  pub made : r .number ≡ 0 → Made s P r c
+
+-- a refusal has no columns
+abbrev pub refusing : ℕ → ℕ → ℕ → Amounts → Plan
+refusing number place read a = record {
+  number = number;
+  place = place;
+  read = read;
+  arrays = 0;
+  loops = 0;
+  rows = 0;
+  first = 0;
+  count = 0;
+  amounts = a;
+}

@@ -1,0 +1,2 @@
+-- the walk over the rows of a loop, and over the loops
+pub mod Walks

@@ -1,0 +1,2 @@
+-- the walk over the rows of a loop, and the walk over the loops
+pub mod Walks
