@@ -2,18 +2,15 @@
 use Prim.Native.Nat.{ℕ, _+_, _*_, _-_, _≤_, _<_}
 use native.Mathlib.Omega.{arith}
 use mathlib.Core.Path.{_≡_, refl, sym, ap, _∙_}
-use mathlib.Core.Bool.{Bool, true, false, not}
+use mathlib.Core.Bool.{true, false, not}
 use mathlib.Core.List.{List, _++_}
 use lib.ListN.{length, take, drop}
 use lib.Seq.{length-take-le, paste}
 use lib.Dec.{ltb}
 use borrow.Author.Tests.{lt-ltb, le-ltb}
-use Rattle.model.specs.Table.{Table, count}
-use Rattle.reader.specs.Reading.{Answer, accepted}
 use Rattle.reader.specs.Accepting.{not-both}
-use Rattle.serial.specs.Serial.{table}
 use Rattle.joining.specs.declared.Outcome.{Outcome}
-use Rattle.joining.specs.Joining.{Joined, refused, written, _if_else_, after, alike, alike-same, bytes, bytes-length, fitted, joining, final}
+use Rattle.joining.specs.Joining.{Joined, refused, written, _if_else_, alike, alike-same, bytes, bytes-length, fitted, joining, final}
 use Rattle.joining.specs.Told.{Says, Told, Refusal, Held}
 use Rattle.joining.proofs.Sides.{Is}
 use Rattle.joining.proofs.Walks.{copied-both}

@@ -1,11 +1,10 @@
 -- What the answer of reading a table through 9 says of one of the two tables.
-use Prim.Native.Nat.{ℕ, _*_, _<_}
+use Prim.Native.Nat.{ℕ}
 use native.Mathlib.Omega.{arith}
 use mathlib.Core.Path.{_≡_, refl, sym, _∙_}
 use mathlib.Core.List.{List}
 use lib.ListN.{length, take}
 use lib.Seq.{length-take-le}
-use Rattle.reader.specs.Reading.{Answer, accepted, reading}
 use Rattle.reader.specs.Columns.{Columns, tableAt, count-table}
 use Rattle.reader.specs.Accepting.{accepted-long, not-both}
 use Rattle.serial.specs.declared.Checked.the-variants.{Refused, Serial, Accepted}

@@ -1,15 +1,14 @@
 -- How a reading that accepts a table goes: it passes whole records, up to an end record at the last byte.
 use Prim.Native.Nat.{ℕ, zero, suc, _+_, _*_, _≤_, _<_}
 use native.Mathlib.Omega.{arith}
-use mathlib.Core.Path.{_≡_, refl, sym, ap, subst, _∙_}
+use mathlib.Core.Path.{_≡_, refl, subst}
 use mathlib.Core.Bool.{Bool, true, false}
-use mathlib.Core.List.{List, [], _∷_, _++_}
+use mathlib.Core.List.{List, [], _∷_}
 use lib.ListN.{length, length-append}
 use lib.Dec.{ltb}
 use borrow.Author.Tests.{ltb-false, le-ltb}
 use Rattle.records.specs.declared.Record.{Record}
 use Rattle.records.specs.declared.Record.the-variants.{Unknown, Array, Loop, Read, Constant, Operation, End}
-use Rattle.records.specs.declared.Summary.{Summary}
 use Rattle.records.specs.declared.Tested.{Tested}
 use Rattle.records.specs.declared.Tested.the-variants as found
 use Rattle.records.specs.History.{summary, lengths, advanced, blank, withArray, withLoop, withItem}
@@ -18,8 +17,7 @@ use Rattle.records.specs.Outcome.{Whole, passed-whole, ended-whole}
 use Rattle.records.specs.Passing.{whole-passed, whole-ended}
 use Rattle.records.specs.Same.{record-length}
 use Rattle.model.specs.Table.{Item, read, constant, operation, Table}
-use Rattle.model.specs.Table.{Loop as LoopOf}
-use Rattle.reader.specs.Reading.{Answer, accepted, refused, choose, follow, readFrom, reading, tableOf, loopsOf}
+use Rattle.reader.specs.Reading.{accepted, refused, choose, follow, readFrom, reading, tableOf, loopsOf}
 
 -- from a place on, after the records rs: all is what has been read where the reading ends
 pub data Rest (s : List ℕ) : ℕ → List Record → List Record → Type 0 where

@@ -1,22 +1,19 @@
 -- A whole record that is clear meets no ground: the converse of Clear and Outcome.
-use Prim.Native.Nat.{ℕ, zero, suc, _+_, _≤_, _<_}
+use Prim.Native.Nat.{ℕ, _+_, _≤_, _<_}
 use native.Mathlib.Omega.{arith}
 use mathlib.Core.Path.{_≡_, refl, sym, ap, subst, _∙_}
-use mathlib.Core.Bool.{Bool, true, false}
 use mathlib.Core.List.{List}
 use lib.ListN.{length, getD}
-use lib.Dec.{eqb, leb, ltb}
+use lib.Dec.{eqb, leb}
 use borrow.Author.Tests.{le-ltb, lt-leb, ne-eqb, eq-eqb}
 use Rattle.records.specs.declared.Kind.{Kind}
 use Rattle.records.specs.declared.Kind.the-variants as kind
 use Rattle.records.specs.declared.Record.{Record}
 use Rattle.records.specs.declared.Record.the-variants.{Unknown, Array, Loop, Read, Constant, Operation, End}
 use Rattle.records.specs.declared.Summary.{Summary}
-use Rattle.records.specs.declared.Tested.{Tested}
-use Rattle.records.specs.declared.Tested.the-variants.{Refused, Passed, Ended}
-use Rattle.records.specs.Bytes.{byte, four, offset, kindOf, bodyLength, recordOf, recordAt}
-use Rattle.records.specs.History.{operands}
-use Rattle.records.specs.Grounds.{_if_else_, orElse, early, edge, fields, ground, passed, pick, tested}
+use Rattle.records.specs.declared.Tested.the-variants.{Passed, Ended}
+use Rattle.records.specs.Bytes.{byte, kindOf, bodyLength, recordOf, recordAt}
+use Rattle.records.specs.Grounds.{_if_else_, early, edge, fields, ground, passed, tested}
 use Rattle.records.specs.Clear.{Clear, Within}
 use Rattle.records.specs.Outcome.{Whole}
 

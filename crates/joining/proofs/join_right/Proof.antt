@@ -43,7 +43,7 @@ refusal-requires-2 c κs = search needs
 returns-2 : tie.Need-returns-2
 returns-2 c = let a = c .before .before .before .before .before .before .before .before .before .before .before .before .before .args in
     let h = subst (λ (x : Side). Known x (c .before .before .before .before .before .before .before .before .read-side .last .1 .0) (now (a .right))) (c .before .before .before .before .before .before .r2 .given .1) (c .before .before .before .before .before .before .before .before .read-side .ensures) in
-    many-loops (now (a .left)) (now (a .right)) (now (a .out)) (now (a .ours)) (a .arrays) (a .loops) (c .before .before .before .before .before .before .before .before .before .before .before .before .before .pre) (c .before .before .before .before .before .before .before .before .read-side .last .1 .0) (c .before .before .before .before .before .before .r2 .given .0 .0) (c .before .before .before .before .before .before .r2 .given .0 .1 .0) h (sym (not-false _ (c .before .before .if1 .left)) ∙ c .before .before .before .same-lengths .ensures) (c .refusal2 .result) (c .refusal2 .ensures) (c .before .if2 .taken)
+    many-loops (now (a .left)) (now (a .right)) (now (a .out)) (now (a .ours)) (a .arrays) (a .loops) (c .before .before .before .before .before .before .before .before .before .before .before .before .before .pre) (c .before .before .before .before .before .before .before .before .read-side .last .1 .0) (c .before .before .before .before .before .before .r2 .given .0 .0) (c .before .before .before .before .before .before .r2 .given .0 .1 .0) h (sym (not-false _ (c .before .before .if1 .left)) ∙ c .before .before .before .same-lengths .ensures) (c .refusal2 .result) (c .refusal2 .ensures) (omega (arith, c .before .if2 .taken))
 
 write-requires : tie.Need-write-requires
 write-requires c κs = let a = c .before .before .before .before .before .before .before .before .before .before .before .before .before .args in
@@ -61,7 +61,7 @@ same-length c = search needs
 returns-4 : tie.Need-returns-4
 returns-4 c = let a = c .before .before .before .before .before .before .before .before .before .before .before .before .before .before .before .before .args in
     let h = subst (λ (x : Side). Known x (c .before .before .before .before .before .before .before .before .before .before .before .read-side .last .1 .0) (now (a .right))) (c .before .before .before .before .before .before .before .before .before .r2 .given .1) (c .before .before .before .before .before .before .before .before .before .before .before .read-side .ensures) in
-    joined (now (a .left)) (now (a .right)) (now (a .out)) (now (a .ours)) (a .arrays) (a .loops) (c .before .before .before .before .before .before .before .before .before .before .before .before .before .before .before .before .pre) (c .before .before .before .before .before .before .before .before .before .before .before .read-side .last .1 .0) (c .before .before .before .before .before .before .before .before .before .r2 .given .0 .0) (c .before .before .before .before .before .before .before .before .before .r2 .given .0 .1 .0) h (sym (not-false _ (c .before .before .before .before .before .if1 .left)) ∙ c .before .before .before .before .before .before .same-lengths .ensures) (c .before .before .write .result) (c .before .before .write .last .1 .1 .1 .0) (c .before .before .before .before .if2 .left) (c .before .before .write .ensures)
+    joined (now (a .left)) (now (a .right)) (now (a .out)) (now (a .ours)) (a .arrays) (a .loops) (c .before .before .before .before .before .before .before .before .before .before .before .before .before .before .before .before .pre) (c .before .before .before .before .before .before .before .before .before .before .before .read-side .last .1 .0) (c .before .before .before .before .before .before .before .before .before .r2 .given .0 .0) (c .before .before .before .before .before .before .before .before .before .r2 .given .0 .1 .0) h (sym (not-false _ (c .before .before .before .before .before .if1 .left)) ∙ c .before .before .before .before .before .before .same-lengths .ensures) (c .before .before .write .result) (c .before .before .write .last .1 .1 .1 .0) (omega (arith, c .before .before .before .before .if2 .left)) (c .before .before .write .ensures)
 
 pub join-right-spec : {M : Type 1} → statement M
 join-right-spec =

@@ -34,7 +34,7 @@ element-copy-out-if2-2 : tie.Need-element-copy-out-if2-2 Inv-loop μ-loop
 element-copy-out-if2-2 c = omega (arith, c .before .before .before .before .pre)
 
 returns-2 : tie.Need-returns-2 Inv-loop μ-loop
-returns-2 c = let a = c .before .before .before .before .before .before .args in subst (λ (m : ℕ). false ≡ alike (take (a .n) (now (a .ours))) (take m (now (a .theirs)))) (c .before .before .before .before .before .if1 .left) (differ (now (a .ours)) (now (a .theirs)) (a .n) (omega (arith, c .before .before .before .before .before .before .pre)) (omega (arith, c .before .before .before .before .before .before .pre)) (c .before .before .before .before .loop .k) (c .before .before .before .before .loop .inv) (c .before .before .before .loop-test .taken) (c .if2 .taken))
+returns-2 c = let a = c .before .before .before .before .before .before .args in subst (λ (m : ℕ). false ≡ alike (take (a .n) (now (a .ours))) (take m (now (a .theirs)))) (c .before .before .before .before .before .if1 .left) (differ (now (a .ours)) (now (a .theirs)) (a .n) (omega (arith, c .before .before .before .before .before .before .pre)) (omega (arith, c .before .before .before .before .before .before .pre)) (c .before .before .before .before .loop .k) (c .before .before .before .before .loop .inv) (omega (arith, c .before .before .before .loop-test .taken)) (c .if2 .taken))
 
 add-k : tie.Need-add-k Inv-loop μ-loop
 add-k c = omega (arith, c .before .before .before .before .before .before .pre)
@@ -43,10 +43,10 @@ loop-less : tie.Need-loop-less Inv-loop μ-loop
 loop-less c = omega arith
 
 loop-again : tie.Need-loop-again Inv-loop μ-loop
-loop-again c = let a = c .before .before .before .before .before .before .args in equal (now (a .ours)) (now (a .theirs)) (a .n) (omega (arith, c .before .before .before .before .before .before .pre)) (omega (arith, c .before .before .before .before .before .before .pre)) (c .before .before .before .before .loop .k) (c .before .before .before .before .loop .inv) (c .before .before .before .loop-test .taken) (c .if2 .left)
+loop-again c = let a = c .before .before .before .before .before .before .args in equal (now (a .ours)) (now (a .theirs)) (a .n) (omega (arith, c .before .before .before .before .before .before .pre)) (omega (arith, c .before .before .before .before .before .before .pre)) (c .before .before .before .before .loop .k) (c .before .before .before .before .loop .inv) (omega (arith, c .before .before .before .loop-test .taken)) (c .if2 .left)
 
 returns-3 : tie.Need-returns-3 Inv-loop μ-loop
-returns-3 c = let a = c .before .before .before .args in subst (λ (m : ℕ). true ≡ alike (take (a .n) (now (a .ours))) (take m (now (a .theirs)))) (c .before .before .if1 .left) (done (now (a .ours)) (now (a .theirs)) (a .n) (c .before .loop .k) (c .before .loop .inv) (c .loop-test .left))
+returns-3 c = let a = c .before .before .before .args in subst (λ (m : ℕ). true ≡ alike (take (a .n) (now (a .ours))) (take m (now (a .theirs)))) (c .before .before .if1 .left) (done (now (a .ours)) (now (a .theirs)) (a .n) (c .before .loop .k) (c .before .loop .inv) (omega (arith, c .loop-test .left)))
 
 pub same-lengths-spec : {M : Type 1} → statement M
 same-lengths-spec =

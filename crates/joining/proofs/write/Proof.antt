@@ -26,7 +26,7 @@ refusal-requires c κs = search needs
 
 returns : tie.Need-returns
 returns c = let a = c .before .before .before .before .before .args in
-    too-long (now (a .left)) (now (a .right)) (now (a .out)) (a .arrays) (c .before .before .before .before .before .pre .0) (c .refusal .result) (c .before .if1 .taken) (c .refusal .ensures)
+    too-long (now (a .left)) (now (a .right)) (now (a .out)) (a .arrays) (c .before .before .before .before .before .pre .0) (c .refusal .result) (omega (arith, c .before .if1 .taken)) (c .refusal .ensures)
 
 slice-aggregate-copy : tie.Need-slice-aggregate-copy
 slice-aggregate-copy c = let a = c .before .before .before .before .before .args in
@@ -55,7 +55,7 @@ returns-2 : tie.Need-returns-2
 returns-2 c = let a = c .before .before .before .before .before .before .before .before .before .before .before .before .before .before .args in
     let r = now (a .right) in
     let n = 5 * a .arrays in
-    wrote (now (a .left)) (now (a .right)) (now (a .out)) (a .arrays) (c .before .before .before .before .before .before .before .before .before .before .before .before .before .before .pre .0) (c .before .before .before .before .before .before .before .copy .last .1 .0) (c .before .before .copy2 .last .1 .0) (take (length r - n) (drop n r)) (c .before .before .before .before .before .before .before .before .before .before .if1 .left)
+    wrote (now (a .left)) (now (a .right)) (now (a .out)) (a .arrays) (c .before .before .before .before .before .before .before .before .before .before .before .before .before .before .pre .0) (c .before .before .before .before .before .before .before .copy .last .1 .0) (c .before .before .copy2 .last .1 .0) (take (length r - n) (drop n r)) (omega (arith, c .before .before .before .before .before .before .before .before .before .before .if1 .left))
     (take-all (length r - n) (drop n r) (omega (arith, length-drop n r))) (c .before .before .before .before .before .before .before .copy .ensures) (c .before .before .copy2 .ensures)
 
 pub write-spec : {M : Type 1} → statement M
