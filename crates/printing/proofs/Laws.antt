@@ -1,23 +1,21 @@
 -- What is printed is the table's text.
-use Prim.Native.Nat.{ℕ, _≤_, _<_, _^_}
+use Prim.Native.Nat.{ℕ, _≤_, _<_}
 use native.Mathlib.Omega.{arith}
-use mathlib.Core.Path.{_≡_, refl, sym, ap, subst, _∙_}
+use mathlib.Core.Path.{_≡_, sym, ap, subst, _∙_}
 use mathlib.Core.List.{List, [], _++_}
 use lib.ListN.{length, getD}
 use borrow.Author.Tests.{lt-ltb, le-ltb}
 use Rattle.model.specs.Table.{Table, count}
-use Rattle.model.specs.References.{allRefs}
 use Rattle.reader.specs.Reading.{Answer, accepted, refused}
 use Rattle.reader.specs.Columns.{Columns, tableAt, count-table}
 use Rattle.grounds.specs.Accepted.{Valid}
 use Rattle.chains.specs.Walk.{peels}
-use Rattle.blocks.specs.declared.Range.{Range}
 use Rattle.blocks.specs.Sums.{column}
 use Rattle.blocks.specs.Blocks.{edge}
 use Rattle.lists.specs.Fusion.{own}
 use Rattle.tables.specs.Verdict.{numberOf, placeOf}
 use Rattle.plans.specs.declared.Plan.{Plan}
-use Rattle.plans.specs.Plans.{shiftOf, peelOf, planOf, planned, Plans, Made}
+use Rattle.plans.specs.Plans.{shiftOf, peelOf, planned, Plans, Made}
 use Rattle.plans.specs.Known.{valid, peel-small, first-at, last-at, last-small}
 use Rattle.plans.specs.Fitting.{Fits, planned-fits, span-small}
 use Rattle.sweeps.specs.declared.Sweeps.{Sweeps}
@@ -25,9 +23,8 @@ use Rattle.sweeps.specs.Sweeps.{sweeps, before, after}
 use Rattle.sweeps.specs.Rows.{Placed, kept-placed}
 use Rattle.text.specs.Written.{Whole, length-written, written-front, written-nowhere}
 use Rattle.listing.specs.Listing.{listing, refusal, listing-same}
-use Rattle.listing.specs.Code.{ownOf, Sizes}
-use Rattle.printing.specs.declared.Printed.{Printed}
-use Rattle.printing.specs.Printing.{textOf, text, final, answer, Prints}
+use Rattle.listing.specs.Code.{ownOf}
+use Rattle.printing.specs.Printing.{textOf, text, Prints}
 use Rattle.printing.specs.Code.{planLines, Small}
 
 -- the first call got no bytes and left none; `size` is the text's length

@@ -1,18 +1,15 @@
 -- What is printed of a table and a number of processors: its plan's listing, or the single line of its refusal.
-use Prim.Native.Nat.{ℕ, _≤_, _<_}
-use native.Mathlib.Omega.{arith}
-use mathlib.Core.Path.{_≡_, refl, sym, ap, _∙_}
+use Prim.Native.Nat.{ℕ, _≤_}
+use mathlib.Core.Path.{_≡_}
 use mathlib.Core.Bool.{cond}
 use mathlib.Core.List.{List, _++_}
 use lib.Dec.{ltb}
 use lib.ListN.{length, drop}
-use borrow.Author.Tests.{lt-ltb, le-ltb}
-use Rattle.model.specs.Table.{Table, count}
+use Rattle.model.specs.Table.{count}
 use Rattle.reader.specs.Reading.{Answer, accepted, refused}
 use Rattle.lists.specs.Fusion.{own}
 use Rattle.plans.specs.Plans.{shiftOf, peelOf, planOf, planned}
 use Rattle.sweeps.specs.Sweeps.{before, after}
-use Rattle.text.specs.Written.{Whole, written-front}
 use Rattle.listing.specs.Listing.{listing, refusal}
 use Rattle.printing.specs.declared.Printed.{Printed}
 
