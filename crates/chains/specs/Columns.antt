@@ -60,7 +60,7 @@ module _ (c : Columns) where
   refsFrom-place i (suc n) x m =
       ⊎-elim (λ e. (i, omega arith, omega arith, e)) (λ k. let (j, a, b, e) = refsFrom-place (suc i) n x k in (j, omega arith, omega arith, e)) (cases-cons m)
 
-  refsFrom-mem : (i n j : ℕ) → i ≤ j → j < i + n → Mem (refAt c j) (refsFrom c i n)
+  pub refsFrom-mem : (i n j : ℕ) → i ≤ j → j < i + n → Mem (refAt c j) (refsFrom c i n)
   unfolding refsFrom
   refsFrom-mem i zero j l h = absurd (omega arith)
   refsFrom-mem i (suc n) j l h = go (ℕ-discrete i j) (refsFrom-mem (suc i) n j)

@@ -18,7 +18,7 @@ use Rattle.chains.specs.Walk.{shifts, peels, Ordered, Below}
 use Rattle.chains.specs.Largest.{numbers-largest, numbers-legal, numbers-least}
 
 -- the references of loop k have its number
-reads-number : (k : ℕ) (xs : List Item) (r : Reference) → Mem r (reads k xs) → r .number ≡ k
+pub reads-number : (k : ℕ) (xs : List Item) (r : Reference) → Mem r (reads k xs) → r .number ≡ k
 reads-number k [] r m = absurd (not-nil m)
 reads-number k (read a o ∷ xs) r m = ⊎-elim (λ e. ap (λ (q : Reference). q .number) e) (reads-number k xs r) (cases-cons m)
 reads-number k (constant n ∷ xs) r m = reads-number k xs r m

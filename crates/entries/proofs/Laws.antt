@@ -2,24 +2,21 @@
 use Prim.Native.Nat.{ℕ, zero, suc, _+_, _*_, _≤_, _<_}
 use native.Mathlib.Omega.{arith}
 use native.Mathlib.Numerals.{add-one}
-use mathlib.Core.Path.{_≡_, refl, sym, ap, subst, _∙_}
-use mathlib.Core.Bool.{Bool, true, false}
+use mathlib.Core.Path.{_≡_, refl, sym, ap, _∙_}
 use mathlib.Core.List.{List, [], _∷_, _++_, append-nil}
 use lib.ListN.{length, getD, length-append}
 use borrow.Author.Tests.{lt-ltb, le-ltb}
 use Rattle.order.specs.Lists.{joined}
 use Rattle.model.specs.Table.{Table, count}
-use Rattle.model.specs.References.{allRefs}
-use Rattle.reader.specs.Reading.{Answer, accepted, reading}
+use Rattle.reader.specs.Reading.{Answer, accepted}
 use Rattle.reader.specs.Columns.{Columns, tableAt, count-table}
 use Rattle.serial.specs.Serial.{table}
 use Rattle.chains.specs.Walk.{shifts, peels}
 use Rattle.text.specs.Written.{written, Put, put-none, put-then, put-most, written-front}
 use Rattle.numbers.specs.declared.Outcome.{Outcome}
-use Rattle.numbers.specs.Numbers.{four, encoded, four-length, encoded-length, encoded-append}
-use Rattle.numbers.specs.Given.{Given, refused, numbers, final, numberOf, placeOf, countOf, Says}
+use Rattle.numbers.specs.Numbers.{four, encoded, encoded-length, encoded-append}
+use Rattle.numbers.specs.Given.{Given, refused, numbers, final, numberOf, placeOf, countOf}
 use Rattle.tables.specs.declared.Outline.{Outline}
-use Rattle.tables.specs.Verdict.{Outlined}
 use Rattle.tables.specs.Verdict as Verdict
 use Rattle.plans.specs.declared.Measured.{Measured}
 use Rattle.plans.specs.Plans.{Measures, shiftOf, peelOf}

@@ -1,7 +1,7 @@
 -- The numbers that each entry gives, four bytes each, or the refusal: 1 to 9, then 10 and 11 where P is asked, then 13.
-use Prim.Native.Nat.{ℕ, zero, suc, _+_, _-_}
+use Prim.Native.Nat.{ℕ, _-_}
 use mathlib.Core.Path.{_≡_}
-use mathlib.Core.List.{List, [], _∷_, _++_}
+use mathlib.Core.List.{List, [], _∷_}
 use Rattle.order.specs.Lists.{joined}
 use Rattle.model.specs.Table.{Table, count}
 use Rattle.reader.specs.Reading.{Answer, accepted, reading}
@@ -11,7 +11,7 @@ use Rattle.blocks.specs.declared.Range.{Range}
 use Rattle.blocks.specs.Blocks.{block}
 use Rattle.blocks.specs.Span.{tableSpan}
 use Rattle.numbers.specs.declared.Outcome.{Outcome}
-use Rattle.numbers.specs.Given.{Given, refused, written, numbers, Says}
+use Rattle.numbers.specs.Given.{Given, refused, numbers, Says}
 use Rattle.plans.specs.Plans.{shiftOf, peelOf, thresholdOf, planned}
 
 -- an answer's refusal, or the numbers of the table

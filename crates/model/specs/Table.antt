@@ -1,8 +1,7 @@
 -- A loop table: arrays by their lengths, and loops in order. Arrays and loops are numbered from 0.
-use Prim.Native.Nat.{ℕ, zero, suc, _+_, _-_, _≤_, _<_}
-use mathlib.Core.List.{List, [], _∷_}
+use Prim.Native.Nat.{ℕ, _≤_, _<_}
+use mathlib.Core.List.{List, []}
 use lib.ListN.{getD, length}
-use Rattle.order.specs.Lists.{joined}
 use Rattle.model.specs.declared.Iteration.{Iteration}
 
 -- one item of a body. An offset o, −255 to 255, is kept as o + 255, here and everywhere

@@ -1,14 +1,12 @@
 -- What the code found is the table's plan.
-use Prim.Native.Nat.{ℕ, zero, suc, _+_, _≤_, _<_}
+use Prim.Native.Nat.{ℕ, _≤_}
 use native.Mathlib.Omega.{arith}
-use mathlib.Core.Path.{_≡_, refl, sym, ap, subst, _∙_}
-use mathlib.Core.Bool.{Bool, true, false, _||_}
+use mathlib.Core.Path.{_≡_, refl, sym, ap, _∙_}
+use mathlib.Core.Bool.{Bool, true, false}
 use mathlib.Core.List.{List}
-use lib.Dec.{eqb, ltb}
 use Rattle.order.specs.Lists.{joined}
 use Rattle.model.specs.Table.{Table}
-use Rattle.model.specs.References.{allRefs}
-use Rattle.reader.specs.Reading.{Answer, accepted, refused, choose, reading}
+use Rattle.reader.specs.Reading.{Answer, accepted, refused, choose}
 use Rattle.reader.specs.Columns.{Columns, tableAt}
 use Rattle.reader.specs.Stored.{Sized, Kept}
 use Rattle.serial.specs.Serial.{table}
@@ -24,10 +22,9 @@ use Rattle.plans.specs.Known.{valid, threshold-small, span-is}
 use Rattle.blocks.specs.Blocks.{isShort}
 use Rattle.references.specs.Collected.{rowRefs, table-refs}
 use Rattle.tables.specs.declared.Outline.{Outline}
-use Rattle.tables.specs.Verdict.{numberOf, placeOf, Told, Outlined}
+use Rattle.tables.specs.Verdict.{numberOf, placeOf, Outlined}
 use Rattle.plans.specs.declared.Measured.{Measured}
-use Rattle.plans.specs.declared.Plan.{Plan}
-use Rattle.plans.specs.Plans.{Measures, Tells, Made, Plans, refusing, planned, fitting, badProcessors, thresholdOf}
+use Rattle.plans.specs.Plans.{Measures, Plans, refusing, planned, fitting, badProcessors, thresholdOf}
 
 -- 10 and 11 are asked of an accepted table alone
 refused-stays : (P : ℕ) (a : Answer) → (numberOf a ≡ 0 → ⊥) → (numberOf a ≡ numberOf (fitting P a)) × (placeOf a ≡ placeOf (fitting P a))

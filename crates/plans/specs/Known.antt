@@ -1,16 +1,14 @@
 -- What is known of a table that was accepted, in the columns that hold it: the bounds that the code's sums need.
-use Prim.Native.Nat.{ℕ, zero, suc, _+_, _-_, _≤_, _<_, _^_}
+use Prim.Native.Nat.{ℕ, _-_, _≤_, _<_, _^_}
 use native.Mathlib.Omega.{arith}
-use mathlib.Core.Path.{_≡_, refl, sym, ap, subst, _∙_}
+use mathlib.Core.Path.{_≡_, sym, ap, _∙_}
 use mathlib.Core.List.{List}
-use mathlib.Core.List.{List·Memᴰ as Mem}
 use lib.ListN.{length, getD, take, length-take}
 use lib.Seq.{getD-take}
-use Rattle.model.specs.declared.Reference.{Reference}
-use Rattle.model.specs.Table.{Table, Loop, loop, count, first, last}
-use Rattle.model.specs.References.{allRefs, refs}
-use Rattle.reader.specs.Reading.{Answer, accepted, refused, reading}
-use Rattle.reader.specs.Columns.{Columns, tableAt, loopAt, count-table, loop-table}
+use Rattle.model.specs.Table.{Table, Loop, first, last}
+use Rattle.model.specs.References.{allRefs}
+use Rattle.reader.specs.Reading.{accepted}
+use Rattle.reader.specs.Columns.{Columns, tableAt, count-table, loop-table}
 use Rattle.reader.specs.Stored.{Sized, Kept}
 use Rattle.serial.specs.Serial.{table}
 use Rattle.chains.specs.Walk.{shifts, peels}

@@ -1,9 +1,9 @@
 -- The invariant of the reading, and the turns of its loop.
-use Prim.Native.Nat.{ℕ, zero, suc, _+_, _-_, _≤_, _<_}
+use Prim.Native.Nat.{ℕ, suc, _+_, _-_, _≤_, _<_}
 use native.Mathlib.Omega.{arith}
 use mathlib.Core.Path.{_≡_, refl, sym, ap, subst, _∙_}
 use mathlib.Core.List.{List, [], _∷_}
-use lib.ListN.{length, getD, take}
+use lib.ListN.{length, getD}
 use lib.Seq.{getD-take}
 use borrow.Author.Tests.{lt-ltb, le-ltb}
 use Rattle.records.specs.declared.Record.{Record}
@@ -13,12 +13,11 @@ use Rattle.records.specs.declared.Tested.{Tested}
 use Rattle.records.specs.declared.Tested.the-variants as found
 use Rattle.records.specs.History.{summary, lengths, advanced, blank}
 use Rattle.records.specs.Grounds.{tested}
-use Rattle.records.specs.Clear.{Clear, Room, clear-room}
-use Rattle.records.specs.Outcome.{Whole, passed-whole, ended-whole, tested-same}
-use Rattle.reader.specs.declared.Reading.{Reading}
+use Rattle.records.specs.Clear.{Room, clear-room}
+use Rattle.records.specs.Outcome.{Whole, passed-whole, tested-same}
 use Rattle.reader.specs.declared.Reading.the-variants.{Refused, Accepted}
-use Rattle.reader.specs.Reading.{Answer, accepted, refused, follow, readFrom, reading, tableOf, loopsOf}
-use Rattle.reader.specs.Columns.{Columns, answer, kept, rowsAfter, tableAt, loopsFrom, Places}
+use Rattle.reader.specs.Reading.{accepted, follow, readFrom, reading, tableOf}
+use Rattle.reader.specs.Columns.{Columns, answer, kept, rowsAfter, tableAt, Places}
 use Rattle.reader.specs.Stored.{Stored, Sized, Filled, stored-all, stored-start, kept-stored}
 
 -- the records before `at` have been read, and the rest from there gives the whole reading

@@ -3,16 +3,14 @@ use Prim.Native.Nat.{ℕ, zero, suc, _+_, _-_, _*_, _≤_, _<_}
 use native.Mathlib.Omega.{arith}
 use native.Mathlib.Decide.{ℕ-discrete}
 use native.Mathlib.Numerals.{add-one}
-use native.Mathlib.Nat.{add-suc}
 use mathlib.Core.Path.{_≡_, refl, sym, ap, subst, _∙_}
-use mathlib.Core.Logic.{_≢_}
 use mathlib.Core.List.{List, [], _∷_, _++_, append-nil, append-assoc}
 use lib.ListN.{length, getD, set, take, length-set}
 use lib.Seq.{take-suc, take-set-le, getD-set-same, getD-set-other}
 use Rattle.records.specs.declared.Record.{Record}
 use Rattle.records.specs.declared.Record.the-variants as rec
 use Rattle.records.specs.declared.Summary.{Summary}
-use Rattle.records.specs.History.{summary, lengths, advanced, blank, withArray, withLoop, withItem, operands}
+use Rattle.records.specs.History.{summary, lengths, advanced, blank, withArray, withLoop, withItem}
 use Rattle.records.specs.Clear.{Clear}
 use Rattle.model.specs.Table.{Item, read, constant, operation, Loop}
 use Rattle.reader.specs.declared.Reading.{Reading}

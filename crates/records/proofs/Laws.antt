@@ -6,17 +6,15 @@ use mathlib.Core.List.{List}
 use lib.ListN.{length}
 use lib.Dec.{eqb}
 use mathlib.Core.Bool.{Bool, true, false, cond}
-use borrow.Author.Tests.{lt-ltb, le-ltb, le-leb, lt-leb, eq-eqb, ne-eqb}
+use borrow.Author.Tests.{lt-ltb, le-ltb, le-leb, lt-leb, ne-eqb}
 use Rattle.records.specs.declared.Kind.{Kind}
-use Rattle.records.specs.declared.Kind.the-variants.{Unknown, Array, Loop, Read, Constant, Operation, End}
+use Rattle.records.specs.declared.Kind.the-variants.{Unknown}
 use Rattle.records.specs.declared.Record.{Record}
 use Rattle.records.specs.declared.Summary.{Summary}
-use Rattle.records.specs.declared.Tested.{Tested}
 use Rattle.records.specs.declared.Tested.the-variants.{Refused}
 use Rattle.records.specs.Bytes.{byte, kindOf, bodyLength, recordOf, recordAt}
 use Rattle.records.specs.History.{operands}
 use Rattle.records.specs.Grounds.{ground, early, fields, passed, tested}
-use Rattle.records.specs.Clear.{spanOf}
 
 -- a byte that is no kind
 pub no-kind : (b : ℕ) → (b ≡ 1 → ⊥) → (b ≡ 2 → ⊥) → (b ≡ 3 → ⊥) → (b ≡ 4 → ⊥) → (b ≡ 5 → ⊥) → (b ≡ 6 → ⊥) → Unknown ≡ kindOf b

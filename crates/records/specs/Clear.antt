@@ -4,7 +4,7 @@ use native.Mathlib.Omega.{arith}
 use mathlib.Core.Path.{_≡_, refl}
 use mathlib.Core.Bool.{Bool, true, false}
 use mathlib.Core.List.{List}
-use lib.ListN.{length, getD}
+use lib.ListN.{getD}
 use lib.Dec.{eqb, leb}
 use borrow.Author.Tests.{ltb-false, leb-false, eqb-false, eqb-true, not-false}
 use Rattle.records.specs.declared.Kind.{Kind}
@@ -12,7 +12,7 @@ use Rattle.records.specs.declared.Kind.the-variants as kind
 use Rattle.records.specs.declared.Record.{Record}
 use Rattle.records.specs.declared.Record.the-variants.{Unknown, Array, Loop, Read, Constant, Operation, End}
 use Rattle.records.specs.declared.Summary.{Summary}
-use Rattle.records.specs.Bytes.{byte, four, offset, kindOf, bodyLength, recordOf}
+use Rattle.records.specs.Bytes.{byte, four, kindOf, bodyLength, recordOf}
 use Rattle.records.specs.History.{operands}
 use Rattle.records.specs.Grounds.{_if_else_, early, edge, fields}
 

@@ -1,5 +1,5 @@
 -- The tests of one record, in the paper's order. 0: none of the grounds holds.
-use Prim.Native.Nat.{ℕ, _+_, _*_}
+use Prim.Native.Nat.{ℕ, _+_}
 use mathlib.Core.Bool.{Bool, true, false, not}
 use mathlib.Core.List.{List}
 use lib.ListN.{getD, length}

@@ -1,20 +1,18 @@
 -- The three ways that the tests of the record at a place end, and what each says.
 use Prim.Native.Nat.{ℕ, zero, suc, _+_, _≤_, _<_}
 use native.Mathlib.Omega.{arith}
-use mathlib.Core.Path.{_≡_, refl, sym, ap, subst, _∙_}
+use mathlib.Core.Path.{_≡_, refl, ap, subst}
 use mathlib.Core.Bool.{Bool, true, false}
 use mathlib.Core.List.{List}
 use lib.ListN.{length, getD}
 use lib.Dec.{eqb, leb, ltb, eqb·suc-zero}
 use borrow.Author.Tests.{ltb-false, leb-false, eqb-false, eqb-true}
-use Rattle.records.specs.declared.Kind.{Kind}
-use Rattle.records.specs.declared.Kind.the-variants as kind
 use Rattle.records.specs.declared.Record.{Record}
 use Rattle.records.specs.declared.Record.the-variants.{Unknown, Array, Loop, Read, Constant, Operation, End}
 use Rattle.records.specs.declared.Summary.{Summary}
 use Rattle.records.specs.declared.Tested.{Tested}
 use Rattle.records.specs.declared.Tested.the-variants.{Refused, Passed, Ended}
-use Rattle.records.specs.Bytes.{byte, kindOf, bodyLength, recordOf, recordAt}
+use Rattle.records.specs.Bytes.{byte, kindOf, bodyLength, recordAt}
 use Rattle.records.specs.Grounds.{_if_else_, orElse, early, edge, fields, ground, passed, pick, tested}
 use Rattle.records.specs.Clear.{Clear, clear-of}
 

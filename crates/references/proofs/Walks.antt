@@ -2,10 +2,10 @@
 use Prim.Native.Nat.{ℕ, zero, suc, _+_, _-_, _≤_, _<_}
 use native.Mathlib.Omega.{arith}
 use native.Mathlib.Numerals.{add-one}
-use mathlib.Core.Path.{_≡_, refl, sym, ap, subst, _∙_}
+use mathlib.Core.Path.{_≡_, refl, sym, ap, _∙_}
 use mathlib.Core.Bool.{Bool, true, false}
 use mathlib.Core.List.{List, [], _∷_, _++_, append-nil, append-assoc}
-use lib.ListN.{length, getD}
+use lib.ListN.{getD}
 use lib.Dec.{eqb}
 use borrow.Author.Tests.{ne-eqb}
 use Rattle.order.specs.Lists.{joined}
@@ -17,7 +17,7 @@ use Rattle.reader.specs.Columns.{columns as kept}
 use Rattle.reader.specs.Stored.{Row}
 use native.Mathlib.Decide.{ℕ-discrete}
 use Rattle.chains.specs.Columns.{Columns, refsFrom}
-use Rattle.references.specs.Collected.{Long, withReference, long-more, Added, added-none, added-one, added-then, added-few, Held, rowRefs, Collected}
+use Rattle.references.specs.Collected.{Long, withReference, long-more, Added, added-one, added-then, added-few, Held, rowRefs, Collected}
 
 no-items : (ks qs vs : List ℕ) (k r : ℕ) → reads k (itemsFrom ks qs vs r 0) ≡ []
 unfolding itemsFrom

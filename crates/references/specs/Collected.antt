@@ -1,24 +1,22 @@
 -- The references of a table in columns, one after the other: each loop's destination, then its reads.
 use Prim.Native.Nat.{ℕ, zero, suc, _+_, _-_, _≤_, _<_}
 use native.Mathlib.Omega.{arith}
-use native.Mathlib.Decide.{ℕ-discrete}
 use native.Mathlib.Numerals.{add-one}
-use mathlib.Core.Path.{_≡_, refl, sym, ap, subst, _∙_}
-use mathlib.Core.Bool.{Bool, true, false}
+use mathlib.Core.Path.{_≡_, refl, sym, ap, _∙_}
+use mathlib.Core.Bool.{true}
 use mathlib.Core.List.{List, [], _∷_, _++_, append-nil, append-assoc}
-use lib.ListN.{length, getD, set, take, length-set, length-take}
-use lib.Seq.{getD-set-same, getD-set-other, getD-take}
+use lib.ListN.{length, getD, set, length-set}
+use lib.Seq.{getD-set-same, getD-set-other}
 use lib.Dec.{eqb}
 use Rattle.order.specs.Lists.{joined}
 use Rattle.model.specs.declared.Reference.{Reference}
-use Rattle.model.specs.Table.{Item, read, constant, operation, Table, loop, count}
-use Rattle.model.specs.References.{destination, reads, references, allRefs}
+use Rattle.model.specs.References.{reads, allRefs}
 use Rattle.model.specs.References.{refs as loopRefs}
 use Rattle.reader.specs.Columns.{itemsFrom, tableAt, count-table, loop-table}
 use Rattle.reader.specs.Columns.{columns as kept}
 use Rattle.reader.specs.Columns.{Columns as Kept·Columns}
 use Rattle.reader.specs.Stored.{Row, Kept}
-use Rattle.chains.specs.Columns.{Columns, columns, refAt, refsFrom, refs, WellFormed}
+use Rattle.chains.specs.Columns.{Columns, columns, refAt, refsFrom}
 
 -- the columns' own lengths
 pub record Long (c : Columns) : Type 0 where

@@ -1,43 +1,24 @@
 -- The columns cut to the references that they hold are what the chains ask for.
-use Prim.Native.Nat.{ℕ, zero, suc, _+_, _-_, _≤_, _<_, min}
+use Prim.Native.Nat.{ℕ, zero, suc, _+_, _-_, _≤_, _<_}
 use native.Mathlib.Omega.{arith}
 use native.Mathlib.Decide.{ℕ-discrete, decLt}
-use mathlib.Core.Path.{_≡_, refl, sym, ap, subst, _∙_}
+use mathlib.Core.Path.{_≡_, sym, ap, _∙_}
 use mathlib.Core.Logic.{⊎-elim}
-use mathlib.Core.List.{List, [], _∷_, _++_, append-nil}
-use mathlib.Core.List.{List·Memᴰ as Mem, List·Memᴰ·head as mhere, List·Memᴰ·tail as mthere, List·Memᴰ·cases-cons as cases-cons, List·Memᴰ·not-nil as not-nil}
+use mathlib.Core.List.{List, _∷_}
+use mathlib.Core.List.{List·Memᴰ as Mem, List·Memᴰ·cases-cons as cases-cons}
 use lib.ListN.{length, getD, take, length-take, List·getD-eq-default}
 use lib.Seq.{getD-take}
-use lib.Dec.{eqb}
 use Rattle.order.specs.Lists.{joined, Before, bhere, bthere, before-joined, mem-joined, before-left, before-right}
 use Rattle.model.specs.declared.Reference.{Reference}
-use Rattle.model.specs.Table.{Item, read, constant, operation}
-use Rattle.model.specs.References.{reads}
 use Rattle.reader.specs.Columns.{itemsFrom}
-use Rattle.chains.specs.Columns.{Columns, columns, refAt, refsFrom, refs, WellFormed}
-use Rattle.chains.specs.Walk.{shifts, peels}
-use Rattle.references.specs.Collected.{Long, Collected, Held, rowRefs, same-before}
+use Rattle.chains.specs.Columns.{Columns, columns, refAt, refsFrom, refs, refsFrom-mem, WellFormed}
+use Rattle.chains.specs.Tables.{reads-number}
+use Rattle.references.specs.Collected.{Long, Held, rowRefs, same-before}
 
 abbrev pub cut : ℕ → Columns → Columns
 cut n c = columns (take n (c .loops)) (take n (c .arrays)) (take n (c .offsets)) (take n (c .stores))
 
--- a reference that stands at a place is one of the list
-in-refs : (c : Columns) (i m k : ℕ) → i ≤ k → k < i + m → Mem (refAt c k) (refsFrom c i m)
-unfolding refsFrom
-in-refs c i zero k a b = absurd (omega arith)
-in-refs c i (suc m) k a b = go (ℕ-discrete i k) (in-refs c (suc i) m k)
-  where
-    go : Dec (i ≡ k) → (suc i ≤ k → k < suc i + m → Mem (refAt c k) (refsFrom c (suc i) m)) → Mem (refAt c k) (refAt c i ∷ refsFrom c (suc i) m)
-    go (yes e) ih = mhere (ap (refAt c) (sym e))
-    go (no e) ih = mthere (ih (omega arith) (omega arith))
-
 -- a loop's references have its number
-reads-number : (k : ℕ) (xs : List Item) (r : Reference) → Mem r (reads k xs) → r .number ≡ k
-reads-number k [] r m = absurd (not-nil m)
-reads-number k (read a o ∷ xs) r m = ⊎-elim (λ e. ap (λ (q : Reference). q .number) e) (reads-number k xs r) (cases-cons m)
-reads-number k (constant x ∷ xs) r m = reads-number k xs r m
-reads-number k (operation x ∷ xs) r m = reads-number k xs r m
-
 row-number : (ss ks qs vs : List ℕ) (k : ℕ) (r : Reference) → Mem r (rowRefs ss ks qs vs k) → r .number ≡ k
 row-number ss ks qs vs k r m = ⊎-elim (λ e. ap (λ (q : Reference). q .number) e) (reads-number k (itemsFrom ks qs vs (suc (getD ss k 0)) (getD ss (suc k) 0 - suc (getD ss k 0))) r) (cases-cons m)
 
@@ -67,13 +48,13 @@ module _ (c : Columns) (n : ℕ) (long : Long c) (few : n ≤ 528) where
     where
       go : Dec (i ≡ j) → (suc i ≤ j → j < k → k < suc i + m → Before (refAt c j) (refAt c k) (refsFrom c (suc i) m))
           → Before (refAt c j) (refAt c k) (refAt c i ∷ refsFrom c (suc i) m)
-      go (yes e) ih = bhere (ap (refAt c) (sym e)) (in-refs c (suc i) m k (omega arith) (omega arith))
+      go (yes e) ih = bhere (ap (refAt c) (sym e)) (refsFrom-mem c (suc i) m k (omega arith) (omega arith))
       go (no e) ih = bthere (ih (omega arith) b (omega arith))
 
   module _ (ss ks qs vs : List ℕ) (l : ℕ) (h : Held ss ks qs vs l) (is : refsFrom c 0 n ≡ joined l (rowRefs ss ks qs vs)) where
     number-at : (j : ℕ) → j < n → getD (c .loops) j 0 < l
     number-at j m =
-        let (k, a, b) = mem-joined (rowRefs ss ks qs vs) l (rw is at (in-refs c 0 n j (omega arith) (omega arith))) in
+        let (k, a, b) = mem-joined (rowRefs ss ks qs vs) l (rw is at (refsFrom-mem c 0 n j (omega arith) (omega arith))) in
         omega (arith, row-number ss ks qs vs k (refAt c j) b)
 
     rising-at : (j k : ℕ) → j < k → k < n → getD (c .loops) j 0 ≤ getD (c .loops) k 0

@@ -1,22 +1,22 @@
 -- The walk over the rows of a loop, and the walk over the loops.
-use Prim.Native.Nat.{ℕ, zero, suc, _+_, _-_, _≤_, _<_}
+use Prim.Native.Nat.{ℕ, suc, _+_, _-_, _≤_, _<_}
 use native.Mathlib.Omega.{arith}
 use native.Mathlib.Numerals.{add-one}
 use mathlib.Core.Path.{_≡_, refl, sym, ap, subst, _∙_}
-use mathlib.Core.Bool.{Bool, true, false, cond}
-use mathlib.Core.List.{List, [], _∷_}
-use lib.ListN.{getD, length}
+use mathlib.Core.Bool.{Bool, true, false}
+use mathlib.Core.List.{List, _∷_}
+use lib.ListN.{getD}
 use lib.Dec.{eqb}
-use borrow.Author.Tests.{eq-eqb, ne-eqb}
-use Rattle.model.specs.Table.{Item, read, constant, operation, Loop, Table, loop}
-use Rattle.reader.specs.Reading.{Answer, accepted, refused, reading}
+use borrow.Author.Tests.{ne-eqb}
+use Rattle.model.specs.Table.{Item, read, constant, operation, loop}
+use Rattle.reader.specs.Reading.{accepted, refused, reading}
 use Rattle.reader.specs.Columns.{Columns, itemOf, itemAt, itemsFrom, loopAt, tableAt, loop-table, count-table}
 use Rattle.reader.specs.Stored.{Sized, Kept, starts-up}
 use Rattle.serial.specs.declared.Collision.{Collision}
 use Rattle.serial.specs.declared.Collision.the-variants.{Nothing, Read}
 use Rattle.serial.specs.declared.Checked.{Checked}
 use Rattle.serial.specs.declared.Checked.the-variants.{Refused, Serial, Accepted}
-use Rattle.serial.specs.Serial.{collides, pick, hit, loopHit, afterLoop, serialFrom, through, table, answer, Which, Lowest, Left}
+use Rattle.serial.specs.Serial.{collides, hit, loopHit, afterLoop, serialFrom, through, table, answer, Which, Lowest, Left}
 
 -- sums of widened numbers
 pub near : {a b x y : ℕ} (s : ℕ) → a ≡ x → b ≡ y → b ≤ a + s → y ≤ x + s

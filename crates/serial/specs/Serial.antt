@@ -1,7 +1,7 @@
 -- Ground 9: two different iterations of one loop meet at an element, one of them storing. The test, and reading through it.
 use Prim.Native.Nat.{ℕ, zero, suc, _+_, _-_, _<_}
 use mathlib.Core.Path.{_≡_}
-use mathlib.Core.Bool.{Bool, true, false, cond, not, _&&_}
+use mathlib.Core.Bool.{Bool, true, false, not, _&&_}
 use mathlib.Core.List.{List, [], _∷_}
 use lib.Dec.{eqb, leb}
 use Rattle.model.specs.Table.{Item, read, constant, operation, Statement, Loop, Table, loop, count}

@@ -1,16 +1,13 @@
 -- What the answer of reading through 9 tells.
-use Prim.Native.Nat.{ℕ, zero, suc, _+_, _<_}
+use Prim.Native.Nat.{ℕ}
 use native.Mathlib.Omega.{arith}
-use mathlib.Core.Path.{_≡_, refl, sym, ap, subst, _∙_}
-use mathlib.Core.List.{List, [], _∷_}
-use Rattle.model.specs.Table.{Table, Statement, loop, count}
-use Rattle.reader.specs.Reading.{Answer, accepted, refused, reading}
-use Rattle.reader.specs.Columns.{Columns, statementAt, tableAt, loopAt, count-table, loop-table}
-use Rattle.serial.specs.declared.Checked.{Checked}
+use mathlib.Core.Path.{_≡_, refl, sym, ap, _∙_}
+use mathlib.Core.List.{List}
+use Rattle.reader.specs.Reading.{accepted, refused}
+use Rattle.reader.specs.Columns.{Columns}
 use Rattle.serial.specs.declared.Checked.the-variants.{Refused, Serial, Accepted}
-use Rattle.serial.specs.Serial.{table, answer, Left, loopHit}
-use Rattle.serial.specs.Meeting.{Collides, hit-collides}
-use Rattle.tables.specs.declared.Verdict.{Verdict}
+use Rattle.serial.specs.Serial.{table, answer, Left}
+use Rattle.serial.specs.Named.{named-collides}
 use Rattle.grounds.specs.Theorems.{refused-number}
 use Rattle.tables.specs.Verdict.{numberOf, placeOf, Told, refusing, Outlined}
 
@@ -28,20 +25,12 @@ module _ (s : List ℕ) (c : Columns) where
   pub told-serial : (k n : ℕ) → answer (Serial k n) c ≡ table s → Left (Serial k n) c s
       → Told s (record { number = 9; place = k; read = n })
   unfolding answer
-  told-serial k n e (a, l, r, few, h) = record {
+  told-serial k n e h = record {
     number = ap numberOf e;
     place = ap placeOf e;
-    named = λ t q z. subst (λ (u : Table). Collides u k n) (same t q) collides;
+    named = λ t q z. named-collides s c k n h t q;
     unnamed = λ z. absurd (z refl);
   }
-    where
-      same : (t : Table) → reading s ≡ accepted t → tableAt c a l ≡ t
-      same t q = let z : accepted (tableAt c a l) ≡ accepted t = sym r ∙ q in cc
-
-      collides : Collides (tableAt c a l) k n
-      collides =
-          hit-collides (tableAt c a l) k (statementAt c _ _) (ap (λ x. x .body) (loop-table c a l k few)) n
-          (rw (count-table c a l) few) (ap loopHit (loop-table c a l k few) ∙ h)
 
   pub told-accepted : (a l r : ℕ) → answer (Accepted a l r) c ≡ table s → Told s (record { number = 0; place = 0; read = 0 })
   unfolding answer

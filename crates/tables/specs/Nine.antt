@@ -17,7 +17,7 @@ use Rattle.serial.specs.Serial.{loopHit, afterLoop, serialFrom, through, table}
 use Rattle.serial.specs.Meeting.{Serial, Collides, allReads, hit-collides, none-parallel}
 use Rattle.grounds.specs.Statements.{Ground}
 use Rattle.grounds.specs.Theorems.{refused-ground, accepted-none}
-use Rattle.grounds.specs.Accepted.{Valid, accepted-valid, valid-known, valid-within}
+use Rattle.grounds.specs.Accepted.{accepted-valid, valid-known, valid-within}
 
 -- a walk over the loops that finds nothing, and one that stops
 module _ (t : Table) where
