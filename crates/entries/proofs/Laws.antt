@@ -2,7 +2,7 @@
 use Prim.Native.Nat.{ℕ, zero, suc, _+_, _*_, _≤_, _<_}
 use native.Mathlib.Omega.{arith}
 use native.Mathlib.Numerals.{add-one}
-use mathlib.Core.Path.{_≡_, refl, sym, ap, _∙_}
+use mathlib.Core.Path.{_≡_, refl, sym, ap, subst, _∙_}
 use mathlib.Core.List.{List, [], _∷_, _++_, append-nil}
 use lib.ListN.{length, getD, length-append}
 use borrow.Author.Tests.{lt-ltb, le-ltb}
@@ -17,6 +17,7 @@ use Rattle.numbers.specs.declared.Outcome.{Outcome}
 use Rattle.numbers.specs.Numbers.{four, encoded, encoded-length, encoded-append}
 use Rattle.numbers.specs.Given.{Given, refused, numbers, final, numberOf, placeOf, countOf}
 use Rattle.tables.specs.declared.Outline.{Outline}
+use Rattle.tables.specs.Verdict.{Outlined}
 use Rattle.tables.specs.Verdict as Verdict
 use Rattle.plans.specs.declared.Measured.{Measured}
 use Rattle.plans.specs.Plans.{Measures, shiftOf, peelOf}
@@ -59,18 +60,15 @@ unfolding final
 refused-after (accepted t) more n = absurd (n refl)
 refused-after (Answer.refused g p) more n = (refl, refl, refl, λ out. refl)
 
-module _ (s : List ℕ) (c : Columns) (m : Measured) (h : Measures s m c) (out : List ℕ) where
-  abbrev pub o : Outline
-  o = m .outline
-
+-- an entry that asks for the numbers f of a table that was read through 9
+module _ (s : List ℕ) (c : Columns) (o : Outline) (outlined : Outlined s o c) (f : Table → List ℕ) (out : List ℕ) where
   abbrev pub given : Given
-  given = amounts s (length out)
+  given = after (table s) (λ t. numbers (length out) (f t))
 
   pub entry-refused : (o .number ≡ 0 → ⊥) → Told s given (refusing (o .number) (o .place) (o .read)) × (out ≡ final given out)
-  unfolding amounts
   entry-refused n =
-      let told = h .outlined .told in
-      let (a, b, d, e) = refused-after (table s) (λ t. numbers (length out) (amountsOf t)) (λ z. n (told .number ∙ z)) in (
+      let told = outlined .told in
+      let (a, b, d, e) = refused-after (table s) (λ t. numbers (length out) (f t)) (λ z. n (told .number ∙ z)) in (
         record {
           says = record { number = told .number ∙ sym a; place = told .place ∙ sym b; count = sym d };
           named = told .named;
@@ -83,28 +81,13 @@ module _ (s : List ℕ) (c : Columns) (m : Measured) (h : Measures s m c) (out :
     abbrev pub t : Table
     t = tableAt c (o .arrays) (o .loops)
 
-    abbrev pub xs : List ℕ
-    xs = amountsOf t
+    is : given ≡ numbers (length out) (f t)
+    is = ap (λ (a : Answer). after a (λ u. numbers (length out) (f u))) (outlined .held none .0)
 
-    is : given ≡ numbers (length out) xs
-    unfolding amounts
-    is = ap (λ (a : Answer). after a (λ u. numbers (length out) (amountsOf u))) (h .outlined .held none .0)
-
-    -- the pairs that the code writes are the table's
-    wrote : joined (o .loops) (λ k. four (getD (m .amounts .shifts) k 0) ++ four (getD (m .amounts .peels) k 0)) ≡ encoded xs
-    wrote =
-        rw (h .shifts-are none, h .peels-are none)
-        (pairs (o .loops) (shiftOf t) (peelOf t) ∙ ap (λ (n : ℕ). encoded (joined n (λ k. shiftOf t k ∷ peelOf t k ∷ []))) (sym (count-table c (o .arrays) (o .loops))))
-
-    pub size : length (encoded xs) ≡ 8 * o .loops
-    size =
-        ap (λ (n : ℕ). length (encoded (joined n (λ k. shiftOf t k ∷ peelOf t k ∷ [])))) (count-table c (o .arrays) (o .loops))
-        ∙ pairs-length (o .loops) (shiftOf t) (peelOf t)
-
-    pub entry-short : length out < 8 * o .loops → Told s given (refusing 13 0 0) × (out ≡ final given out)
+    pub entry-short : length out < length (encoded (f t)) → Told s given (refusing 13 0 0) × (out ≡ final given out)
     unfolding numbers final
     entry-short l =
-        let e : given ≡ refused 13 0 = is ∙ (rw (lt-ltb (length out) (length (encoded xs)) (rw size l))) in
+        let e : given ≡ refused 13 0 = is ∙ (rw (lt-ltb (length out) (length (encoded (f t))) l)) in
         rw e (
           record {
             says = record { number = refl; place = refl; count = refl };
@@ -114,17 +97,54 @@ module _ (s : List ℕ) (c : Columns) (m : Measured) (h : Measures s m c) (out :
           refl,
         )
 
-    pub entry-written : 8 * o .loops ≤ length out → (left : List ℕ) (past : ℕ)
-        → Put out 0 (joined (o .loops) (λ k. four (getD (m .amounts .shifts) k 0) ++ four (getD (m .amounts .peels) k 0))) (8 * o .loops) left past
+    pub entry-written : length (encoded (f t)) ≤ length out → (left : List ℕ) (past most : ℕ) → Put out 0 (encoded (f t)) most left past
         → Told s given (record { number = 0; place = 0; read = 0; written = past }) × (left ≡ final given out)
     unfolding numbers final
-    entry-written l left past p =
-        let e : given ≡ Given.written (encoded xs) = is ∙ (rw (le-ltb (length out) (length (encoded xs)) (rw size l))) in
+    entry-written l left past most p =
+        let e : given ≡ Given.written (encoded (f t)) = is ∙ (rw (le-ltb (length out) (length (encoded (f t))) l)) in
         rw e (
           record {
-            says = record { number = refl; place = refl; count = p .place ∙ ap (λ (w : List ℕ). 0 + length w) wrote ∙ omega arith };
+            says = record { number = refl; place = refl; count = omega (arith, p .place) };
             named = λ u q z. absurd (omega (arith, z));
             unnamed = λ z. refl;
           },
-          p .bytes ∙ ap (written out 0) wrote ∙ written-front out (encoded xs) (rw size l),
+          p .bytes ∙ written-front out (encoded (f t)) l,
         )
+
+-- the pairs that the code writes are the table's shifts and peels
+module _ (s : List ℕ) (c : Columns) (m : Measured) (h : Measures s m c) (none : m .outline .number ≡ 0) where
+  abbrev pub held : Table
+  held = tableAt c (m .outline .arrays) (m .outline .loops)
+
+  wrote : joined (m .outline .loops) (λ k. four (getD (m .amounts .shifts) k 0) ++ four (getD (m .amounts .peels) k 0)) ≡ encoded (amountsOf held)
+  wrote =
+      rw (h .shifts-are none, h .peels-are none)
+      (pairs (m .outline .loops) (shiftOf held) (peelOf held)
+      ∙ ap (λ (n : ℕ). encoded (joined n (λ k. shiftOf held k ∷ peelOf held k ∷ []))) (sym (count-table c (m .outline .arrays) (m .outline .loops))))
+
+  pub amounts-size : length (encoded (amountsOf held)) ≡ 8 * m .outline .loops
+  amounts-size =
+      ap (λ (n : ℕ). length (encoded (joined n (λ k. shiftOf held k ∷ peelOf held k ∷ [])))) (count-table c (m .outline .arrays) (m .outline .loops))
+      ∙ pairs-length (m .outline .loops) (shiftOf held) (peelOf held)
+
+  pub amounts-put : (out left : List ℕ) (past most : ℕ)
+      → Put out 0 (joined (m .outline .loops) (λ k. four (getD (m .amounts .shifts) k 0) ++ four (getD (m .amounts .peels) k 0))) most left past
+      → Put out 0 (encoded (amountsOf held)) most left past
+  amounts-put out left past most p = subst (λ (w : List ℕ). Put out 0 w most left past) wrote p
+
+-- one number, and two
+pub one-put : (x y : ℕ) (out left : List ℕ) (past : ℕ) → x ≡ y → Put out 0 (four x) 4 left past → Put out 0 (encoded (y ∷ [])) 4 left past
+unfolding encoded
+one-put x y out left past e p = subst (λ (w : List ℕ). Put out 0 w 4 left past) (ap four e ∙ sym (append-nil (four y))) p
+
+pub two-put : (w x y z : ℕ) (out left : List ℕ) (past : ℕ) → w ≡ y → x ≡ z → Put out 0 (four w ++ four x) 8 left past
+    → Put out 0 (encoded (y ∷ z ∷ [])) 8 left past
+unfolding encoded
+two-put w x y z out left past e g p =
+    subst (λ (u : List ℕ). Put out 0 u 8 left past) (rw (e, g) (ap (λ (u : List ℕ). four y ++ u) (sym (append-nil (four z))))) p
+
+pub one-size : (x : ℕ) → length (encoded (x ∷ [])) ≡ 4
+one-size x = encoded-length (x ∷ [])
+
+pub two-size : (x y : ℕ) → length (encoded (x ∷ y ∷ [])) ≡ 8
+two-size x y = encoded-length (x ∷ y ∷ [])

@@ -1,5 +1,5 @@
 -- The numbers that each entry gives, four bytes each, or the refusal: 1 to 9, then 10 and 11 where P is asked, then 13.
-use Prim.Native.Nat.{ℕ, _-_}
+use Prim.Native.Nat.{ℕ}
 use mathlib.Core.Path.{_≡_}
 use mathlib.Core.List.{List, [], _∷_}
 use Rattle.order.specs.Lists.{joined}
@@ -7,12 +7,11 @@ use Rattle.model.specs.Table.{Table, count}
 use Rattle.reader.specs.Reading.{Answer, accepted, reading}
 use Rattle.serial.specs.Serial.{table}
 use Rattle.serial.specs.Meeting.{Collides}
-use Rattle.blocks.specs.declared.Range.{Range}
-use Rattle.blocks.specs.Blocks.{block}
-use Rattle.blocks.specs.Span.{tableSpan}
 use Rattle.numbers.specs.declared.Outcome.{Outcome}
 use Rattle.numbers.specs.Given.{Given, refused, numbers, Says}
-use Rattle.plans.specs.Plans.{shiftOf, peelOf, thresholdOf, planned}
+use Rattle.plans.specs.Plans.{shiftOf, peelOf, thresholdOf}
+use Rattle.sweeps.specs.Sweeps.{before}
+use Rattle.sweeps.specs.Sweeps as Sweeps
 
 -- an answer's refusal, or the numbers of the table
 abbrev pub after : Answer → (Table → Given) → Given
@@ -23,22 +22,15 @@ after (accepted t) more = more t
 abbrev pub amountsOf : Table → List ℕ
 amountsOf t = joined (count t) (λ k. shiftOf t k ∷ peelOf t k ∷ [])
 
--- a and e of each block
-abbrev pub ends : Range → List ℕ
-ends r = r .from ∷ (r .past - 1) ∷ []
-
-abbrev pub blocksOf : ℕ → Table → List ℕ
-blocksOf P t = joined P (λ b. ends (block (tableSpan t .first) (tableSpan t .count) P b))
-
 -- each entry, with so much room
 unfoldable pub amounts : List ℕ → ℕ → Given
 amounts s room = after (table s) (λ t. numbers room (amountsOf t))
 
-unfoldable pub threshold : List ℕ → ℕ → Given
-threshold s room = after (table s) (λ t. numbers room (thresholdOf t ∷ []))
+unfoldable pub thresholds : List ℕ → ℕ → Given
+thresholds s room = after (table s) (λ t. numbers room (thresholdOf t ∷ []))
 
-unfoldable pub blocks : List ℕ → ℕ → ℕ → Given
-blocks s P room = after (planned s P) (λ t. numbers room (blocksOf P t))
+unfoldable pub sweepsGiven : List ℕ → ℕ → Given
+sweepsGiven s room = after (table s) (λ t. numbers room (before t ∷ Sweeps.after t ∷ []))
 
 -- what is told: the outcome, and the read that 9 names, which collides
 pub record Told (s : List ℕ) (g : Given) (o : Outcome) : Type 0 where

@@ -3,7 +3,7 @@ ghost use mathlib.Core.Path.{_≡_};
 ghost use lib.ListN.{length};
 ghost use Rattle.joining.specs.Joining.{joining, final};
 ghost use Rattle.numbers.specs.Given as Given;
-ghost use Rattle.entries.specs.Entries.{amounts};
+ghost use Rattle.entries.specs.Entries.{amounts, thresholds, sweepsGiven};
 ghost use Rattle.printing.specs.Printing.{text};
 ghost use Rattle.vempaldi.specs.Answers.{answered, CheckTold, JoinTold, EntryTold, ListingTold};
 
@@ -68,4 +68,26 @@ pub extern "C" fn vempaldi_listing(
     let p = printing::print_plan(table, processors, out);
     write_answer(answer, p.number, 0, 0);
     p.written as u64
+}
+
+// The threshold, four bytes; answers how many bytes were written, 0 where it refuses.
+#[no_mangle]
+pub extern "C" fn vempaldi_threshold(table: &[u8], out: &mut [u8], answer: &mut [u64; 3]) -> u64
+    ensures { λ r. ⌜ EntryTold (now (table .entry)) (thresholds (now (table .entry)) (length (now (out .entry)))) (now (answer .entry)) (now (answer .exit)) r ⌝ }
+    ensures { λ r. ⌜ now (out .exit) ≡ Given.final (thresholds (now (table .entry)) (length (now (out .entry)))) (now (out .entry)) ⌝ }
+{
+    let o = entries::threshold(table, out);
+    write_answer(answer, o.number, o.place, o.read);
+    o.written as u64
+}
+
+// Sweeps before and after fusion, four bytes each; answers how many bytes were written, 0 where it refuses.
+#[no_mangle]
+pub extern "C" fn vempaldi_sweeps(table: &[u8], out: &mut [u8], answer: &mut [u64; 3]) -> u64
+    ensures { λ r. ⌜ EntryTold (now (table .entry)) (sweepsGiven (now (table .entry)) (length (now (out .entry)))) (now (answer .entry)) (now (answer .exit)) r ⌝ }
+    ensures { λ r. ⌜ now (out .exit) ≡ Given.final (sweepsGiven (now (table .entry)) (length (now (out .entry)))) (now (out .entry)) ⌝ }
+{
+    let o = entries::sweeps(table, out);
+    write_answer(answer, o.number, o.place, o.read);
+    o.written as u64
 }

@@ -2,7 +2,9 @@ use native.Mathlib.Omega.{arith}
 use denote.Ref.{now}
 use Rattle.reader.specs.Columns.{columns}
 use Rattle.text.specs.Written.{put-length}
-use Rattle.entries.proofs.Laws.{entry-refused, entry-short, entry-written}
+use Rattle.sweeps.specs.Sweeps.{before}
+use Rattle.entries.specs.Entries.{amounts, amountsOf}
+use Rattle.entries.proofs.Laws.{entry-refused, entry-short, entry-written, amounts-size, amounts-put}
 use borrow.Author.Needs.{needs}
 use Rattle.entries.proofs.shifts_and_peels.Statement.{statement}
 use Rattle.entries.proofs.shifts_and_peels.Tie as tie
@@ -14,13 +16,16 @@ refusal-requires : tie.Need-refusal-requires
 refusal-requires c κs = search needs
 
 returns : tie.Need-returns
+unfolding amounts
 returns c = let z = c .before .before .before .before .measure .last in
     let d = columns (z .1 .0) (z .1 .1 .0) (z .1 .1 .1 .0) (z .1 .1 .1 .1 .0) (z .1 .1 .1 .1 .1 .0) (z .1 .1 .1 .1 .1 .1 .0) (z .1 .1 .1 .1 .1 .1 .1 .0) in
     let s = now (c .before .before .before .before .before .before .before .before .before .before .before .before .before .before .args .s) in
+    let out = now (c .before .before .before .before .before .before .before .before .before .before .before .before .before .before .args .out) in
     let m = c .before .before .before .before .measure .result in
     let h = c .before .before .before .before .measure .ensures in
-    let out = now (c .before .before .before .before .before .before .before .before .before .before .before .before .before .before .args .out) in
-    rw (c .refusal .ensures) (entry-refused s d m h out (c .before .if1 .taken))
+    let o = m .outline in
+    let g = h .outlined in
+    rw (c .refusal .ensures) (entry-refused s d o g amountsOf out (c .before .if1 .taken))
 
 mul-if2 : tie.Need-mul-if2
 mul-if2 c = omega (arith, c .before .before .before .measure .ensures .outlined .held (c .if1 .left) .2 .few-loops)
@@ -29,13 +34,16 @@ refusal-requires-2 : tie.Need-refusal-requires-2
 refusal-requires-2 c κs = search needs
 
 returns-2 : tie.Need-returns-2
+unfolding amounts
 returns-2 c = let z = c .before .before .before .before .before .measure .last in
     let d = columns (z .1 .0) (z .1 .1 .0) (z .1 .1 .1 .0) (z .1 .1 .1 .1 .0) (z .1 .1 .1 .1 .1 .0) (z .1 .1 .1 .1 .1 .1 .0) (z .1 .1 .1 .1 .1 .1 .1 .0) in
     let s = now (c .before .before .before .before .before .before .before .before .before .before .before .before .before .before .before .args .s) in
+    let out = now (c .before .before .before .before .before .before .before .before .before .before .before .before .before .before .before .args .out) in
     let m = c .before .before .before .before .before .measure .result in
     let h = c .before .before .before .before .before .measure .ensures in
-    let out = now (c .before .before .before .before .before .before .before .before .before .before .before .before .before .before .before .args .out) in
-    rw (c .refusal2 .ensures) (entry-short s d m h out (c .before .before .if1 .left) (c .before .if2 .taken))
+    let o = m .outline in
+    let g = h .outlined in
+    rw (c .refusal2 .ensures) (entry-short s d o g amountsOf out (c .before .before .if1 .left) (rw (amounts-size s d m h (c .before .before .if1 .left)) (c .before .if2 .taken)))
 
 write-pairs-requires : tie.Need-write-pairs-requires
 write-pairs-requires c κs = c .before .before .before .before .before .before .before .before .before .before .measure .ensures .outlined .held (c .before .before .before .before .before .before .before .if1 .left) .2 .few-loops
@@ -44,13 +52,16 @@ same-length : tie.Need-same-length
 same-length c = put-length (c .before .before .write-pairs .ensures)
 
 returns-3 : tie.Need-returns-3
+unfolding amounts
 returns-3 c = let z = c .before .before .before .before .before .before .before .before .before .before .before .before .before .measure .last in
     let d = columns (z .1 .0) (z .1 .1 .0) (z .1 .1 .1 .0) (z .1 .1 .1 .1 .0) (z .1 .1 .1 .1 .1 .0) (z .1 .1 .1 .1 .1 .1 .0) (z .1 .1 .1 .1 .1 .1 .1 .0) in
     let s = now (c .before .before .before .before .before .before .before .before .before .before .before .before .before .before .before .before .before .before .before .before .before .before .before .args .s) in
+    let out = now (c .before .before .before .before .before .before .before .before .before .before .before .before .before .before .before .before .before .before .before .before .before .before .before .args .out) in
     let m = c .before .before .before .before .before .before .before .before .before .before .before .before .before .measure .result in
     let h = c .before .before .before .before .before .before .before .before .before .before .before .before .before .measure .ensures in
-    let out = now (c .before .before .before .before .before .before .before .before .before .before .before .before .before .before .before .before .before .before .before .before .before .before .before .args .out) in
-    entry-written s d m h out (c .before .before .before .before .before .before .before .before .before .before .if1 .left) (c .before .before .before .before .before .before .before .before .before .if2 .left) _ _ (c .before .before .write-pairs .ensures)
+    let o = m .outline in
+    let g = h .outlined in
+    entry-written s d o g amountsOf out (c .before .before .before .before .before .before .before .before .before .before .if1 .left) (rw (amounts-size s d m h (c .before .before .before .before .before .before .before .before .before .before .if1 .left)) (c .before .before .before .before .before .before .before .before .before .if2 .left)) _ _ _ (amounts-put s d m h (c .before .before .before .before .before .before .before .before .before .before .if1 .left) out _ _ _ (c .before .before .write-pairs .ensures))
 
 pub shifts-and-peels-spec : {M : Type 1} → statement M
 shifts-and-peels-spec =
