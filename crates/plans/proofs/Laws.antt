@@ -24,17 +24,14 @@ use Rattle.references.specs.Collected.{rowRefs, table-refs}
 use Rattle.tables.specs.declared.Outline.{Outline}
 use Rattle.tables.specs.Verdict.{numberOf, placeOf, Outlined}
 use Rattle.plans.specs.declared.Measured.{Measured}
-use Rattle.plans.specs.Plans.{Measures, Plans, refusing, planned, fitting, badProcessors, thresholdOf}
+use Rattle.plans.specs.Plans.{Measures, Plans, refusing, fitting, thresholdOf}
 
 -- 10 and 11 are asked of an accepted table alone
-refused-stays : (P : ℕ) (a : Answer) → (numberOf a ≡ 0 → ⊥) → (numberOf a ≡ numberOf (fitting P a)) × (placeOf a ≡ placeOf (fitting P a))
+refused-stays : (wrong : Bool) (P : ℕ) (a : Answer) → (numberOf a ≡ 0 → ⊥)
+    → (numberOf a ≡ numberOf (fitting wrong P a)) × (placeOf a ≡ placeOf (fitting wrong P a))
 unfolding fitting
-refused-stays P (accepted t) n = absurd (n refl)
-refused-stays P (refused g p) n = (refl, refl)
-
-planned-is : (s : List ℕ) (P : ℕ) (G : Answer → Type 0) → G (fitting P (table s)) → G (planned s P)
-unfolding planned
-planned-is s P G g = g
+refused-stays wrong P (accepted t) n = absurd (n refl)
+refused-stays wrong P (refused g p) n = (refl, refl)
 
 module _ (s : List ℕ) (c : Columns) (o : Outline) (a : Amounts) (outlined : Outlined s o c) where
   pub measures-refused : (o .number ≡ 0 → ⊥) → Measures s (record { outline = o; amounts = a }) c
@@ -50,13 +47,13 @@ module _ (s : List ℕ) (c : Columns) (o : Outline) (a : Amounts) (outlined : Ou
   }
 
 -- the tests after the reading
-module _ (s : List ℕ) (P : ℕ) (c : Columns) (m : Measured) (h : Measures s m c) where
+module _ (s : List ℕ) (wrong : Bool) (P : ℕ) (c : Columns) (m : Measured) (h : Measures s m c) where
   open Measures h using (outlined, shifts-are, peels-are)
 
   abbrev pub o : Outline
   o = m .outline
 
-  pub plans-refused : (o .number ≡ 0 → ⊥) → Plans s P (refusing (o .number) (o .place) (o .read) (m .amounts)) c
+  pub plans-refused : (o .number ≡ 0 → ⊥) → Plans s (fitting wrong P (table s)) (refusing (o .number) (o .place) (o .read) (m .amounts)) c
   plans-refused n = record {
     tells = record {
       number-is = outlined .told .number ∙ same .0;
@@ -67,11 +64,8 @@ module _ (s : List ℕ) (P : ℕ) (c : Columns) (m : Measured) (h : Measures s m
     made = λ e. absurd (n e);
   }
     where
-      go : (a : Answer) → (o .number ≡ numberOf a) → (numberOf a ≡ numberOf (fitting P a)) × (placeOf a ≡ placeOf (fitting P a))
-      go a e = refused-stays P a (λ z. n (e ∙ z))
-
-      same : (numberOf (table s) ≡ numberOf (planned s P)) × (placeOf (table s) ≡ placeOf (planned s P))
-      same = planned-is s P (λ b. (numberOf (table s) ≡ numberOf b) × (placeOf (table s) ≡ placeOf b)) (go (table s) (outlined .told .number))
+      same : (numberOf (table s) ≡ numberOf (fitting wrong P (table s))) × (placeOf (table s) ≡ placeOf (fitting wrong P (table s)))
+      same = refused-stays wrong P (table s) (λ z. n (outlined .told .number ∙ z))
 
   module _ (zero-number : o .number ≡ 0) where
     abbrev pub t : Table
@@ -86,9 +80,13 @@ module _ (s : List ℕ) (P : ℕ) (c : Columns) (m : Measured) (h : Measures s m
     pub kept : Kept c (o .arrays) (o .loops) (o .rows)
     kept = outlined .held zero-number .2
 
-    found : planned s P ≡ choose (badProcessors P) (refused 10 0) (choose (isShort (tableSpan t .count) P (thresholdOf t)) (refused 11 0) (accepted t))
-    unfolding planned fitting
-    found = ap (fitting P) read
+    found : fitting wrong P (table s) ≡ choose wrong (refused 10 0) (choose (isShort (tableSpan t .count) P (thresholdOf t)) (refused 11 0) (accepted t))
+    unfolding fitting
+    found = ap (fitting wrong P) read
+
+    chosen : {b : Bool} → wrong ≡ false → isShort (tableSpan t .count) P (thresholdOf t) ≡ b
+        → choose wrong (refused 10 0) (choose (isShort (tableSpan t .count) P (thresholdOf t)) (refused 11 0) (accepted t)) ≡ choose b (refused 11 0) (accepted t)
+    chosen e f = rw (e, f)
 
     pub ready : Valid t
     ready = valid s t read
@@ -108,23 +106,23 @@ module _ (s : List ℕ) (P : ℕ) (c : Columns) (m : Measured) (h : Measures s m
         (y, ap (λ (q : Span). isShort (q .count) P (thresholdOf t)) (sym y) ∙ ap (isShort (x .count) P) (sym (f ∙ threshold-is)) ∙ sym g)
 
     -- a refusal at place 0
-    plain : (g : ℕ) → (g ≡ 9 → ⊥) → (g ≡ 0 → ⊥) → planned s P ≡ refused g 0 → Plans s P (refusing g 0 0 (m .amounts)) c
+    plain : (g : ℕ) → (g ≡ 9 → ⊥) → (g ≡ 0 → ⊥) → fitting wrong P (table s) ≡ refused g 0 → Plans s (fitting wrong P (table s)) (refusing g 0 0 (m .amounts)) c
     plain g n z e = record {
       tells = record { number-is = sym (ap numberOf e); place-is = sym (ap placeOf e); named = λ t r q. absurd (n q); unnamed = λ q. refl };
       made = λ q. absurd (z q);
     }
 
-    pub plans-ten : badProcessors P ≡ true → Plans s P (refusing 10 0 0 (m .amounts)) c
-    plans-ten e = plain 10 (λ q. omega (arith, q)) (λ q. omega (arith, q)) (rw e at found)
+    pub plans-ten : wrong ≡ true → Plans s (fitting wrong P (table s)) (refusing 10 0 0 (m .amounts)) c
+    plans-ten e = plain 10 (λ q. omega (arith, q)) (λ q. omega (arith, q)) (found ∙ ap (λ (x : Bool). choose x (refused 10 0) (choose (isShort (tableSpan t .count) P (thresholdOf t)) (refused 11 0) (accepted t))) e)
 
-    pub plans-eleven : badProcessors P ≡ false → isShort (tableSpan t .count) P (thresholdOf t) ≡ true → Plans s P (refusing 11 0 0 (m .amounts)) c
-    plans-eleven e f = plain 11 (λ q. omega (arith, q)) (λ q. omega (arith, q)) (rw (e, f) at found)
+    pub plans-eleven : wrong ≡ false → isShort (tableSpan t .count) P (thresholdOf t) ≡ true → Plans s (fitting wrong P (table s)) (refusing 11 0 0 (m .amounts)) c
+    plans-eleven e f = plain 11 (λ q. omega (arith, q)) (λ q. omega (arith, q)) (found ∙ chosen e f)
 
-    pub plans-made : badProcessors P ≡ false → isShort (tableSpan t .count) P (thresholdOf t) ≡ false → (first T : ℕ) → first ≡ tableSpan t .first
+    pub plans-made : wrong ≡ false → isShort (tableSpan t .count) P (thresholdOf t) ≡ false → (first T : ℕ) → first ≡ tableSpan t .first
         → T ≡ tableSpan t .count
-        → Plans s P (record { number = 0; place = 0; read = 0; arrays = o .arrays; loops = o .loops; rows = o .rows; first = first; count = T; amounts = m .amounts }) c
+        → Plans s (fitting wrong P (table s)) (record { number = 0; place = 0; read = 0; arrays = o .arrays; loops = o .loops; rows = o .rows; first = first; count = T; amounts = m .amounts }) c
     plans-made e f first T g q =
-        let r : planned s P ≡ accepted t = rw (e, f) at found in
+        let r : fitting wrong P (table s) ≡ accepted t = found ∙ chosen e f in
         record {
           tells = record { number-is = sym (ap numberOf r); place-is = sym (ap placeOf r); named = λ u z w. absurd (omega (arith, w)); unnamed = λ w. refl };
           made = λ z. record {

@@ -3,7 +3,7 @@ use Prim.Native.Nat.{ℕ}
 use mathlib.Core.Path.{_≡_}
 use mathlib.Core.Bool.{Bool, _||_}
 use mathlib.Core.List.{List}
-use lib.Dec.{eqb, ltb}
+use lib.Dec.{eqb, ltb, leb}
 use lib.ListN.{getD}
 use Rattle.model.specs.Table.{Table}
 use Rattle.model.specs.References.{allRefs}
@@ -41,14 +41,18 @@ module _ (t : Table) where
 abbrev pub badProcessors : ℕ → Bool
 badProcessors P = eqb P 0 || ltb 64 P
 
--- after 1 to 9: 10, then 11
-unfoldable pub fitting : ℕ → Answer → Answer
-fitting P (refused n p) = refused n p
-fitting P (accepted t) =
-    choose (badProcessors P) (refused 10 0) (choose (isShort (tableSpan t .count) P (thresholdOf t)) (refused 11 0) (accepted t))
+-- after 1 to 9: 10 where the processors are wrong, then 11
+unfoldable pub fitting : Bool → ℕ → Answer → Answer
+fitting wrong P (refused n p) = refused n p
+fitting wrong P (accepted t) =
+    choose wrong (refused 10 0) (choose (isShort (tableSpan t .count) P (thresholdOf t)) (refused 11 0) (accepted t))
 
 unfoldable pub planned : List ℕ → ℕ → Answer
-planned s P = fitting P (table s)
+planned s P = fitting (badProcessors P) P (table s)
+
+-- where a call names a processor, 10 is asked of P and then of that number, which must be below P
+unfoldable pub plannedFor : List ℕ → ℕ → ℕ → Answer
+plannedFor s P b = fitting (badProcessors P || leb P b) P (table s)
 
 -- what the code leaves of a table read through 9: its columns, shifts and peels
 pub record Measures (s : List ℕ) (r : Measured) (c : Columns) : Type 0 where
@@ -56,16 +60,16 @@ pub record Measures (s : List ℕ) (r : Measured) (c : Columns) : Type 0 where
   pub shifts-are : r .outline .number ≡ 0 → r .amounts .shifts ≡ shifts (allRefs (tableAt c (r .outline .arrays) (r .outline .loops)))
   pub peels-are : r .outline .number ≡ 0 → r .amounts .peels ≡ peels (allRefs (tableAt c (r .outline .arrays) (r .outline .loops)))
 
--- what is told of a refusal; the read that 9 names collides, and which, if several do, is left free
-pub record Tells (s : List ℕ) (P number place read : ℕ) : Type 0 where
-  pub number-is : number ≡ numberOf (planned s P)
-  pub place-is : place ≡ placeOf (planned s P)
+-- what is told of an answer's refusal; the read that 9 names collides, and which, if several do, is left free
+pub record Tells (s : List ℕ) (a : Answer) (number place read : ℕ) : Type 0 where
+  pub number-is : number ≡ numberOf a
+  pub place-is : place ≡ placeOf a
   pub named : (t : Table) → reading s ≡ accepted t → number ≡ 9 → Collides t place read
   pub unnamed : (number ≡ 9 → ⊥) → read ≡ 0
 
 -- and where nothing is refused: the table, its amounts, and the least first and T
-pub record Made (s : List ℕ) (P : ℕ) (r : Plan) (c : Columns) : Type 0 where
-  pub is : planned s P ≡ accepted (tableAt c (r .arrays) (r .loops))
+pub record Made (a : Answer) (r : Plan) (c : Columns) : Type 0 where
+  pub is : a ≡ accepted (tableAt c (r .arrays) (r .loops))
   pub sized : Sized c
   pub kept : Kept c (r .arrays) (r .loops) (r .rows)
   pub shifts-are : r .amounts .shifts ≡ shifts (allRefs (tableAt c (r .arrays) (r .loops)))
@@ -73,9 +77,10 @@ pub record Made (s : List ℕ) (P : ℕ) (r : Plan) (c : Columns) : Type 0 where
   pub first-is : r .first ≡ tableSpan (tableAt c (r .arrays) (r .loops)) .first
   pub count-is : r .count ≡ tableSpan (tableAt c (r .arrays) (r .loops)) .count
 
-pub record Plans (s : List ℕ) (P : ℕ) (r : Plan) (c : Columns) : Type 0 where
-  pub tells : Tells s P (r .number) (r .place) (r .read)
-  pub made : r .number ≡ 0 → Made s P r c
+-- a plan tells the answer a, for the table's bytes s
+pub record Plans (s : List ℕ) (a : Answer) (r : Plan) (c : Columns) : Type 0 where
+  pub tells : Tells s a (r .number) (r .place) (r .read)
+  pub made : r .number ≡ 0 → Made a r c
 
 -- a refusal has no columns
 abbrev pub refusing : ℕ → ℕ → ℕ → Amounts → Plan

@@ -2,10 +2,13 @@
 use chains::Amounts;
 use tables::Outline;
 ghost use mathlib.Core.Path.{_≡_};
+ghost use mathlib.Core.Bool.{_||_};
 ghost use Prim.Native.Nat.{_≤_, _<_};
+ghost use lib.Dec.{leb};
 ghost use Rattle.reader.specs.Columns.{columns};
 ghost use Rattle.reader.specs.Stored.{Sized};
-ghost use Rattle.plans.specs.Plans.{Measures, Plans, refusing};
+ghost use Rattle.serial.specs.Serial.{table};
+ghost use Rattle.plans.specs.Plans.{Measures, Plans, refusing, badProcessors, fitting, planned, plannedFor};
 
 // A table read through 9, with its loops' shifts and peels.
 pub struct Measured {
@@ -78,9 +81,30 @@ fn refusal(number: usize, place: usize, read: usize, amounts: Amounts) -> Plan
     }
 }
 
-// The plan of a table for a number of processors; the columns are lent.
-pub fn plan_table(
+// Ground 10: P outside 1 to 64.
+fn bad_processors(processors: u32) -> bool
+    ensures { λ r. ⌜ r ≡ badProcessors processors ⌝ }
+{
+    if processors == 0 {
+        return true;
+    }
+    64 < processors
+}
+
+// Ground 10 where a processor is named: it must be below P.
+fn bad_number(processors: u32, processor: u32) -> bool
+    ensures { λ r. ⌜ r ≡ (badProcessors processors || leb processors processor) ⌝ }
+{
+    if bad_processors(processors) {
+        return true;
+    }
+    processors <= processor
+}
+
+// The plan of a table for a number of processors, if that is not wrong; the columns are lent.
+fn plan_unless(
     s: &[u8],
+    wrong: bool,
     processors: u32,
     lens: &mut [u32; 16],
     firsts: &mut [u32; 16],
@@ -91,7 +115,7 @@ pub fn plan_table(
     values: &mut [u32; 528],
 ) -> Plan
     requires { ⌜ Sized (columns (now lens) (now firsts) (now lasts) (now starts) (now kinds) (now arrays) (now values)) ⌝ }
-    ensures { λ r. ⌜ Plans (now (s .entry)) processors r (columns (now (lens .exit)) (now (firsts .exit)) (now (lasts .exit)) (now (starts .exit)) (now (kinds .exit)) (now (arrays .exit)) (now (values .exit))) ⌝ }
+    ensures { λ r. ⌜ Plans (now (s .entry)) (fitting wrong processors (table (now (s .entry)))) r (columns (now (lens .exit)) (now (firsts .exit)) (now (lasts .exit)) (now (starts .exit)) (now (kinds .exit)) (now (arrays .exit)) (now (values .exit))) ⌝ }
 {
     let m = measure(s, lens, firsts, lasts, starts, kinds, arrays, values);
     let o = m.outline;
@@ -99,10 +123,7 @@ pub fn plan_table(
     if o.number != 0 {
         return refusal(o.number, o.place, o.read, a);
     }
-    if processors == 0 {
-        return refusal(10, 0, 0, a);
-    }
-    if 64 < processors {
+    if wrong {
         return refusal(10, 0, 0, a);
     }
     let l = o.loops;
@@ -124,4 +145,65 @@ pub fn plan_table(
         count: span.count,
         amounts: a,
     }
+}
+
+// The plan of a table for a number of processors; the columns are lent.
+pub fn plan_table(
+    s: &[u8],
+    processors: u32,
+    lens: &mut [u32; 16],
+    firsts: &mut [u32; 16],
+    lasts: &mut [u32; 16],
+    starts: &mut [usize; 17],
+    kinds: &mut [u8; 528],
+    arrays: &mut [u32; 528],
+    values: &mut [u32; 528],
+) -> Plan
+    requires { ⌜ Sized (columns (now lens) (now firsts) (now lasts) (now starts) (now kinds) (now arrays) (now values)) ⌝ }
+    ensures { λ r. ⌜ Plans (now (s .entry)) (planned (now (s .entry)) processors) r (columns (now (lens .exit)) (now (firsts .exit)) (now (lasts .exit)) (now (starts .exit)) (now (kinds .exit)) (now (arrays .exit)) (now (values .exit))) ⌝ }
+{
+    let wrong = bad_processors(processors);
+    plan_unless(
+        s,
+        wrong,
+        processors,
+        lens,
+        firsts,
+        lasts,
+        starts,
+        kinds,
+        arrays,
+        values,
+    )
+}
+
+// The same for a call that names a processor.
+pub fn plan_for(
+    s: &[u8],
+    processors: u32,
+    processor: u32,
+    lens: &mut [u32; 16],
+    firsts: &mut [u32; 16],
+    lasts: &mut [u32; 16],
+    starts: &mut [usize; 17],
+    kinds: &mut [u8; 528],
+    arrays: &mut [u32; 528],
+    values: &mut [u32; 528],
+) -> Plan
+    requires { ⌜ Sized (columns (now lens) (now firsts) (now lasts) (now starts) (now kinds) (now arrays) (now values)) ⌝ }
+    ensures { λ r. ⌜ Plans (now (s .entry)) (plannedFor (now (s .entry)) processors processor) r (columns (now (lens .exit)) (now (firsts .exit)) (now (lasts .exit)) (now (starts .exit)) (now (kinds .exit)) (now (arrays .exit)) (now (values .exit))) ⌝ }
+{
+    let wrong = bad_number(processors, processor);
+    plan_unless(
+        s,
+        wrong,
+        processors,
+        lens,
+        firsts,
+        lasts,
+        starts,
+        kinds,
+        arrays,
+        values,
+    )
 }

@@ -58,7 +58,7 @@ module _ (text out none : List ℕ) (most size : ℕ) (short : most ≤ 212900) 
           }
 
 -- the text of what the plan's code answered
-module _ (s : List ℕ) (P : ℕ) (c : Columns) (p : Plan) (h : Plans s P p c) where
+module _ (s : List ℕ) (P : ℕ) (c : Columns) (p : Plan) (h : Plans s (planned s P) p c) where
   pub refused-text : (p .number ≡ 0 → ⊥) → refusal (p .number) (p .place) ≡ text s P
   unfolding text textOf
   refused-text n = go (planned s P) (h .tells .number-is) (h .tells .place-is)
@@ -71,7 +71,7 @@ module _ (s : List ℕ) (P : ℕ) (c : Columns) (p : Plan) (h : Plans s P p c) w
     abbrev t : Table
     t = tableAt c (p .arrays) (p .loops)
 
-    made : Made s P p c
+    made : Made (planned s P) p c
     made = h .made zero-number
 
     fits : Fits s P t

@@ -1,159 +1,17 @@
-use native.Mathlib.Omega.{arith}
-use mathlib.Core.Path.{sym, ap, _∙_}
-use denote.Ref.{now}
-use Rattle.reader.specs.Columns.{columns}
-use Rattle.plans.proofs.Laws.{plans-refused, sized, kept, ready, threshold-fits, asked, plans-ten, plans-eleven, plans-made}
-use Rattle.plans.specs.Known.{cut-long, span-asks}
-use borrow.Author.Tests.{lt-ltb, le-ltb, eq-eqb, ne-eqb}
-use Rattle.blocks.specs.declared.Span.{Span}
+use Rattle.plans.specs.Plans.{planned}
 use borrow.Author.Needs.{needs}
 use Rattle.plans.proofs.plan_table.Statement.{statement}
 use Rattle.plans.proofs.plan_table.Tie as tie
 
-measure-requires : tie.Need-measure-requires
-measure-requires c κs = search needs
+bad-processors-requires : tie.Need-bad-processors-requires
+bad-processors-requires c κs = search needs
 
-refusal-requires : tie.Need-refusal-requires
-refusal-requires c κs = search needs
+plan-unless-requires : tie.Need-plan-unless-requires
+plan-unless-requires c κs = search needs
 
 returns : tie.Need-returns
-returns c = let z = c .before .before .before .before .before .measure .last in
-    let d = columns (z .1 .0) (z .1 .1 .0) (z .1 .1 .1 .0) (z .1 .1 .1 .1 .0) (z .1 .1 .1 .1 .1 .0) (z .1 .1 .1 .1 .1 .1 .0) (z .1 .1 .1 .1 .1 .1 .1 .0) in
-    let s = now (c .before .before .before .before .before .before .before .before .before .before .before .before .before .before .args .s) in
-    let m = c .before .before .before .before .before .measure .result in
-    let h = c .before .before .before .before .before .measure .ensures in
-    let P = c .before .before .before .before .before .before .before .before .before .before .before .before .before .before .args .processors in
-    rw (c .refusal .ensures) (plans-refused s P d m h (c .before .if1 .taken))
-
-refusal-requires-2 : tie.Need-refusal-requires-2
-refusal-requires-2 c κs = search needs
-
-returns-2 : tie.Need-returns-2
-returns-2 c = let z = c .before .before .before .before .before .before .measure .last in
-    let d = columns (z .1 .0) (z .1 .1 .0) (z .1 .1 .1 .0) (z .1 .1 .1 .1 .0) (z .1 .1 .1 .1 .1 .0) (z .1 .1 .1 .1 .1 .1 .0) (z .1 .1 .1 .1 .1 .1 .1 .0) in
-    let s = now (c .before .before .before .before .before .before .before .before .before .before .before .before .before .before .before .args .s) in
-    let m = c .before .before .before .before .before .before .measure .result in
-    let h = c .before .before .before .before .before .before .measure .ensures in
-    let P = c .before .before .before .before .before .before .before .before .before .before .before .before .before .before .before .args .processors in
-    rw (c .refusal2 .ensures) (plans-ten s P d m h (c .before .before .if1 .left) (simp (eq-eqb _ _ (c .before .if2 .taken))))
-
-refusal-requires-3 : tie.Need-refusal-requires-3
-refusal-requires-3 c κs = search needs
-
-returns-3 : tie.Need-returns-3
-returns-3 c = let z = c .before .before .before .before .before .before .before .measure .last in
-    let d = columns (z .1 .0) (z .1 .1 .0) (z .1 .1 .1 .0) (z .1 .1 .1 .1 .0) (z .1 .1 .1 .1 .1 .0) (z .1 .1 .1 .1 .1 .1 .0) (z .1 .1 .1 .1 .1 .1 .1 .0) in
-    let s = now (c .before .before .before .before .before .before .before .before .before .before .before .before .before .before .before .before .args .s) in
-    let m = c .before .before .before .before .before .before .before .measure .result in
-    let h = c .before .before .before .before .before .before .before .measure .ensures in
-    let P = c .before .before .before .before .before .before .before .before .before .before .before .before .before .before .before .before .args .processors in
-    rw (c .refusal3 .ensures) (plans-ten s P d m h (c .before .before .before .if1 .left) (simp (ne-eqb _ _ (c .before .before .if2 .left), lt-ltb _ _ (c .before .if3 .taken))))
-
-array-share-prefix-from : tie.Need-array-share-prefix-from
-array-share-prefix-from c = let z = c .before .before .before .before .before .before .before .before .measure .last in
-    let d = columns (z .1 .0) (z .1 .1 .0) (z .1 .1 .1 .0) (z .1 .1 .1 .1 .0) (z .1 .1 .1 .1 .1 .0) (z .1 .1 .1 .1 .1 .1 .0) (z .1 .1 .1 .1 .1 .1 .1 .0) in
-    let s = now (c .before .before .before .before .before .before .before .before .before .before .before .before .before .before .before .before .before .args .s) in
-    let m = c .before .before .before .before .before .before .before .before .measure .result in
-    let h = c .before .before .before .before .before .before .before .before .measure .ensures in
-    let P = c .before .before .before .before .before .before .before .before .before .before .before .before .before .before .before .before .before .args .processors in
-    omega (arith, kept s P d m h (c .before .before .before .before .if1 .left) .few-loops, sized s P d m h (c .before .before .before .before .if1 .left) .firsts)
-
-slice-aggregate-span-of : tie.Need-slice-aggregate-span-of
-slice-aggregate-span-of c = let z = c .before .before .before .before .before .before .before .before .before .measure .last in
-    let d = columns (z .1 .0) (z .1 .1 .0) (z .1 .1 .1 .0) (z .1 .1 .1 .1 .0) (z .1 .1 .1 .1 .1 .0) (z .1 .1 .1 .1 .1 .1 .0) (z .1 .1 .1 .1 .1 .1 .1 .0) in
-    let s = now (c .before .before .before .before .before .before .before .before .before .before .before .before .before .before .before .before .before .before .args .s) in
-    let m = c .before .before .before .before .before .before .before .before .before .measure .result in
-    let h = c .before .before .before .before .before .before .before .before .before .measure .ensures in
-    let P = c .before .before .before .before .before .before .before .before .before .before .before .before .before .before .before .before .before .before .args .processors in
-    let o = m .outline in
-    sym (cut-long d (o .arrays) (o .loops) (o .rows) (sized s P d m h (c .before .before .before .before .before .if1 .left)) (kept s P d m h (c .before .before .before .before .before .if1 .left)) (d .firsts) (sized s P d m h (c .before .before .before .before .before .if1 .left) .firsts))
-
-array-share-prefix-to : tie.Need-array-share-prefix-to
-array-share-prefix-to c = let z = c .before .before .before .before .before .before .before .before .before .measure .last in
-    let d = columns (z .1 .0) (z .1 .1 .0) (z .1 .1 .1 .0) (z .1 .1 .1 .1 .0) (z .1 .1 .1 .1 .1 .0) (z .1 .1 .1 .1 .1 .1 .0) (z .1 .1 .1 .1 .1 .1 .1 .0) in
-    let s = now (c .before .before .before .before .before .before .before .before .before .before .before .before .before .before .before .before .before .before .args .s) in
-    let m = c .before .before .before .before .before .before .before .before .before .measure .result in
-    let h = c .before .before .before .before .before .before .before .before .before .measure .ensures in
-    let P = c .before .before .before .before .before .before .before .before .before .before .before .before .before .before .before .before .before .before .args .processors in
-    omega (arith, kept s P d m h (c .before .before .before .before .before .if1 .left) .few-loops, sized s P d m h (c .before .before .before .before .before .if1 .left) .lasts)
-
-slice-aggregate-span-of-2 : tie.Need-slice-aggregate-span-of-2
-slice-aggregate-span-of-2 c = let z = c .before .before .before .before .before .before .before .before .before .before .measure .last in
-    let d = columns (z .1 .0) (z .1 .1 .0) (z .1 .1 .1 .0) (z .1 .1 .1 .1 .0) (z .1 .1 .1 .1 .1 .0) (z .1 .1 .1 .1 .1 .1 .0) (z .1 .1 .1 .1 .1 .1 .1 .0) in
-    let s = now (c .before .before .before .before .before .before .before .before .before .before .before .before .before .before .before .before .before .before .before .args .s) in
-    let m = c .before .before .before .before .before .before .before .before .before .before .measure .result in
-    let h = c .before .before .before .before .before .before .before .before .before .before .measure .ensures in
-    let P = c .before .before .before .before .before .before .before .before .before .before .before .before .before .before .before .before .before .before .before .args .processors in
-    let o = m .outline in
-    sym (cut-long d (o .arrays) (o .loops) (o .rows) (sized s P d m h (c .before .before .before .before .before .before .if1 .left)) (kept s P d m h (c .before .before .before .before .before .before .if1 .left)) (d .lasts) (sized s P d m h (c .before .before .before .before .before .before .if1 .left) .lasts))
-
-span-of-requires : tie.Need-span-of-requires
-span-of-requires c κs = let z = c .before .before .before .before .before .before .before .before .before .before .measure .last in
-    let d = columns (z .1 .0) (z .1 .1 .0) (z .1 .1 .1 .0) (z .1 .1 .1 .1 .0) (z .1 .1 .1 .1 .1 .0) (z .1 .1 .1 .1 .1 .1 .0) (z .1 .1 .1 .1 .1 .1 .1 .0) in
-    let s = now (c .before .before .before .before .before .before .before .before .before .before .before .before .before .before .before .before .before .before .before .args .s) in
-    let m = c .before .before .before .before .before .before .before .before .before .before .measure .result in
-    let h = c .before .before .before .before .before .before .before .before .before .before .measure .ensures in
-    let P = c .before .before .before .before .before .before .before .before .before .before .before .before .before .before .before .before .before .before .before .args .processors in
-    let o = m .outline in
-    span-asks d (o .arrays) (o .loops) (o .rows) (sized s P d m h (c .before .before .before .before .before .before .if1 .left)) (kept s P d m h (c .before .before .before .before .before .before .if1 .left)) (ready s P d m h (c .before .before .before .before .before .before .if1 .left))
-
-threshold-of-requires : tie.Need-threshold-of-requires
-threshold-of-requires c κs = search needs
-
-cast-threshold : tie.Need-cast-threshold
-cast-threshold c = let z = c .before .before .before .before .before .before .before .before .before .before .before .before .measure .last in
-    let d = columns (z .1 .0) (z .1 .1 .0) (z .1 .1 .1 .0) (z .1 .1 .1 .1 .0) (z .1 .1 .1 .1 .1 .0) (z .1 .1 .1 .1 .1 .1 .0) (z .1 .1 .1 .1 .1 .1 .1 .0) in
-    let s = now (c .before .before .before .before .before .before .before .before .before .before .before .before .before .before .before .before .before .before .before .before .before .args .s) in
-    let m = c .before .before .before .before .before .before .before .before .before .before .before .before .measure .result in
-    let h = c .before .before .before .before .before .before .before .before .before .before .before .before .measure .ensures in
-    let P = c .before .before .before .before .before .before .before .before .before .before .before .before .before .before .before .before .before .before .before .before .before .args .processors in
-    omega (arith, threshold-fits s P d m h (c .before .before .before .before .before .before .before .before .if1 .left) (c .threshold-of .result) (c .threshold-of .ensures))
-
-short-requires : tie.Need-short-requires
-short-requires c κs = search needs
-
-refusal-requires-4 : tie.Need-refusal-requires-4
-refusal-requires-4 c κs = search needs
-
-returns-4 : tie.Need-returns-4
-returns-4 c = let z = c .before .before .before .before .before .before .before .before .before .before .before .before .before .before .before .measure .last in
-    let d = columns (z .1 .0) (z .1 .1 .0) (z .1 .1 .1 .0) (z .1 .1 .1 .1 .0) (z .1 .1 .1 .1 .1 .0) (z .1 .1 .1 .1 .1 .1 .0) (z .1 .1 .1 .1 .1 .1 .1 .0) in
-    let s = now (c .before .before .before .before .before .before .before .before .before .before .before .before .before .before .before .before .before .before .before .before .before .before .before .before .args .s) in
-    let m = c .before .before .before .before .before .before .before .before .before .before .before .before .before .before .before .measure .result in
-    let h = c .before .before .before .before .before .before .before .before .before .before .before .before .before .before .before .measure .ensures in
-    let P = c .before .before .before .before .before .before .before .before .before .before .before .before .before .before .before .before .before .before .before .before .before .before .before .before .args .processors in
-    let (x, q) = asked s P d m h (c .before .before .before .before .before .before .before .before .before .before .before .if1 .left) (c .before .before .before .before .span-of .result) (c .before .before .before .threshold-of .result) (c .before .before .short .result) (c .before .before .before .before .span-of .ensures) (c .before .before .before .threshold-of .ensures) (c .before .before .short .ensures) in
-    rw (c .refusal4 .ensures) (plans-eleven s P d m h (c .before .before .before .before .before .before .before .before .before .before .before .if1 .left) (simp (ne-eqb _ _ (c .before .before .before .before .before .before .before .before .before .before .if2 .left), le-ltb _ _ (c .before .before .before .before .before .before .before .before .before .if3 .left))) (q ∙ c .before .if4 .taken))
-
-returns-5 : tie.Need-returns-5
-returns-5 c = let z = c .before .before .before .before .before .before .before .before .before .before .before .before .before .before .measure .last in
-    let d = columns (z .1 .0) (z .1 .1 .0) (z .1 .1 .1 .0) (z .1 .1 .1 .1 .0) (z .1 .1 .1 .1 .1 .0) (z .1 .1 .1 .1 .1 .1 .0) (z .1 .1 .1 .1 .1 .1 .1 .0) in
-    let s = now (c .before .before .before .before .before .before .before .before .before .before .before .before .before .before .before .before .before .before .before .before .before .before .before .args .s) in
-    let m = c .before .before .before .before .before .before .before .before .before .before .before .before .before .before .measure .result in
-    let h = c .before .before .before .before .before .before .before .before .before .before .before .before .before .before .measure .ensures in
-    let P = c .before .before .before .before .before .before .before .before .before .before .before .before .before .before .before .before .before .before .before .before .before .before .before .args .processors in
-    let (x, q) = asked s P d m h (c .before .before .before .before .before .before .before .before .before .before .if1 .left) (c .before .before .before .span-of .result) (c .before .before .threshold-of .result) (c .before .short .result) (c .before .before .before .span-of .ensures) (c .before .before .threshold-of .ensures) (c .before .short .ensures) in
-    plans-made s P d m h (c .before .before .before .before .before .before .before .before .before .before .if1 .left) (simp (ne-eqb _ _ (c .before .before .before .before .before .before .before .before .before .if2 .left), le-ltb _ _ (c .before .before .before .before .before .before .before .before .if3 .left))) (q ∙ c .if4 .left) _ _ (ap (λ (y : Span). y .first) x) (ap (λ (y : Span). y .count) x)
+unfolding planned
+returns c = rw (← (c .before .before .before .before .before .before .before .before .bad-processors .ensures)) (c .plan-unless .ensures)
 
 pub plan-table-spec : {M : Type 1} → statement M
-plan-table-spec =
-    tie.close
-    (tie.spec
-    measure-requires
-    refusal-requires
-    returns
-    refusal-requires-2
-    returns-2
-    refusal-requires-3
-    returns-3
-    array-share-prefix-from
-    slice-aggregate-span-of
-    array-share-prefix-to
-    slice-aggregate-span-of-2
-    span-of-requires
-    threshold-of-requires
-    cast-threshold
-    short-requires
-    refusal-requires-4
-    returns-4
-    returns-5)
+plan-table-spec = tie.close (tie.spec bad-processors-requires plan-unless-requires returns)
