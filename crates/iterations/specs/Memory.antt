@@ -1,0 +1,42 @@
+-- The memory of a table: its length, which no iteration changes, and ground 12.
+use Prim.Native.Nat.{ℕ, zero, suc}
+use mathlib.Core.Path.{_≡_, refl, _∙_}
+use mathlib.Core.Bool.{Bool, true, false}
+use mathlib.Core.List.{List, [], _∷_}
+use native.Mathlib.Omega.{arith}
+use lib.Dec.{eqb, eqb-eq}
+use lib.ListN.{length, length-set}
+use lib.Ieee.{Float}
+use Rattle.order.specs.Reorder.{runAll}
+use Rattle.model.specs.declared.Iteration.{Iteration}
+use Rattle.model.specs.Table.{Statement, Table, loop}
+use Rattle.model.specs.Bodies.{place, value, performed, run}
+use Rattle.model.specs.PlainRun.{upward, looped, plainRun}
+use Rattle.reader.specs.Reading.{Answer, accepted, refused, choose}
+use Rattle.grounds.specs.Statements.{sum}
+
+-- how many elements the arrays have in all
+abbrev pub total : Table → ℕ
+total t = sum (t .lengths)
+
+-- 12: the memory's length n isn't the table's element total. It is asked of an accepted table alone
+unfoldable pub remembered : ℕ → Answer → Answer
+remembered n (refused g p) = refused g p
+remembered n (accepted t) = choose (eqb n (total t)) (accepted t) (refused 12 0)
+
+-- LAWS
+pub remembered-accepted : (n : ℕ) (a : Answer) (t : Table) → remembered n a ≡ accepted t → (a ≡ accepted t) × (n ≡ total t)
+unfolding remembered
+remembered-accepted n (refused g p) t e = let z : _≡_ {A = ℕ} 0 1 = cc in absurd (omega arith)
+remembered-accepted n (accepted u) t e = ?
+
+-- no statement changes the memory's length
+module _ (ns : List ℕ) (i : ℕ) where
+  statements-length : (b : List Statement) (m : List Float) → length (runAll (performed ns i) b m) ≡ length m
+  unfolding performed
+  statements-length [] m = refl
+  statements-length (s ∷ b) m =
+      statements-length b (performed ns i s m) ∙ length-set m (place ns (s .array) (s .offset) i) (value ns i (s .items) m)
+
+pub run-length : (t : Table) (x : Iteration) (m : List Float) → length (run t x m) ≡ length m
+run-length t x m = statements-length (t .lengths) (x .index) (loop t (x .number) .body) m
