@@ -1,11 +1,11 @@
 // One iteration of a loop.
 ghost use mathlib.Core.Path.{_≡_};
-ghost use Prim.Native.Nat.{_≤_, _<_};
+ghost use Prim.Native.Nat.{_+_, _-_, _^_, _≤_, _<_};
 ghost use lib.ListN.{length, getD, set, take};
 ghost use Rattle.model.specs.Table.{Table, iteration, Inside};
 ghost use Rattle.model.specs.Bodies.{run};
 ghost use Rattle.grounds.specs.Statements.{sum};
-ghost use Rattle.bodies.specs.Workable.{Based};
+ghost use Rattle.bodies.specs.Workable.{Based, Element};
 ghost use Rattle.iterations.specs.Memory.{total};
 ghost use Rattle.iterations.specs.Loaded.{Loaded};
 
@@ -54,6 +54,16 @@ fn store(part: &mut [f64], at: usize, x: f64)
     part[at] = canonical(x);
 }
 
+// Stores x at element i + offset - 255 of an array; `bases` are where the arrays begin in the memory.
+fn store_in(array: u32, offset: u32, bases: &[u32; 17], i: usize, memory: &mut [f64], x: f64)
+    requires { ⌜ (i < 2 ^ 32) × Element (now bases) i (length (now memory)) array offset ⌝ }
+    ensures { λ _. ⌜ now (memory .exit) ≡ set (now (memory .entry)) (getD (now (bases .entry)) array 0 + (i + offset - 255)) x ⌝ }
+{
+    let base = bases[array as usize] as usize;
+    let at = i + (offset as usize) - 255;
+    store(&mut memory[base..], at, x);
+}
+
 // Iteration `index` of loop `number`, of a table in columns.
 pub fn iterate(
     starts: &[usize; 17],
@@ -65,7 +75,7 @@ pub fn iterate(
     index: usize,
     memory: &mut [f64],
 )
-    requires { ⌜ (t : Table) × Loaded t (now starts) (now kinds) (now arrays) (now values) (now bases) × Inside t (iteration number index) × (length (now memory) ≡ total t) ⌝ }
+    requires { ⌜ ((t : Table) × Loaded t (now starts) (now kinds) (now arrays) (now values) (now bases) × Inside t (iteration number index) × (length (now memory) ≡ total t)) ⌝ }
     ensures { λ _. ⌜ ((t : Table) → Loaded t (now (starts .entry)) (now (kinds .entry)) (now (arrays .entry)) (now (values .entry)) (now (bases .entry)) → Inside t (iteration number index) → now (memory .exit) ≡ run t (iteration number index) (now (memory .entry))) ⌝ }
 {
     let from = starts[number];
@@ -80,8 +90,5 @@ pub fn iterate(
         index,
         &memory[..],
     );
-    let array = arrays[from] as usize;
-    let base = bases[array] as usize;
-    let at = index + (values[from] as usize) - 255;
-    store(&mut memory[base..], at, x);
+    store_in(arrays[from], values[from], bases, index, memory, x);
 }

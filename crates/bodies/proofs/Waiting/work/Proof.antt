@@ -33,8 +33,7 @@ push-requires c κs = let a = c .before .before .before .args in
 returns : tie.Need-returns
 returns c = let a = c .before .before .before .before .args in
     let bs = now (a .bases) in
-    let m = now (a .memory) in
-    (
+    let m = now (a .memory) in (
       c .push .ensures .1 ∙ sym (next-read bs (a .i) m (a .kind) (a .array) (a .value) (a .self .count) (c .before .before .if1 .taken)),
       worked-read bs (a .i) m (a .kind) (a .array) (a .value) (a .self .count) (c .before .before .if1 .taken) (ready-read bs (a .i) m (a .kind) (a .array) (a .value) (a .self .count) (c .before .before .if1 .taken) (length m) (c .before .before .before .before .pre .1) .1 .0) (waiting (a .self)) _ _ (c .before .element .ensures) (c .push .ensures .0),
     )
@@ -54,8 +53,7 @@ push-requires-2 c κs = let a = c .before .before .before .before .args in
 returns-2 : tie.Need-returns-2
 returns-2 c = let a = c .before .before .before .before .before .args in
     let bs = now (a .bases) in
-    let m = now (a .memory) in
-    (
+    let m = now (a .memory) in (
       c .push2 .ensures .1 ∙ sym (next-constant bs (a .i) m (a .kind) (a .array) (a .value) (a .self .count) (c .before .before .if2 .taken)),
       λ ns b. worked-constant bs (a .i) m (a .kind) (a .array) (a .value) (a .self .count) (c .before .before .if2 .taken) (waiting (a .self)) _ _ (c .before .constant .ensures) (c .push2 .ensures .0) ns,
     )
@@ -71,8 +69,7 @@ apply-requires c κs = let a = c .before .before .before .args in
 returns-3 : tie.Need-returns-3
 returns-3 c = let a = c .before .before .before .before .args in
     let bs = now (a .bases) in
-    let m = now (a .memory) in
-    (
+    let m = now (a .memory) in (
       c .apply .ensures .1 ∙ sym (next-operation bs (a .i) m (a .kind) (a .array) (a .value) (a .self .count) (c .before .before .if1 .left) (c .before .if2 .left)),
       λ ns b. worked-operation bs (a .i) m (a .kind) (a .array) (a .value) (a .self .count) (c .before .before .if1 .left) (c .before .if2 .left) (waiting (a .self)) _ (c .apply .ensures .0) ns,
     )
