@@ -1,0 +1,4 @@
+-- the numbers that wait in a body
+pub mod Stack
+-- what the code asks of items before it works them
+pub mod Workable

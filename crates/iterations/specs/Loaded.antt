@@ -1,0 +1,48 @@
+-- A table's statements in columns, with what the code of an iteration needs to know of them.
+use Prim.Native.Nat.{ℕ, zero, suc, _+_, _≤_, _<_}
+use native.Mathlib.Omega.{arith}
+use mathlib.Core.Path.{_≡_, refl, ap, _∙_}
+use mathlib.Core.List.{List, [], _∷_}
+use lib.ListN.{length, getD, take}
+use Rattle.model.specs.Table.{Statement, Loop, Table, count, loop}
+use Rattle.model.specs.Bodies.{begins}
+use Rattle.reader.specs.Columns.{Columns, columns, statementAt, tableAt, count-table, loop-table}
+use Rattle.reader.specs.Stored.{Sized, Kept, starts-up}
+use Rattle.grounds.specs.Statements.{sum}
+use Rattle.grounds.specs.Accepted.{Valid}
+use Rattle.bodies.specs.Workable.{Based}
+
+-- the statement of loop k, in columns of starts, kinds, arrays and values
+abbrev pub statementIn : List ℕ → List ℕ → List ℕ → List ℕ → ℕ → Statement
+statementIn ss ks qs vs k = statementAt (columns [] [] [] ss ks qs vs) (getD ss k 0) (getD ss (suc k) 0)
+
+-- the columns hold the statements of the loops of t, and bs is where its arrays begin
+pub record Loaded (t : Table) (ss ks qs vs bs : List ℕ) : Type 0 where
+  pub valid : Valid t
+  pub based : Based bs (t .lengths)
+  pub held : (k : ℕ) → k < count t → loop t k .body ≡ statementIn ss ks qs vs k ∷ []
+  pub rising : (k : ℕ) → k < count t → getD ss k 0 < getD ss (suc k) 0
+  pub rows : (k : ℕ) → k < count t → getD ss (suc k) 0 ≤ 528
+
+-- LAWS
+pub loaded : (c : Columns) (a l rows : ℕ) (bs : List ℕ) → Sized c → Kept c a l rows → Valid (tableAt c a l) → Based bs (take a (c .lens))
+    → Loaded (tableAt c a l) (c .starts) (c .kinds) (c .arrays) (c .values) bs
+loaded c a l rows bs z kept v b = record {
+  valid = v;
+  based = b;
+  held = λ k h. ap (λ (x : Loop). x .body) (loop-table c a l k (inside k h));
+  rising = λ k h. kept .rising k (inside k h);
+  rows = λ k h. omega (arith, starts-up c a l rows kept (suc k) l (inside k h) (omega arith), kept .end, kept .few-rows);
+}
+  where
+    inside : (k : ℕ) → k < count (tableAt c a l) → k < l
+    inside k h = omega (arith, count-table c a l)
+
+-- past the last array the memory ends
+begins-past : (ns : List ℕ) (a : ℕ) → length ns ≤ a → begins ns a ≡ sum ns
+begins-past [] a h = refl
+begins-past (n ∷ ns) zero h = absurd (omega arith)
+begins-past (n ∷ ns) (suc a) h = ap (λ (x : ℕ). n + x) (begins-past ns a (omega arith))
+
+pub based-total : (bs ns : List ℕ) (a : ℕ) → Based bs ns → length ns ≤ a → a ≤ 16 → getD bs a 0 ≡ sum ns
+based-total bs ns a b l h = b a h ∙ begins-past ns a l

@@ -1,0 +1,56 @@
+-- The memory of a table: its length, which no iteration changes, and ground 12.
+use Prim.Native.Nat.{ℕ, zero, suc}
+use mathlib.Core.Path.{_≡_, refl, ap, _∙_}
+use mathlib.Core.Bool.{Bool, true, false}
+use mathlib.Core.List.{List, [], _∷_}
+use native.Mathlib.Omega.{arith}
+use lib.Dec.{eqb}
+use lib.ListN.{length, length-set}
+use borrow.Author.Tests.{eqb-true, eq-eqb, ne-eqb}
+use lib.Ieee.{Float}
+use Rattle.order.specs.Reorder.{runAll}
+use Rattle.model.specs.declared.Iteration.{Iteration}
+use Rattle.model.specs.Table.{Statement, Table, loop}
+use Rattle.model.specs.Bodies.{place, value, performed, run}
+use Rattle.model.specs.PlainRun.{upward, looped, plainRun}
+use Rattle.reader.specs.Reading.{Answer, accepted, refused, choose}
+use Rattle.grounds.specs.Statements.{sum}
+
+-- how many elements the arrays have in all
+abbrev pub total : Table → ℕ
+total t = sum (t .lengths)
+
+-- 12: the memory's length n isn't the table's element total. It is asked of an accepted table alone
+unfoldable pub remembered : ℕ → Answer → Answer
+remembered n (refused g p) = refused g p
+remembered n (accepted t) = choose (eqb n (total t)) (accepted t) (refused 12 0)
+
+-- LAWS
+pub remembered-accepted : (n : ℕ) (a : Answer) (t : Table) → remembered n a ≡ accepted t → (a ≡ accepted t) × (n ≡ total t)
+unfolding remembered
+remembered-accepted n (refused g p) t e = let z : _≡_ {A = ℕ} 0 1 = cc in absurd (omega arith)
+remembered-accepted n (accepted u) t e = go (eqb n (total u)) refl e
+  where
+    go : (b : Bool) → eqb n (total u) ≡ b → choose b (accepted u) (refused 12 0) ≡ accepted t → (accepted u ≡ accepted t) × (n ≡ total t)
+    go true f g = let z : u ≡ t = cc in (g, eqb-true n (total u) f ∙ ap total z)
+    go false f g = let z : _≡_ {A = ℕ} 0 1 = cc in absurd (omega arith)
+
+-- a memory of the table's length is accepted, and one of another length refused
+pub remembered-as-long : (n : ℕ) (t : Table) → n ≡ total t → remembered n (accepted t) ≡ accepted t
+unfolding remembered
+remembered-as-long n t e = rw (eq-eqb n (total t) e)
+
+pub remembered-unlike : (n : ℕ) (t : Table) → (n ≡ total t → ⊥) → remembered n (accepted t) ≡ refused 12 0
+unfolding remembered
+remembered-unlike n t e = rw (ne-eqb n (total t) e)
+
+-- no statement changes the memory's length
+module _ (ns : List ℕ) (i : ℕ) where
+  statements-length : (b : List Statement) (m : List Float) → length (runAll (performed ns i) b m) ≡ length m
+  unfolding performed
+  statements-length [] m = refl
+  statements-length (s ∷ b) m =
+      statements-length b (performed ns i s m) ∙ length-set m (place ns (s .array) (s .offset) i) (value ns i (s .items) m)
+
+pub run-length : (t : Table) (x : Iteration) (m : List Float) → length (run t x m) ≡ length m
+run-length t x m = statements-length (t .lengths) (x .index) (loop t (x .number) .body) m

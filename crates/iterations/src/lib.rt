@@ -1,0 +1,94 @@
+// One iteration of a loop.
+ghost use mathlib.Core.Path.{_≡_};
+ghost use Prim.Native.Nat.{_+_, _-_, _^_, _≤_, _<_};
+ghost use lib.ListN.{length, getD, set, take};
+ghost use Rattle.model.specs.Table.{Table, iteration, Inside};
+ghost use Rattle.model.specs.Bodies.{run};
+ghost use Rattle.grounds.specs.Statements.{sum};
+ghost use Rattle.bodies.specs.Workable.{Based, Element};
+ghost use Rattle.iterations.specs.Memory.{total};
+ghost use Rattle.iterations.specs.Loaded.{Loaded};
+
+// Where each array begins in the memory; past the last one, where the memory ends.
+pub struct Bases {
+    pub firsts: [u32; 17],
+}
+
+// How many elements array k of so many has: none past the last.
+fn length_of(lens: &[u32; 16], arrays: usize, k: usize) -> u32
+    requires { ⌜ k < 16 ⌝ }
+    ensures { λ r. ⌜ r ≡ getD (take arrays (now (lens .entry))) k 0 ⌝ }
+{
+    if k < arrays { lens[k] } else { 0 }
+}
+
+// The arrays stand in order without gaps.
+pub fn bases_of(lens: &[u32; 16], arrays: usize) -> Bases
+    requires { ⌜ sum (take arrays (now lens)) ≤ 262144 ⌝ }
+    ensures { λ r. ⌜ Based (r .firsts) (take arrays (now (lens .entry))) ⌝ }
+{
+    let mut firsts = [0u32; 17];
+    let mut next: u32 = 0;
+    let mut k: usize = 0;
+    while k < 16 {
+        next += length_of(lens, arrays, k);
+        firsts[k + 1] = next;
+        k += 1;
+    }
+    Bases { firsts }
+}
+
+// A number that is not one has many bit patterns, and which of them an operation leaves is the processor's choice. What is stored for it
+// is what 0.0 / 0.0 gives as a constant, 7FF8000000000000. The definitions have a single such number, so for them this is x.
+fn canonical(x: f64) -> f64
+    ensures { λ r. ⌜ r ≡ x ⌝ }
+{
+    if x != x { 0.0 / 0.0 } else { x }
+}
+
+// Stores x at element `at` of an array, which is lent as its own part of the memory.
+fn store(part: &mut [f64], at: usize, x: f64)
+    requires { ⌜ at < length (now part) ⌝ }
+    ensures { λ _. ⌜ now (part .exit) ≡ set (now (part .entry)) at x ⌝ }
+{
+    part[at] = canonical(x);
+}
+
+// Stores x at element i + offset - 255 of an array; `bases` are where the arrays begin in the memory.
+fn store_in(array: u32, offset: u32, bases: &[u32; 17], i: usize, memory: &mut [f64], x: f64)
+    requires { ⌜ (i < 2 ^ 32) × Element (now bases) i (length (now memory)) array offset ⌝ }
+    ensures { λ _. ⌜ now (memory .exit) ≡ set (now (memory .entry)) (getD (now (bases .entry)) array 0 + (i + offset - 255)) x ⌝ }
+{
+    let base = bases[array as usize] as usize;
+    let at = i + (offset as usize) - 255;
+    store(&mut memory[base..], at, x);
+}
+
+// Iteration `index` of loop `number`, of a table in columns.
+pub fn iterate(
+    starts: &[usize; 17],
+    kinds: &[u8; 528],
+    arrays: &[u32; 528],
+    values: &[u32; 528],
+    bases: &[u32; 17],
+    number: usize,
+    index: usize,
+    memory: &mut [f64],
+)
+    requires { ⌜ ((t : Table) × Loaded t (now starts) (now kinds) (now arrays) (now values) (now bases) × Inside t (iteration number index) × (length (now memory) ≡ total t)) ⌝ }
+    ensures { λ _. ⌜ ((t : Table) → Loaded t (now (starts .entry)) (now (kinds .entry)) (now (arrays .entry)) (now (values .entry)) (now (bases .entry)) → Inside t (iteration number index) → now (memory .exit) ≡ run t (iteration number index) (now (memory .entry))) ⌝ }
+{
+    let from = starts[number];
+    let past = starts[number + 1];
+    let x = bodies::value_of(
+        kinds,
+        arrays,
+        values,
+        bases,
+        from + 1,
+        past,
+        index,
+        &memory[..],
+    );
+    store_in(arrays[from], values[from], bases, index, memory, x);
+}
