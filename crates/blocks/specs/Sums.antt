@@ -102,3 +102,20 @@ some-here (suc n) b f l e = go (ℕ-discrete b n) (some n f) (f n) refl (λ i. s
 pub some-none : (n : ℕ) (f : ℕ → Bool) → ((b : ℕ) → b < n → f b ≡ false) → some n f ≡ false
 some-none zero f h = refl
 some-none (suc n) f h = rw (some-none n f (λ b l. h b (omega arith)), h n (omega arith))
+
+pub some-which : (n : ℕ) (f : ℕ → Bool) → some n f ≡ true → (b : ℕ) × (b < n) × (f b ≡ true)
+some-which zero f e = absurd (false≢true e)
+some-which (suc n) f e = go (some n f) (f n) refl refl e (some-which n f)
+  where
+    go : (x y : Bool) → some n f ≡ x → f n ≡ y → (x || y) ≡ true → (some n f ≡ true → (b : ℕ) × (b < n) × (f b ≡ true))
+        → (b : ℕ) × (b < suc n) × (f b ≡ true)
+    go true y p q r ih = let (b, l, h) = ih p in (b, omega arith, h)
+    go false true p q r ih = (n, omega arith, q)
+    go false false p q r ih = absurd (false≢true r)
+
+pub some-each : (n b : ℕ) (f : ℕ → Bool) → some n f ≡ false → b < n → f b ≡ false
+some-each n b f e l = go (f b) refl
+  where
+    go : (x : Bool) → f b ≡ x → f b ≡ false
+    go true q = absurd (false≢true (let z : false ≡ true = cc (some-here n b f l q) in z))
+    go false q = q

@@ -12,7 +12,12 @@ use Rattle.serial.specs.Serial.{table}
 use Rattle.blocks.specs.Span.{tableSpan, span-most}
 use Rattle.blocks.specs.Blocks.{isShort}
 use Rattle.grounds.specs.Accepted.{Valid, valid-last}
-use Rattle.plans.specs.Plans.{thresholdOf, badProcessors, fitting, planned, plannedFor}
+use Rattle.model.specs.References.{allRefs}
+use Rattle.chains.specs.Walk.{shifts, peels}
+use Rattle.chains.specs.Threshold.{threshold-upper}
+use Rattle.lists.specs.Fusion.{Wide, fusion-wide}
+use Rattle.plans.specs.Known.{valid}
+use Rattle.plans.specs.Plans.{shiftOf, peelOf, thresholdOf, planOf, badProcessors, fitting, planned, plannedFor}
 
 pub record Fits (s : List ℕ) (P : ℕ) (t : Table) : Type 0 where
   pub read : table s ≡ accepted t
@@ -44,6 +49,13 @@ planned-fits s P t e =
     let (z, m) = neither (eqb P 0) (ltb 64 P) b in
     let n = eqb-false P 0 z in
     record { read = r; some = omega (arith, n); few = ltb-false 64 P m; wide = w }
+
+-- then the blocks are no smaller than any loop's shift and peel together
+pub planned-wide : (s : List ℕ) (P : ℕ) (t : Table) → planned s P ≡ accepted t → Wide t (planOf t P)
+planned-wide s P t e =
+    let f = planned-fits s P t e in
+    fusion-wide t P (shiftOf t) (peelOf t) (thresholdOf t)
+    (λ k l. threshold-upper (shifts (allRefs t)) (peels (allRefs t)) k (omega (arith, valid s t (f .read) .few-loops))) (f .some) (f .wide)
 
 -- where a processor is named, it is below P, and nothing else is asked
 pub named-below : (s : List ℕ) (P b : ℕ) → b < P → plannedFor s P b ≡ planned s P

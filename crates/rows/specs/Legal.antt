@@ -1,22 +1,16 @@
 -- Dependences between references of two loops, and the fusions that keep them. Which pairs of references make a dependence is left open:
 -- `Counts r q`, for a reference r of an earlier loop and q of a later one. Assumes nothing.
 use mathlib.Core.List.{List·Memᴰ as Mem}
-use Prim.Native.Nat.{ℕ, _+_, _-_, _≤_, _<_}
+use Prim.Native.Nat.{ℕ, _+_, _≤_, _<_}
 use native.Mathlib.Omega.{arith}
 use Rattle.model.specs.declared.Iteration.{Iteration}
 use Rattle.model.specs.declared.Reference.{Reference}
 use Rattle.model.specs.Table.{Table, count, Inside}
 use Rattle.model.specs.References.{refs, Touch, Meet}
+use Rattle.chains.specs.Dependence.{backward, forward}
 use Rattle.blocks.specs.Index.{Contained}
 use Rattle.blocks.specs.Index.{contained as contained-by}
 use Rattle.lists.specs.Fusion.{Fusion}
-
--- a dependence of distance d = (offset in j) - (offset in k): backward by -d where d < 0, forward by d where d > 0, else by 0
-abbrev pub backward : Reference → Reference → ℕ
-backward r q = q .offset - r .offset
-
-abbrev pub forward : Reference → Reference → ℕ
-forward r q = r .offset - q .offset
 
 module _ (Counts : Reference → Reference → Type 0) (t : Table) where
   -- a dependence of loop k on an earlier loop j

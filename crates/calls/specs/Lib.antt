@@ -1,0 +1,6 @@
+-- a step's turn is a turn of the machine with the plan's lists
+pub mod Turns
+-- a row of calls is a schedule of that machine
+pub mod Rows
+-- demand 3
+pub mod AnyRow
