@@ -1,16 +1,22 @@
 -- A row of step calls with one table and P, each naming any number; and the row of a run in a caller's order.
-use Prim.Native.Nat.{ℕ, zero, suc, _+_, _^_}
+use Prim.Native.Nat.{ℕ, zero, suc, _+_, _≤_, _<_}
+use native.Mathlib.Omega.{arith}
+use native.Mathlib.Decide.{ℕ-discrete, decLt}
+use mathlib.Core.Path.{_≡_, refl, sym, ap, _∙_}
 use mathlib.Core.Bool.{Bool, true, false, cond}
 use mathlib.Core.List.{List, [], _∷_, _++_}
 use lib.Dec.{ltb}
+use borrow.Author.Tests.{lt-ltb, le-ltb}
 use lib.ListN.{length}
 use lib.Ieee.{Float}
 use Rattle.reader.specs.Reading.{Answer, accepted, refused}
+use Rattle.model.specs.Table.{Table}
+use Rattle.blocks.specs.Sums.{total}
 use Rattle.plans.specs.Plans.{planned}
 use Rattle.iterations.specs.Memory.{remembered}
 use Rattle.stepping.specs.declared.Report.{Report}
 use Rattle.stepping.specs.declared.Report.the-variants.{Refused, Performed, Waiting, Finished}
-use Rattle.stepping.specs.Step.{step}
+use Rattle.stepping.specs.Step.{fused, peeled, step}
 
 -- the first call gets every count 0
 abbrev pub zeros : ℕ → List ℕ
@@ -55,7 +61,7 @@ module _ (s : List ℕ) (P : ℕ) where
   unfoldable pub canStep : List ℕ → List Float → ℕ → Bool
   canStep counts m b = performing (step s P b counts m .report)
 
-  -- calls for the lowest-numbered processor that can step, until there is none; a table has fewer than 2 ^ 20 + 1 iterations
+  -- calls for the lowest-numbered processor that can step, until there is none, and no more than n
   unfoldable pub closing : ℕ → List ℕ → List Float → List ℕ
   unfolding canStep
   closing zero counts m = []
@@ -64,25 +70,87 @@ module _ (s : List ℕ) (P : ℕ) where
       let a = step s P b counts m in
       cond (ltb b P) (b ∷ closing n (a .counts) (a .memory)) []
 
-  -- the row of a run: a call for each byte of the order, then those
-  unfoldable pub rowOf : List ℕ → List Float → List ℕ
+  -- the row of a run of the table t: a call for each byte of the order, then those; all lists together have so many iterations
+  abbrev pub listed : Table → ℕ
+  listed t = total P (λ b. length (fused t P b) + length (peeled t P b))
+
+  unfoldable pub rowOf : Table → List ℕ → List Float → List ℕ
   unfolding closing
-  rowOf order m = order ++ closing (2 ^ 20) (countsAfter s P order noneDone m) (memoryAfter s P order noneDone m)
+  rowOf t order m = order ++ closing (listed t) (countsAfter s P order noneDone m) (memoryAfter s P order noneDone m)
 
 -- the run: refused by 1 to 9, 10 of P, 11 and 12, or its row's memory and idle count
-abbrev pub runAnswer : List ℕ → ℕ → List Float → Answer
-runAnswer s P m = remembered (length m) (planned s P)
+abbrev pub runAnswer : List ℕ → ℕ → ℕ → Answer
+runAnswer s P n = remembered n (planned s P)
+
+abbrev pub memoryOf : List ℕ → ℕ → List ℕ → List Float → Answer → List Float
+memoryOf s P order m (refused number place) = m
+memoryOf s P order m (accepted t) = memoryAfter s P (rowOf s P t order m) noneDone m
+
+abbrev pub idleOf : List ℕ → ℕ → List ℕ → List Float → Answer → ℕ
+idleOf s P order m (refused number place) = 0
+idleOf s P order m (accepted t) = idle (reports s P (rowOf s P t order m) noneDone m)
 
 unfoldable pub runMemory : List ℕ → ℕ → List ℕ → List Float → List Float
-runMemory s P order m = after (runAnswer s P m)
-  where
-    after : Answer → List Float
-    after (refused number place) = m
-    after (accepted t) = memoryAfter s P (rowOf s P order m) noneDone m
+runMemory s P order m = memoryOf s P order m (runAnswer s P (length m))
 
 unfoldable pub runIdle : List ℕ → ℕ → List ℕ → List Float → ℕ
-runIdle s P order m = after (runAnswer s P m)
+runIdle s P order m = idleOf s P order m (runAnswer s P (length m))
+
+-- LAWS
+-- it is the b that passes, none below it passing; or n, if none passes
+pub lowest-is : (n b : ℕ) (f : ℕ → Bool) → b ≤ n → ((k : ℕ) → k < b → f k ≡ false) → (b < n → f b ≡ true) → lowest n f ≡ b
+lowest-is zero b f l none here = omega arith
+lowest-is (suc n) b f l none here = go (decLt b n) (ℕ-discrete b n) (λ d. lowest-is n d f)
   where
-    after : Answer → ℕ
-    after (refused number place) = 0
-    after (accepted t) = idle (reports s P (rowOf s P order m) noneDone m)
+    Before : Type 0
+    Before = (d : ℕ) → d ≤ n → ((k : ℕ) → k < d → f k ≡ false) → (d < n → f d ≡ true) → lowest n f ≡ d
+
+    go : Dec (b < n) → Dec (b ≡ n) → Before → lowest (suc n) f ≡ b
+    go (yes i) e ih = let q = ih b (omega arith) none (λ z. here (omega arith)) in rw (q, lt-ltb b n i)
+    go (no i) (yes e) ih =
+        let q : lowest n f ≡ n = ih n (omega arith) (λ k z. none k (omega arith)) (λ z. absurd (omega arith)) in
+        let h : f n ≡ true = ap f (sym e) ∙ here (omega arith) in
+        rw (q, le-ltb n n (omega arith), h) (sym e)
+    go (no i) (no e) ih =
+        let q : lowest n f ≡ n = ih n (omega arith) (λ k z. none k (omega arith)) (λ z. absurd (omega arith)) in
+        let h : f n ≡ false = none n (omega arith) in
+        rw (q, le-ltb n n (omega arith), h) (omega arith)
+
+pub lowest-holds : (n : ℕ) (f : ℕ → Bool) → lowest n f < n → f (lowest n f) ≡ true
+lowest-holds zero f l = absurd (omega arith)
+lowest-holds (suc n) f l = go (decLt (lowest n f) n) (f n) refl (lowest-holds n f)
+  where
+    go : Dec (lowest n f < n) → (y : Bool) → f n ≡ y → (lowest n f < n → f (lowest n f) ≡ true) → f (lowest (suc n) f) ≡ true
+    go (yes i) y e ih = rw (lt-ltb (lowest n f) n i) (ih i)
+    go (no i) true e ih = rw (le-ltb (lowest n f) n (omega arith), e) e
+    go (no i) false e ih = absurd (let z = rw (le-ltb (lowest n f) n (omega arith), e) at l in omega (arith, z))
+
+pub lowest-none : (n k : ℕ) (f : ℕ → Bool) → n ≤ lowest n f → k < n → f k ≡ false
+lowest-none zero k f l h = absurd (omega arith)
+lowest-none (suc n) k f l h = go (decLt (lowest n f) n) (f n) refl (ℕ-discrete k n) (lowest-none n k f)
+  where
+    go : Dec (lowest n f < n) → (y : Bool) → f n ≡ y → Dec (k ≡ n) → (n ≤ lowest n f → k < n → f k ≡ false) → f k ≡ false
+    go (yes i) y e d ih = absurd (let z = rw (lt-ltb (lowest n f) n i) at l in omega (arith, z))
+    go (no i) true e d ih = absurd (let z = rw (le-ltb (lowest n f) n (omega arith), e) at l in omega (arith, z))
+    go (no i) false e (yes d) ih = ap f d ∙ e
+    go (no i) false e (no d) ih = ih (omega arith) (omega arith)
+
+-- a row, and then another
+module _ (s : List ℕ) (P : ℕ) where
+  pub counts-append : (bs ds cs : List ℕ) (m : List Float)
+      → countsAfter s P (bs ++ ds) cs m ≡ countsAfter s P ds (countsAfter s P bs cs m) (memoryAfter s P bs cs m)
+  unfolding countsAfter memoryAfter
+  counts-append [] ds cs m = refl
+  counts-append (b ∷ bs) ds cs m = let a = step s P b cs m in counts-append bs ds (a .counts) (a .memory)
+
+  pub memory-append : (bs ds cs : List ℕ) (m : List Float)
+      → memoryAfter s P (bs ++ ds) cs m ≡ memoryAfter s P ds (countsAfter s P bs cs m) (memoryAfter s P bs cs m)
+  unfolding countsAfter memoryAfter
+  memory-append [] ds cs m = refl
+  memory-append (b ∷ bs) ds cs m = let a = step s P b cs m in memory-append bs ds (a .counts) (a .memory)
+
+  pub idle-append : (bs ds cs : List ℕ) (m : List Float)
+      → idle (reports s P (bs ++ ds) cs m) ≡ idle (reports s P bs cs m) + idle (reports s P ds (countsAfter s P bs cs m) (memoryAfter s P bs cs m))
+  unfolding reports idle countsAfter memoryAfter
+  idle-append [] ds cs m = omega arith
+  idle-append (b ∷ bs) ds cs m = let a = step s P b cs m in omega (arith, idle-append bs ds (a .counts) (a .memory))
