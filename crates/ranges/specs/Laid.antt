@@ -16,7 +16,7 @@ use Rattle.blocks.specs.Span.{tableSpan}
 use Rattle.lists.specs.Fusion.{Wide, fusion-wide}
 use Rattle.plans.specs.declared.Plan.{Plan}
 use Rattle.plans.specs.Plans.{planned, shiftOf, peelOf, thresholdOf, planOf, Made}
-use Rattle.plans.specs.Known.{valid, shift-small, peel-small, first-at, last-at, last-small}
+use Rattle.plans.specs.Known.{valid, shift-small, peel-small, first-at, last-at}
 use Rattle.plans.specs.Fitting.{Fits, planned-fits, span-small}
 
 pub record Laid (t : Table) (P : ℕ) (p : Plan) (firsts lasts : List ℕ) : Type 0 where

@@ -81,6 +81,7 @@ fn ranges_of(
     lasts: &[u32; 16],
 ) -> Ranges
     requires { ⌜ (b < processors) × Some processors p (now firsts) (now lasts) ⌝ }
+    ensures { λ r. ⌜ (length (r .froms) ≡ 16) × (length (r .pasts) ≡ 16) ⌝ }
     ensures { λ r. ⌜ ((k : ℕ) → k < p .loops → ranges (r .froms) (r .pasts) k ≡ rangeOf part p processors (now (firsts .entry)) (now (lasts .entry)) b k) ⌝ }
 {
     let blk = blocks::block_of(p.first, p.count, processors, b);
