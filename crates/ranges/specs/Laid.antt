@@ -1,7 +1,6 @@
 -- An accepted plan and the columns of first and last indices hold the plan of the table t for P processors; with the bounds that the
 -- code's sums need.
 use Prim.Native.Nat.{ℕ, _+_, _≤_, _<_}
-use native.Mathlib.Omega.{arith}
 use mathlib.Core.Path.{_≡_, sym, ap, _∙_}
 use mathlib.Core.List.{List}
 use lib.ListN.{length, getD}
@@ -10,14 +9,13 @@ use Rattle.model.specs.References.{allRefs}
 use Rattle.reader.specs.Columns.{Columns, tableAt, count-table}
 use Rattle.chains.specs.Dependence.{backward, forward}
 use Rattle.chains.specs.Walk.{shifts, peels, numbers-length}
-use Rattle.chains.specs.Threshold.{threshold-upper}
 use Rattle.grounds.specs.Accepted.{Valid, valid-last}
 use Rattle.blocks.specs.Span.{tableSpan}
-use Rattle.lists.specs.Fusion.{Wide, fusion-wide}
+use Rattle.lists.specs.Fusion.{Wide}
 use Rattle.plans.specs.declared.Plan.{Plan}
-use Rattle.plans.specs.Plans.{planned, shiftOf, peelOf, thresholdOf, planOf, Made}
+use Rattle.plans.specs.Plans.{planned, shiftOf, peelOf, planOf, Made}
 use Rattle.plans.specs.Known.{valid, shift-small, peel-small, first-at, last-at}
-use Rattle.plans.specs.Fitting.{Fits, planned-fits, span-small}
+use Rattle.plans.specs.Fitting.{Fits, planned-fits, planned-wide, span-small}
 
 pub record Laid (t : Table) (P : ℕ) (p : Plan) (firsts lasts : List ℕ) : Type 0 where
   pub loops : p .loops ≡ count t
@@ -62,9 +60,6 @@ module _ (s : List ℕ) (P : ℕ) (p : Plan) (c : Columns) (made : Made (planned
   counted : count t ≡ p .loops
   counted = count-table c (p .arrays) (p .loops)
 
-  below-threshold : (k : ℕ) → k < count t → shiftOf t k + peelOf t k ≤ thresholdOf t
-  below-threshold k l = threshold-upper (shifts (allRefs t)) (peels (allRefs t)) k (omega (arith, ready .few-loops))
-
   pub laid : Laid t P p (c .firsts) (c .lasts)
   laid = record {
     loops = sym counted;
@@ -85,5 +80,5 @@ module _ (s : List ℕ) (P : ℕ) (p : Plan) (c : Columns) (made : Made (planned
     small-last = valid-last t ready;
     small-shift = shift-small t ready;
     small-peel = peel-small t ready;
-    wide = fusion-wide t P (shiftOf t) (peelOf t) (thresholdOf t) below-threshold (fits .some) (fits .wide);
+    wide = planned-wide s P t (made .is);
   }
