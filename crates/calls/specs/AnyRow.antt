@@ -4,7 +4,7 @@ use Prim.Native.Nat.{ℕ, _<_}
 use native.Mathlib.Omega.{arith}
 use mathlib.Core.Path.{_≡_, refl, sym, ap, subst, _∙_, fun-ext}
 use mathlib.Core.Logic.{⊎-elim}
-use mathlib.Core.List.{List, [], _∷_, _++_, List·Memᴰ·cases-cons}
+use mathlib.Core.List.{List, _∷_, _++_, List·Memᴰ·cases-cons}
 use mathlib.Core.List.{List·Memᴰ as Mem, List·Memᴰ·head as mhere, List·Memᴰ·tail as mthere}
 use lib.ListN.{length, drop}
 use lib.Ieee.{Float}
@@ -80,7 +80,7 @@ module _ (s : List ℕ) (P : ℕ) (t : Table) (planned-is : planned s P ≡ acce
     follow : Follows s P t planned-is bs noneDone m
     follow = follows s P t planned-is bs noneDone m fits (none-reachable t P)
 
-    none-is : column noneDone ≡ zeros
+    pub none-is : column noneDone ≡ zeros
     none-is = fun-ext none-done
 
     pub row-is : row ≡ rows.reported t (planOf t P) (wide s P t planned-is) bs

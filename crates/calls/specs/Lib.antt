@@ -4,3 +4,5 @@ pub mod Turns
 pub mod Rows
 -- demand 3
 pub mod AnyRow
+-- the run in a caller's order
+pub mod CallersOrder

@@ -99,9 +99,13 @@ module _ (t : Table) (c : Fusion) (wide : Wide t c) where
       → mine planOf b (reported bs) ≡ fusedList t c b ++ peeledList t c b
   own-list bs b l all = rw (all-complete bs all b, append-nil) at (own-order bs b l)
 
+  -- and the other way round
+  pub complete-all : (bs : List ℕ) → Complete planOf bs → AllReported bs
+  complete-all bs done x i = complete-reported planOf bs done (owner t c x) x (in-list x i)
+
   -- there is such a row
   pub some-row : (bs : List ℕ) × AllReported bs
-  some-row = let (bs, done) = complete-exists planOf in (bs, λ x i. complete-reported planOf bs done (owner t c x) x (in-list x i))
+  some-row = let (bs, done) = complete-exists planOf in (bs, complete-all bs done)
 
 -- DEMAND 3
 module _ (t : Table) (sound : Sound t) (Counts : Reference → Reference → Type 0) (none-missed : NoneMissed Counts t)
