@@ -4,3 +4,5 @@ pub mod Step
 pub mod Row
 -- the counts that rows reach, and what a step does from them
 pub mod Reach
+-- what a step's report says
+pub mod Meaning
