@@ -17,7 +17,8 @@ vempaldi: plans for a run of parallel loops made into one (shift-and-peel)
 FILE may be - for the standard input. Without -o, join, make and draw write to the standard output.
 With several files a last line on the standard error counts them.
 
-Exit status: 0 all accepted (run: and all memories agree), 1 something refused or different, 2 usage or input/output error.
+Exit status: 0 all accepted (run: and all memories agree), 1 something refused or different or a text wrong, 2 usage or input/output
+error.
 
 A refusal names its number, word and ground, the record and the byte. Records, bytes, arrays, loops and processors count from 0.
 docs/REFUSALS.md has an example of each and what to do about it.
