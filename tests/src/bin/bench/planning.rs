@@ -7,7 +7,7 @@ use vempaldi_checks::bodies::{self, Setting};
 use vempaldi_checks::encoder::encode;
 use vempaldi_checks::library_planning as library;
 use vempaldi_checks::listing::listing;
-use vempaldi_checks::measure;
+use vempaldi_checks::measure::{self, Pair};
 use vempaldi_checks::outputs;
 use vempaldi_checks::random::Random;
 use vempaldi_checks::table::*;
@@ -30,7 +30,6 @@ pub fn measure() {
     compare_amounts("shifts and peels alone, 400 mixed tables", &mixed);
     compare_amounts("shifts and peels alone, full tables, each array stored once", &full);
     compare_amounts("shifts and peels alone, full tables, two arrays shared", &dense);
-    lengths(&mut random);
 }
 
 fn repeat(count: usize, mut make: impl FnMut() -> Table) -> Vec<Table> {
@@ -48,23 +47,27 @@ fn accepted(mut make: impl FnMut() -> Table) -> Table {
 }
 
 fn compare(name: &str, tables: &[Table]) {
+    measure::print(name, "table", &listings(tables, PROCESSORS));
+}
+
+/// The listings of tables by both.
+pub fn listings(tables: &[Table], processors: u32) -> Pair {
     let made: Vec<Vec<u8>> = tables.iter().map(encode).collect();
     let mut out = vec![0; ROOM];
-    let pair = measure::beside(
+    measure::beside(
         ROUNDS,
         made.len(),
         || {
             for table in &made {
-                black_box(library::listing(black_box(table), PROCESSORS, &mut out));
+                black_box(library::listing(black_box(table), processors, &mut out));
             }
         },
         || {
             for table in &made {
-                black_box(listing(black_box(table), PROCESSORS));
+                black_box(listing(black_box(table), processors));
             }
         },
-    );
-    measure::print(name, "table", &pair);
+    )
 }
 
 /// Reading the table and finding shifts and peels, without any text.
@@ -88,16 +91,6 @@ fn compare_amounts(name: &str, tables: &[Table]) {
     measure::print(name, "table", &pair);
 }
 
-/// The same tables with loops ten and a hundred times as long: the ranges
-/// are worked out without counting iterations, so the time stays.
-fn lengths(random: &mut Random) {
-    let base = repeat(100, || accepted(|| near(random)));
-    for factor in [1, 10, 100] {
-        let longer: Vec<Table> = base.iter().map(|table| lengthen(table, factor)).collect();
-        compare(&format!("planning the same 100 tables, loops {factor} times as long"), &longer);
-    }
-}
-
 /// 2 to 16 loops of 1 to 32 items over 16 arrays.
 fn mixed(random: &mut Random) -> Table {
     let arrays = vec![16_384; MOST_ARRAYS];
@@ -110,31 +103,6 @@ fn mixed(random: &mut Random) -> Table {
         })
         .collect();
     Table { arrays, loops }
-}
-
-/// Few indices and offsets next to 0, so that the shortest still has a plan.
-fn near(random: &mut Random) -> Table {
-    let arrays = vec![642; 4];
-    let loops = random.between(2, 16);
-    let loops = (0..loops)
-        .map(|_| {
-            let store = random.below(arrays.len()) as u8;
-            let items = random.between(1, 32) as usize;
-            a_loop(random, &arrays, 1, 640, store, items)
-        })
-        .collect();
-    Table { arrays, loops }
-}
-
-fn lengthen(table: &Table, factor: u32) -> Table {
-    let mut longer = table.clone();
-    for length in &mut longer.arrays {
-        *length = (*length - 2) * factor + 2;
-    }
-    for one in &mut longer.loops {
-        one.last *= factor;
-    }
-    longer
 }
 
 /// Every loop stores one of two arrays and reads the other 16 times, so that
@@ -156,7 +124,7 @@ fn dense(random: &mut Random) -> Table {
 }
 
 /// A loop from `margin` to `last` whose references lie within `margin`.
-fn a_loop(
+pub fn a_loop(
     random: &mut Random,
     arrays: &[u32],
     margin: u32,
