@@ -129,7 +129,8 @@ static uint64_t called(struct call *call, uint8_t *out, size_t room) {
 static uint64_t with_room(struct call *call, size_t room, const uint8_t *same, uint8_t *keep) {
     struct lent out;
     uint8_t *lent = lend(&out, room);
-    uint64_t written = called(call, lent, room);
+    /* A pointer may be anything where its length is 0. */
+    uint64_t written = called(call, room ? lent : NULL, room);
     answered(call, call->length);
     if (call->answer[0] && written) breach(call, "refused, yet bytes are said to be written");
     if (written > room) breach(call, "more bytes than fit are said to be written");
@@ -232,7 +233,7 @@ static void plain_run(struct call *call, struct lent *plain, size_t numbers, uin
     double *lent = memory(plain, numbers, seed);
     call->entry = 9;
     memset(call->answer, 0xee, sizeof call->answer);
-    vempaldi_plain_run(call->table, call->length, lent, numbers, call->answer);
+    vempaldi_plain_run(call->table, call->length, numbers ? lent : NULL, numbers, call->answer);
     answered(call, call->length);
     like_check(call, verdict);
     unchanged_but(call, plain, 0, call->answer[0] ? 0 : plain->size, "bytes outside the memory changed, or any in a refused run");
@@ -248,7 +249,8 @@ static void run(struct call *call, struct cursor *bytes, const struct lent *plai
     double *lent = memory(&own, numbers, seed);
     call->entry = 11;
     memset(call->answer, 0xee, sizeof call->answer);
-    uint64_t idle = vempaldi_run(call->table, call->length, call->processors, order, length, lent, numbers, call->answer);
+    uint64_t idle = vempaldi_run(call->table, call->length, call->processors, length ? order : NULL, length, numbers ? lent : NULL,
+                                 numbers, call->answer);
     answered(call, call->length);
     like_check(call, verdict);
     if (idle > length || (call->answer[0] && idle)) breach(call, "an idle count that cannot be");
