@@ -3,12 +3,16 @@
 use crate::outcome::{Failure, Outcome};
 use std::fs::{self, File};
 use std::io::{self, IsTerminal, Read, Write};
+use std::sync::atomic::{AtomicBool, Ordering};
 
 /// From how many files on a terminal shows how far the work is.
 const MANY: usize = 20;
 
 /// No table's answer depends on bytes behind these, so no more is read of a file that is none.
 const MOST_BYTES: u64 = 4_096;
+
+/// Whether a line of progress stands on the terminal, which has to go before anything else is written there.
+static SHOWN: AtomicBool = AtomicBool::new(false);
 
 /// The words for what was counted.
 pub struct Words {
@@ -46,10 +50,29 @@ pub fn write(name: Option<&str>, bytes: &[u8]) -> Result<(), Failure> {
 
 /// A reader that goes away early, such as `head`, is no error.
 pub fn print(bytes: &[u8]) -> Result<(), Failure> {
+    clear_progress();
     let mut out = io::stdout().lock();
     match out.write_all(bytes).and_then(|()| out.flush()) {
         Err(error) if error.kind() != io::ErrorKind::BrokenPipe => Err(Failure::Io("output".to_string(), error)),
         _ => Ok(()),
+    }
+}
+
+/// A line on the standard error.
+pub fn say(line: &str) {
+    clear_progress();
+    eprintln!("{line}");
+}
+
+fn show_progress(line: &str) {
+    clear_progress();
+    eprint!("{line}");
+    SHOWN.store(true, Ordering::Relaxed);
+}
+
+fn clear_progress() {
+    if SHOWN.swap(false, Ordering::Relaxed) {
+        eprint!("\r\x1b[K");
     }
 }
 
@@ -63,22 +86,20 @@ pub fn each(
     let shown = files.len() >= MANY && io::stderr().is_terminal();
     for (at, name) in files.iter().enumerate() {
         if shown {
-            eprint!("\r\x1b[K{} of {}, {bad} {}: {name}\r", at + 1, files.len(), words.bad);
+            show_progress(&format!("{} of {}, {bad} {}: {name}", at + 1, files.len(), words.bad));
         }
         match read_table(name).and_then(|bytes| work(name, &bytes)) {
             Ok(Outcome::Good) => good += 1,
             Ok(Outcome::Bad) => bad += 1,
             Err(failure) => {
-                eprintln!("vempaldi: {failure}");
+                say(&format!("vempaldi: {failure}"));
                 unread += 1;
             }
         }
     }
-    if shown {
-        eprint!("\r\x1b[K");
-    }
+    clear_progress();
     if files.len() > 1 {
-        eprintln!("{}", counted(words, good, bad, unread));
+        say(&counted(words, good, bad, unread));
     }
     match (bad, unread) {
         (_, 1..) => Err(Failure::Some(unread)),

@@ -1,5 +1,6 @@
 //! The text of --help.
 
+use crate::batch;
 use crate::outcome::{Failure, Outcome};
 
 const HELP: &str = "\
@@ -50,11 +51,11 @@ further lines.
 ";
 
 pub fn print() -> Result<Outcome, Failure> {
-    print!("{HELP}");
+    batch::print(HELP.as_bytes())?;
     Ok(Outcome::Good)
 }
 
 pub fn version() -> Result<Outcome, Failure> {
-    println!("vempaldi {}", env!("CARGO_PKG_VERSION"));
+    batch::print(concat!("vempaldi ", env!("CARGO_PKG_VERSION"), "\n").as_bytes())?;
     Ok(Outcome::Good)
 }

@@ -31,10 +31,10 @@ pub fn join(options: &Options) -> Result<Outcome, Failure> {
 fn refused(left: (&str, &[u8]), right: (&str, &[u8]), refusal: &Refusal) {
     for (name, table) in [left, right] {
         if let Err(own) = vempaldi::check(table) {
-            eprintln!("{name}: {}", describe(table, &own));
+            batch::say(&format!("{name}: {}", describe(table, &own)));
             return;
         }
     }
     let ground = refusal.ground;
-    eprintln!("{} and {}: refused {} {}: {}", left.0, right.0, ground.number(), ground.word(), ground.text());
+    batch::say(&format!("{} and {}: refused {} {}: {}", left.0, right.0, ground.number(), ground.word(), ground.text()));
 }

@@ -20,7 +20,7 @@ mod scale;
 mod svg;
 mod text;
 
-pub use parse::{make, TextError};
+pub use parse::{make, Made, TextError};
 pub use records::{decode, Item, Loop, Table};
 pub use text::dump;
 

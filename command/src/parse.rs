@@ -33,12 +33,12 @@ pub fn make_file(options: &Options) -> Result<Outcome, Failure> {
     let made = match make(&String::from_utf8_lossy(&bytes)) {
         Ok(made) => made,
         Err(error) => {
-            eprintln!("{name}:{error}");
+            batch::say(&format!("{name}:{error}"));
             return Ok(Outcome::Bad);
         }
     };
     if let Err(refusal) = vempaldi::check(&made.bytes) {
-        eprintln!("{name}:{}: {}", made.line_of(&refusal), describe(&made.bytes, &refusal));
+        batch::say(&format!("{name}:{}: {}", made.line_of(&refusal), describe(&made.bytes, &refusal)));
         return Ok(Outcome::Bad);
     }
     batch::write(options.value("-o"), &made.bytes)?;

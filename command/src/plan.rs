@@ -29,9 +29,9 @@ pub fn listing(table: &[u8], processors: u32) -> Result<String, Refusal> {
 
 /// Says the refusal of a plan or a run on the standard error.
 pub fn refused(name: &str, table: &[u8], refusal: &Refusal) -> Outcome {
-    eprintln!("{name}: {}", describe(table, refusal));
+    batch::say(&format!("{name}: {}", describe(table, refusal)));
     if let Some(more) = advice(table, refusal) {
-        eprintln!("{name}: {more}");
+        batch::say(&format!("{name}: {more}"));
     }
     Outcome::Bad
 }

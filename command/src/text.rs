@@ -17,7 +17,7 @@ pub fn dump_files(options: &Options) -> Result<Outcome, Failure> {
         match vempaldi::check(table) {
             Ok(()) => Ok(Outcome::Good),
             Err(refusal) => {
-                eprintln!("{name}: {}", describe(table, &refusal));
+                batch::say(&format!("{name}: {}", describe(table, &refusal)));
                 Ok(Outcome::Bad)
             }
         }
