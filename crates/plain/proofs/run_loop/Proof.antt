@@ -1,3 +1,8 @@
+use mathlib.Core.Path.{_∙_}
+use Prim.Native.Nat.{_+_, _-_}
+use lib.ListN.{getD}
+use Rattle.model.specs.Table.{iteration}
+use Rattle.iterations.specs.Memory.{run-length}
 use native.Mathlib.Omega.{arith}
 use mathlib.Core.Path.{_∙_}
 use denote.Ref.{now}
@@ -61,7 +66,7 @@ iterate-requires : tie.Need-iterate-requires Inv-loop μ-loop
 iterate-requires c κs = let a = c .before .before .before .before .before .before .args in
     let (t, r, h, e) = c .before .before .before .before .before .before .pre in
     let l = c .before .before .loop in
-    (t, r .loaded, turn-inside (now (a .firsts)) (now (a .lasts)) (now (a .starts)) (now (a .kinds)) (now (a .arrays)) (now (a .values)) (now (a .bases)) (a .number) t (r, h) (l .i) (l .inv .low) (c .before .loop-test .taken), l .inv .long ∙ e)
+    (t, r .loaded, turn-inside (now (a .firsts)) (now (a .lasts)) (now (a .starts)) (now (a .kinds)) (now (a .arrays)) (now (a .values)) (now (a .bases)) (a .number) t (r, h) (l .i) (l .inv .low) (omega (arith, c .before .loop-test .taken)), l .inv .long ∙ e)
 
 add-i : tie.Need-add-i Inv-loop μ-loop
 add-i c = let a = c .before .before .before .before .before .before .before .before .before .args in
@@ -80,7 +85,7 @@ loop-again c = let a = c .before .before .before .before .before .before .before
     let here = turn-inside (now (a .firsts)) (now (a .lasts)) (now (a .starts)) (now (a .kinds)) (now (a .arrays)) (now (a .values)) (now (a .bases)) (a .number) in
     left-next (InLoop (now (a .firsts)) (now (a .lasts)) (now (a .starts)) (now (a .kinds)) (now (a .arrays)) (now (a .values)) (now (a .bases)) (a .number)) (λ t j. run t (iteration (a .number) j)) (getD (now (a .firsts)) (a .number) 0) (getD (now (a .lasts)) (a .number) 0 + 1) (now (a .memory)) (l .i) (l .memory) (l .inv) (omega (arith, c .before .before .before .before .loop-test .taken)) _
     t (r, h) (run-length t (iteration (a .number) (l .i)))
-    (λ u p. after u (p .0 .loaded) (here u p (l .i) (l .inv .low) (c .before .before .before .before .loop-test .taken)))
+    (λ u p. after u (p .0 .loaded) (here u p (l .i) (l .inv .low) (omega (arith, c .before .before .before .before .loop-test .taken))))
 
 same-length : tie.Need-same-length Inv-loop μ-loop
 same-length c = c .before .loop .inv .long

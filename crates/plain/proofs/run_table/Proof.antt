@@ -1,4 +1,5 @@
 use mathlib.Core.Path.{sym, _∙_}
+use mathlib.Core.Path.{sym, _∙_}
 use denote.Ref.{now}
 use Rattle.reader.specs.Columns.{columns, count-table}
 use Rattle.plain.proofs.Laws.{held-running, held-total, held-unlike, held-run}
