@@ -19,8 +19,8 @@ use Rattle.tables.specs.declared.Outline.{Outline}
 use Rattle.tables.specs.Verdict.{numberOf, placeOf, Outlined}
 use Rattle.tables.specs.Nine.{accepted-read}
 use Rattle.bodies.specs.Workable.{Based}
-use Rattle.iterations.specs.Memory.{total, remembered, remembered-as-long, remembered-unlike}
-use Rattle.iterations.specs.Loaded.{loaded, based-total}
+use Rattle.iterations.specs.Memory.{total, remembered, remembered-as-long, remembered-unlike, run-length, looped-length}
+use Rattle.iterations.specs.Loaded.{Loaded, loaded, based-total}
 use Rattle.plain.specs.Plain.{plainAnswer, after, plainMemory, Told}
 use Rattle.plain.specs.Running.{Running}
 
@@ -60,24 +60,62 @@ module _ (fs ls ss ks qs vs bs : List ℕ) where
   abbrev pub OfLoops : ℕ → Table → Type 0
   OfLoops n t = Running t fs ls ss ks qs vs bs × (n ≡ count t)
 
-  module _ (k : ℕ) (t : Table) (p : InLoop k t) where
-    pub loop-small : (k < 16) × (getD fs k 0 ≤ getD ls k 0) × (getD ls k 0 ≤ 65790)
-    loop-small =
-        let v = p .0 .loaded .valid in
-        let f = p .0 .firsts k (p .1) in
-        let l = p .0 .lasts k (p .1) in
-        (omega (arith, p .1, v .few-loops), omega (arith, f, l, v .each k (p .1) .rising), omega (arith, l, valid-last t v k (p .1)))
+  pub loop-small : (k : ℕ) (t : Table) → InLoop k t → (k < 16) × (getD fs k 0 ≤ getD ls k 0) × (getD ls k 0 ≤ 65790)
+  loop-small k t p =
+      let v = p .0 .loaded .valid in
+      let f = p .0 .firsts k (p .1) in
+      let l = p .0 .lasts k (p .1) in
+      (omega (arith, p .1, v .few-loops), omega (arith, f, l, v .each k (p .1) .rising), omega (arith, l, valid-last t v k (p .1)))
 
-    pub turn-inside : (i : ℕ) → getD fs k 0 ≤ i → i ≤ getD ls k 0 → Inside t (iteration k i)
-    turn-inside i h l = (p .1, omega (arith, p .0 .firsts k (p .1)), omega (arith, p .0 .lasts k (p .1)))
+  -- the iterations of loop k, from the memory m₀
+  module _ (k : ℕ) (m₀ : List Float) where
+    abbrev pub LoopLeft : ℕ → List Float → Type 0
+    LoopLeft = Left (InLoop k) (λ t i. run t (iteration k i)) (getD fs k 0) (getD ls k 0 + 1) m₀
 
-    pub loop-is : (m : List Float) → upward (λ i. run t (iteration k i)) (getD fs k 0) (getD ls k 0 + 1 - getD fs k 0) m ≡ looped t k m
-    loop-is m =
-        rw (add-one (getD ls k 0))
-        (ap₂ (λ (f l : ℕ). upward (λ i. run t (iteration k i)) f (suc l - f) m) (p .0 .firsts k (p .1)) (p .0 .lasts k (p .1)))
+    pub loop-start : LoopLeft (getD fs k 0) m₀
+    loop-start = left-start (InLoop k) (λ t i. run t (iteration k i)) (getD fs k 0) (getD ls k 0 + 1) m₀
 
-  pub loops-are : (n : ℕ) (t : Table) → n ≡ count t → (m : List Float) → upward (looped t) 0 (n - 0) m ≡ plainRun t m
-  loops-are n t e m = let z : n - 0 ≡ count t = omega arith in ap (λ (k : ℕ). upward (looped t) 0 k m) z
+    module _ (i : ℕ) (m : List Float) (l : LoopLeft i m) where
+      within : i ≤ getD ls k 0 → (t : Table) → InLoop k t → Inside t (iteration k i)
+      within h t p = (p .1, omega (arith, p .0 .firsts k (p .1), l .low), omega (arith, p .0 .lasts k (p .1)))
+
+      pub loop-asks : i ≤ getD ls k 0 → (t : Table) → InLoop k t → length m₀ ≡ total t
+          → (t : Table) × Loaded t ss ks qs vs bs × Inside t (iteration k i) × (length m ≡ total t)
+      loop-asks h t p e = (t, p .0 .loaded, within h t p, l .long ∙ e)
+
+      pub loop-next : i ≤ getD ls k 0 → (n : List Float) (u : Table) → InLoop k u
+          → ((t : Table) → Loaded t ss ks qs vs bs → Inside t (iteration k i) → n ≡ run t (iteration k i) m) → LoopLeft (i + 1) n
+      loop-next h n u q f =
+          left-next (InLoop k) (λ t j. run t (iteration k j)) (getD fs k 0) (getD ls k 0 + 1) m₀ i m l (omega arith) n u q (run-length u (iteration k i))
+          (λ t p. f t (p .0 .loaded) (within h t p))
+
+      pub loop-end : getD ls k 0 < i → (t : Table) → Running t fs ls ss ks qs vs bs → k < count t → m ≡ looped t k m₀
+      loop-end h t r c =
+          left-end (InLoop k) (λ t j. run t (iteration k j)) (getD fs k 0) (getD ls k 0 + 1) m₀ i m l (omega arith) t (r, c)
+          ∙ (rw (add-one (getD ls k 0)) (ap₂ (λ (f z : ℕ). upward (λ j. run t (iteration k j)) f (suc z - f) m₀) (r .firsts k c) (r .lasts k c)))
+
+  -- n loops, from the memory m₀
+  module _ (n : ℕ) (m₀ : List Float) where
+    abbrev pub LoopsLeft : ℕ → List Float → Type 0
+    LoopsLeft = Left (OfLoops n) looped 0 n m₀
+
+    pub loops-start : LoopsLeft 0 m₀
+    loops-start = left-start (OfLoops n) looped 0 n m₀
+
+    module _ (k : ℕ) (m : List Float) (l : LoopsLeft k m) where
+      pub loops-asks : k < n → (t : Table) → OfLoops n t → length m₀ ≡ total t
+          → (t : Table) × Running t fs ls ss ks qs vs bs × (k < count t) × (length m ≡ total t)
+      loops-asks h t p e = (t, p .0, omega (arith, p .1), l .long ∙ e)
+
+      pub loops-next : k < n → (after : List Float) (u : Table) → OfLoops n u
+          → ((t : Table) → Running t fs ls ss ks qs vs bs → k < count t → after ≡ looped t k m) → LoopsLeft (k + 1) after
+      loops-next h after u q f =
+          left-next (OfLoops n) looped 0 n m₀ k m l h after u q (looped-length u k) (λ t p. f t (p .0) (omega (arith, p .1)))
+
+      pub loops-end : n ≤ k → (t : Table) → Running t fs ls ss ks qs vs bs → n ≡ count t → m ≡ plainRun t m₀
+      loops-end h t r c =
+          let z : n - 0 ≡ count t = omega arith in
+          left-end (OfLoops n) looped 0 n m₀ k m l h t (r, c) ∙ ap (λ (j : ℕ). upward (looped t) 0 j m₀) z
 
 -- A TABLE IN COLUMNS, ON A MEMORY
 module _ (c : Columns) (a l rows : ℕ) (sized : Sized c) (kept : Kept c a l rows) (v : Valid (tableAt c a l)) (bs : List ℕ) (b : Based bs (take a (c .lens))) where
@@ -87,14 +125,14 @@ module _ (c : Columns) (a l rows : ℕ) (sized : Sized c) (kept : Kept c a l row
   inside : (k : ℕ) → k < count held → k < l
   inside k h = omega (arith, count-table c a l)
 
-  pub held-running : Running held (c .firsts) (c .lasts) (c .starts) (c .kinds) (c .arrays) (c .values) bs
-  held-running = record {
+  running : Running held (c .firsts) (c .lasts) (c .starts) (c .kinds) (c .arrays) (c .values) bs
+  running = record {
     loaded = loaded c a l rows bs sized kept v b;
     firsts = λ k h. sym (ap (λ (x : Loop). x .first) (loop-table c a l k (inside k h)));
     lasts = λ k h. sym (ap (λ (x : Loop). x .last) (loop-table c a l k (inside k h)));
   }
 
-  pub held-total : getD bs 16 0 ≡ total held
+  held-total : getD bs 16 0 ≡ total held
   held-total = based-total bs (take a (c .lens)) 16 b (v .few-arrays) (omega arith)
 
   module _ (m : List Float) where
@@ -102,10 +140,15 @@ module _ (c : Columns) (a l rows : ℕ) (sized : Sized c) (kept : Kept c a l row
     unfolding after
     held-unlike e = let z = remembered-unlike (length m) held (λ q. e (q ∙ sym held-total)) in rw z (refl, refl)
 
-    pub held-run : length m ≡ getD bs 16 0 → (n : List Float) → n ≡ plainRun held m
+    pub held-asks : length m ≡ getD bs 16 0
+        → (t : Table) × Running t (c .firsts) (c .lasts) (c .starts) (c .kinds) (c .arrays) (c .values) bs × (l ≡ count t) × (length m ≡ total t)
+    held-asks e = (held, running, sym (count-table c a l), e ∙ held-total)
+
+    pub held-run : length m ≡ getD bs 16 0 → (n : List Float)
+        → ((t : Table) → Running t (c .firsts) (c .lasts) (c .starts) (c .kinds) (c .arrays) (c .values) bs → l ≡ count t → n ≡ plainRun t m)
         → (0 ≡ numberOf (remembered (length m) (accepted held))) × (n ≡ after (remembered (length m) (accepted held)) m)
     unfolding after
-    held-run e n f = let z = remembered-as-long (length m) held (e ∙ held-total) in rw z (refl, f)
+    held-run e n f = let z = remembered-as-long (length m) held (e ∙ held-total) in rw z (refl, f held running (sym (count-table c a l)))
 
 -- WHAT IS TOLD
 -- 12 has place 0, and is not 9

@@ -1,11 +1,10 @@
 use native.Mathlib.Omega.{arith}
 use mathlib.Core.Path.{subst}
-use mathlib.Core.List.{List}
+use mathlib.Core.List.{List, _∷_}
 use denote.Ref.{now}
 use Prim.Native.Nat.{_+_, _-_}
 use lib.ListN.{length}
 use borrow.Author.Needs.{needs}
-use mathlib.Core.List.{_∷_}
 use Rattle.model.specs.Table.{Item}
 use Rattle.reader.specs.Columns.{itemAt, itemsFrom}
 use Rattle.bodies.specs.Stack.{waiting}

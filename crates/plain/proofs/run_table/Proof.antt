@@ -1,8 +1,6 @@
-use mathlib.Core.Path.{sym, _∙_}
-use mathlib.Core.Path.{sym, _∙_}
+use Rattle.plain.proofs.Laws.{held-asks, held-unlike, held-run}
 use denote.Ref.{now}
-use Rattle.reader.specs.Columns.{columns, count-table}
-use Rattle.plain.proofs.Laws.{held-running, held-total, held-unlike, held-run}
+use Rattle.reader.specs.Columns.{columns}
 use borrow.Author.Needs.{needs}
 use Rattle.plain.proofs.run_table.Statement.{statement}
 use Rattle.plain.proofs.run_table.Tie as tie
@@ -26,7 +24,7 @@ run-loops-requires : tie.Need-run-loops-requires
 run-loops-requires c κs = let a = c .before .before .before .before .before .before .args in
     let d = columns (now (a .lens)) (now (a .firsts)) (now (a .lasts)) (now (a .starts)) (now (a .kinds)) (now (a .arrays)) (now (a .values)) in
     let (rows, z, k) = c .before .before .before .before .before .before .pre .0 in
-    (_, held-running d (a .many) (a .loops) rows z k (c .before .before .before .before .before .before .pre .1) (c .before .before .before .before .bases-of .result .firsts) (c .before .before .before .before .bases-of .ensures), sym (count-table d (a .many) (a .loops)), c .before .before .if1 .left ∙ held-total d (a .many) (a .loops) rows z k (c .before .before .before .before .before .before .pre .1) (c .before .before .before .before .bases-of .result .firsts) (c .before .before .before .before .bases-of .ensures))
+    held-asks d (a .many) (a .loops) rows z k (c .before .before .before .before .before .before .pre .1) (c .before .before .before .before .bases-of .result .firsts) (c .before .before .before .before .bases-of .ensures) (now (a .memory)) (c .before .before .if1 .left)
 
 same-length : tie.Need-same-length
 same-length c = search needs
@@ -35,7 +33,7 @@ returns-2 : tie.Need-returns-2
 returns-2 c = let a = c .before .before .before .before .before .before .before .before .before .args in
     let d = columns (now (a .lens)) (now (a .firsts)) (now (a .lasts)) (now (a .starts)) (now (a .kinds)) (now (a .arrays)) (now (a .values)) in
     let (rows, z, k) = c .before .before .before .before .before .before .before .before .before .pre .0 in
-    held-run d (a .many) (a .loops) rows z k (c .before .before .before .before .before .before .before .before .before .pre .1) (c .before .before .before .before .before .before .before .bases-of .result .firsts) (c .before .before .before .before .before .before .before .bases-of .ensures) (now (a .memory)) (c .before .before .before .before .before .if1 .left) _ (c .before .before .run-loops .ensures _ (held-running d (a .many) (a .loops) rows z k (c .before .before .before .before .before .before .before .before .before .pre .1) (c .before .before .before .before .before .before .before .bases-of .result .firsts) (c .before .before .before .before .before .before .before .bases-of .ensures)) (sym (count-table d (a .many) (a .loops))))
+    held-run d (a .many) (a .loops) rows z k (c .before .before .before .before .before .before .before .before .before .pre .1) (c .before .before .before .before .before .before .before .bases-of .result .firsts) (c .before .before .before .before .before .before .before .bases-of .ensures) (now (a .memory)) (c .before .before .before .before .before .if1 .left) _ (c .before .before .run-loops .ensures)
 
 pub run-table-spec : {M : Type 1} → statement M
 run-table-spec =
