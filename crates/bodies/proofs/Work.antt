@@ -1,22 +1,21 @@
 -- The items of a body, one by one: what is left to work, from what waits, gives what the whole body gives.
-use Prim.Native.Nat.{ℕ, zero, suc, _+_, _-_, _≤_, _<_}
+use Prim.Native.Nat.{ℕ, suc, _+_, _-_, _≤_, _<_}
 use native.Mathlib.Numerals.{add-one}
 use native.Mathlib.Omega.{arith}
-use mathlib.Core.Path.{_≡_, refl, sym, ap, subst, _∙_}
+use mathlib.Core.Path.{_≡_, refl}
 use mathlib.Core.Bool.{Bool, true, false, cond}
 use mathlib.Core.List.{List, [], _∷_}
 use lib.Dec.{eqb}
 use lib.ListN.{getD}
 use lib.Ieee.{Float, nan, binary64, ofInt}
 use lib.IntN.{pos}
-use borrow.Author.Tests.{eq-eqb, ne-eqb}
+use borrow.Author.Tests.{ne-eqb}
 use Rattle.records.specs.History.{operands}
 use Rattle.model.specs.Table.{Item, read, constant, operation}
-use Rattle.model.specs.Bodies.{begins, place, negated, combined, applied, worked, workedAll, value}
+use Rattle.model.specs.Bodies.{negated, combined, applied, worked, workedAll, value}
 use Rattle.reader.specs.Columns.{itemOf, itemAt, itemsFrom}
 use Rattle.grounds.specs.Accepted.{Works}
-use Rattle.bodies.specs.declared.Waiting.{Waiting}
-use Rattle.bodies.specs.Stack.{tops, waiting}
+use Rattle.bodies.specs.Stack.{tops}
 use Rattle.bodies.specs.Workable.{Based, Element, ReadsWithin, Ready, next}
 
 -- WHICH ITEM IT IS

@@ -1,21 +1,16 @@
 use native.Mathlib.Omega.{arith}
-use mathlib.Core.Path.{_≡_, sym, _∙_, subst}
-use mathlib.Core.List.{List}
+use mathlib.Core.Path.{subst}
+use mathlib.Core.List.{List, _∷_}
 use denote.Ref.{now}
-use Prim.Native.Nat.{_+_, _-_, _<_, _≤_}
-use lib.ListN.{length, getD}
+use Prim.Native.Nat.{_+_, _-_}
+use lib.ListN.{length}
 use borrow.Author.Needs.{needs}
-use mathlib.Core.List.{_∷_}
 use Rattle.model.specs.Table.{Item}
 use Rattle.reader.specs.Columns.{itemAt, itemsFrom}
 use Rattle.bodies.specs.Stack.{waiting}
 use Rattle.bodies.proofs.Work.{Left, left-start, left-ready, left-next, left-end, rows-first, rows-none}
 use Rattle.bodies.proofs.value_of.Statement.{statement}
 use Rattle.bodies.proofs.value_of.Tie as tie
-use Rattle.bodies.proofs.value_of.Reads as reads
-use Rattle.bodies.proofs.value_of.Lts as lts
-use Rattle.bodies.proofs.Waiting.none.Reads as none-reads
-use Rattle.bodies.proofs.Waiting.work.Reads as work-reads
 
 abbrev Inv-loop : tie.InvT-loop
 Inv-loop kinds arrays values bases from past i memory w₀ row₀ w row =
@@ -24,11 +19,9 @@ Inv-loop kinds arrays values bases from past i memory w₀ row₀ w row =
 abbrev μ-loop : tie.MeasureT-loop
 μ-loop kinds arrays values bases from past i memory w₀ row₀ w row = past - row
 
--- src/lib.rt:157:17
 none-requires : tie.Need-none-requires Inv-loop μ-loop
 none-requires c κs = tt
 
--- src/lib.rt:159:5
 loop-holds : tie.Need-loop-holds Inv-loop μ-loop
 loop-holds c = let a = c .before .before .args in
     let ks = now (a .kinds) in
@@ -39,27 +32,21 @@ loop-holds c = let a = c .before .before .args in
     let all = itemsFrom ks qs vs (a .from) (a .past - a .from) in
     left-start bs (a .i) m (length m) all (c .none .result .values) (c .none .result .count) (c .none .ensures) (c .before .before .pre .1 .0) (c .before .before .pre .1 .1)
 
--- src/lib.rt:160:20
 element-copy-out-work : tie.Need-element-copy-out-work Inv-loop μ-loop
 element-copy-out-work c = omega (arith, c .before .before .before .before .pre .0 .0)
 
--- src/lib.rt:160:32
 mul-work : tie.Need-mul-work Inv-loop μ-loop
 mul-work c = omega (arith, c .before .before .before .before .before .pre .0 .0)
 
--- src/lib.rt:160:32
 element-copy-out-work-2 : tie.Need-element-copy-out-work-2 Inv-loop μ-loop
 element-copy-out-work-2 c = omega (arith, c .before .before .before .before .before .pre .0 .0)
 
--- src/lib.rt:160:45
 mul-work-2 : tie.Need-mul-work-2 Inv-loop μ-loop
 mul-work-2 c = omega (arith, c .before .before .before .before .before .before .pre .0 .0)
 
--- src/lib.rt:160:45
 element-copy-out-work-3 : tie.Need-element-copy-out-work-3 Inv-loop μ-loop
 element-copy-out-work-3 c = omega (arith, c .before .before .before .before .before .before .pre .0 .0)
 
--- src/lib.rt:160:13
 work-requires : tie.Need-work-requires Inv-loop μ-loop
 work-requires c κs = let a = c .before .before .before .before .before .before .before .args in
     let ks = now (a .kinds) in
@@ -75,15 +62,12 @@ work-requires c κs = let a = c .before .before .before .before .before .before 
     subst (λ (xs : List Item). Left bs (a .i) m (length m) all xs (waiting (l .w)) (l .w .count)) (rows-first ks qs vs (l .row) (a .past) (c .before .before .before .loop-test .taken)) (l .inv) in
     (c .before .before .before .before .before .before .before .pre .0 .1, left-ready bs (a .i) m (length m) all x rest (waiting (l .w)) (l .w .count) here)
 
--- src/lib.rt:161:9
 add-row : tie.Need-add-row Inv-loop μ-loop
 add-row c = omega (arith, c .before .before .before .before .before .before .before .before .pre .0 .0)
 
--- src/lib.rt:159:5
 loop-less : tie.Need-loop-less Inv-loop μ-loop
 loop-less c = omega arith
 
--- src/lib.rt:159:5
 loop-again : tie.Need-loop-again Inv-loop μ-loop
 loop-again c = let a = c .before .before .before .before .before .before .before .before .args in
     let ks = now (a .kinds) in
@@ -99,11 +83,9 @@ loop-again c = let a = c .before .before .before .before .before .before .before
     subst (λ (xs : List Item). Left bs (a .i) m (length m) all xs (waiting (l .w)) (l .w .count)) (rows-first ks qs vs (l .row) (a .past) (c .before .before .before .before .loop-test .taken)) (l .inv) in
     left-next bs (a .i) m (length m) all x rest (waiting (l .w)) (l .w .count) here (waiting (c .work .result)) (c .work .result .count) (c .work .ensures .0) (c .work .ensures .1)
 
--- src/lib.rt:163:5
 element-copy-out-result : tie.Need-element-copy-out-result Inv-loop μ-loop
 element-copy-out-result c = search needs
 
--- src/lib.rt:142:1
 returns : tie.Need-returns Inv-loop μ-loop
 returns c = let a = c .before .before .before .before .before .args in
     let ks = now (a .kinds) in
