@@ -16,7 +16,6 @@ use Rattle.model.specs.declared.Reference.{Reference}
 use Rattle.model.specs.Table.{Table, iteration, Inside}
 use Rattle.model.specs.References.{allRefs}
 use Rattle.model.specs.Bodies.{run}
-use Rattle.model.specs.PlainRun.{plainRun}
 use Rattle.model.specs.Sound.{Sound}
 use Rattle.reader.specs.Reading.{accepted}
 use Rattle.chains.specs.Dependence.{Dependence}
@@ -30,6 +29,7 @@ use Rattle.plans.specs.Plans.{shiftOf, peelOf, planOf, planned}
 use Rattle.plans.specs.Known.{valid}
 use Rattle.plans.specs.Fitting.{planned-fits}
 use Rattle.iterations.specs.Memory.{total}
+use Rattle.plain.specs.Plain.{plainMemory, plain-memory}
 use Rattle.stepping.specs.declared.Report.{Report}
 use Rattle.stepping.specs.declared.Report.the-variants.{Refused, Performed, Waiting, Finished}
 use Rattle.stepping.specs.Step.{fused, peeled}
@@ -93,11 +93,12 @@ module _ (s : List ℕ) (P : ℕ) (t : Table) (planned-is : planned s P ≡ acce
     all-reported : Complete → rows.AllReported t (planOf t P) (wide s P t planned-is) bs
     all-reported all x i = rw (← row-is) (performed-mem x (reports s P bs noneDone m) (all x i))
 
-    pub any-row : Complete → memoryAfter s P bs noneDone m ≡ plainRun t m
+    pub any-row : Complete → memoryAfter s P bs noneDone m ≡ plainMemory s m
     any-row all =
         follow .memory
         ∙ ap (λ (l : List Iteration). runAll (run t) l m) (sym (follow .iterations) ∙ row-is)
         ∙ rows.any-row t sound Counts none-missed (planOf t P) legal (wide s P t planned-is) bs (all-reported all) m
+        ∙ sym (plain-memory s t m (planned-fits s P t planned-is .read) fits)
 
     -- BESIDE IT, of every row, complete or not: no iteration is reported twice
     pub once : NoDup row

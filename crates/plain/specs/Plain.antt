@@ -2,6 +2,7 @@
 use Prim.Native.Nat.{ℕ}
 use mathlib.Core.Path.{_≡_}
 use mathlib.Core.List.{List}
+use borrow.Author.Tests.{eq-eqb}
 use lib.ListN.{length}
 use lib.Ieee.{Float}
 use Rattle.model.specs.Table.{Table}
@@ -11,7 +12,7 @@ use Rattle.serial.specs.Serial.{table}
 use Rattle.serial.specs.Meeting.{Collides}
 use Rattle.tables.specs.declared.Verdict.{Verdict}
 use Rattle.tables.specs.Verdict.{numberOf, placeOf}
-use Rattle.iterations.specs.Memory.{remembered}
+use Rattle.iterations.specs.Memory.{total, remembered}
 
 -- 1 to 9, then 12, for a memory of n elements
 unfoldable pub plainAnswer : List ℕ → ℕ → Answer
@@ -31,3 +32,8 @@ pub record Told (s : List ℕ) (a : Answer) (v : Verdict) : Type 0 where
   pub place : v .place ≡ placeOf a
   pub named : (t : Table) → reading s ≡ accepted t → v .number ≡ 9 → Collides t (v .place) (v .read)
   pub unnamed : (v .number ≡ 9 → ⊥) → v .read ≡ 0
+
+-- LAW: of an accepted table and a memory of its length it is the plain run of the table
+pub plain-memory : (s : List ℕ) (t : Table) (m : List Float) → table s ≡ accepted t → length m ≡ total t → plainMemory s m ≡ plainRun t m
+unfolding plainMemory after plainAnswer remembered
+plain-memory s t m e l = rw (e, eq-eqb (length m) (total t) l)
