@@ -6,11 +6,11 @@ use mathlib.Core.Path.{_≡_, refl, sym, ap, subst, _∙_, fun-ext}
 use mathlib.Core.Logic.{⊎-elim}
 use mathlib.Core.List.{List, _∷_, _++_, List·Memᴰ·cases-cons}
 use mathlib.Core.List.{List·Memᴰ as Mem, List·Memᴰ·head as mhere, List·Memᴰ·tail as mthere}
-use lib.ListN.{length, drop}
+use lib.ListN.{length}
 use lib.Ieee.{Float}
 use Rattle.order.specs.Lists.{Before, NoDup}
 use Rattle.order.specs.Reorder.{runAll}
-use Rattle.order.specs.Machine.{trace, final, zeros, left, mine}
+use Rattle.order.specs.Machine.{trace, zeros, left}
 use Rattle.model.specs.declared.Iteration.{Iteration}
 use Rattle.model.specs.declared.Reference.{Reference}
 use Rattle.model.specs.Table.{Table, iteration, Inside}
@@ -33,7 +33,7 @@ use Rattle.plain.specs.Plain.{plainMemory, plain-memory}
 use Rattle.stepping.specs.declared.Report.{Report}
 use Rattle.stepping.specs.declared.Report.the-variants.{Refused, Performed, Waiting, Finished}
 use Rattle.stepping.specs.Step.{fused, peeled}
-use Rattle.stepping.specs.Row.{noneDone, reports, countsAfter, memoryAfter}
+use Rattle.stepping.specs.Row.{noneDone, reports, memoryAfter}
 use Rattle.stepping.specs.Reach.{none-done, none-reachable}
 use Rattle.calls.specs.Turns.{done, machine}
 use Rattle.calls.specs.Rows.{performed, few, wide, follows, Follows}
@@ -103,22 +103,6 @@ module _ (s : List ℕ) (P : ℕ) (t : Table) (planned-is : planned s P ≡ acce
     -- BESIDE IT, of every row, complete or not: no iteration is reported twice
     pub once : NoDup row
     once = rw row-is (rows.once-reported t (planOf t P) (wide s P t planned-is) bs)
-
-    -- each processor keeps its own list's order: what has been reported of it, and then what it has left, is its fused list and then its
-    -- peeled list
-    pub own-order : (b : ℕ) → b < P
-        → mine (machine t P (few s P t planned-is) (wide s P t planned-is)) b row ++ drop (column (countsAfter s P bs noneDone m) b) (fused t P b ++ peeled t P b)
-        ≡ fused t P b ++ peeled t P b
-    own-order b l =
-        let p = machine t P (few s P t planned-is) (wide s P t planned-is) in
-        let whole = fused t P b ++ peeled t P b in
-        let counted : column (countsAfter s P bs noneDone m) b ≡ final p bs zeros b =
-        ap (λ (f : ℕ → ℕ). f b) (follow .counts ∙ ap (final p bs) none-is) in
-        ap (λ (k : List Iteration). mine p b k ++ drop (column (countsAfter s P bs noneDone m) b) whole) row-is
-        ∙ ap (λ (n : ℕ). mine p b (rows.reported t (planOf t P) (wide s P t planned-is) bs) ++ drop n whole) counted
-        ∙ ap (λ (k : List Iteration). mine p b (rows.reported t (planOf t P) (wide s P t planned-is) bs) ++ drop (final p bs zeros b) k)
-        (sym (rows.list-of t (planOf t P) (wide s P t planned-is) b l))
-        ∙ rows.own-order t (planOf t P) (wide s P t planned-is) bs b l
 
     -- no peeled iteration is reported before the last fused one
     pub barrier : (a b : ℕ) (x y : Iteration) → a < P → b < P → Mem x (peeled t P a) → Mem y (fused t P b) → Mem x row → Before y x row

@@ -3,7 +3,7 @@ use Prim.Native.Nat.{ℕ, _+_, _-_, _≤_, _<_}
 use native.Mathlib.Omega.{arith}
 use mathlib.Core.Path.{_≡_, refl, sym, ap, _∙_}
 use mathlib.Core.Logic.{_⊎_, inl, inr}
-use mathlib.Core.Bool.{Bool, true, false, cond}
+use mathlib.Core.Bool.{Bool, true, false}
 use mathlib.Core.List.{List, _++_}
 use lib.ListN.{length, getD, length-append, List·getD-append}
 use lib.Seq.{getD-append-add}
@@ -17,7 +17,7 @@ use Rattle.plans.specs.Fitting.{named-fits}
 use Rattle.iterations.specs.Memory.{total, remembered, remembered-accepted}
 use Rattle.stepping.specs.declared.Report.{Report}
 use Rattle.stepping.specs.declared.Report.the-variants.{Refused, Performed, Waiting, Finished}
-use Rattle.stepping.specs.Step.{After, stays, fused, peeled, closed, wrongState, turn, stepped, step}
+use Rattle.stepping.specs.Step.{After, stays, fused, peeled, wrongState, turn, stepped, step}
 use Rattle.stepping.specs.Reach.{Opened, Turn, early, waits, late, ends, turn-is, closed-opened, closed-which}
 
 -- a call is refused and changes nothing, or it is a turn of an accepted table, P, memory and state
@@ -83,8 +83,8 @@ module _ (s : List ℕ) (P b : ℕ) (cs : List ℕ) (m : List Float) where
           let z : column cs b ≡ length (fused t P b) + (column cs b - length (fused t P b)) = omega arith in (
             omega (arith, length-append (fused t P b) (peeled t P b)),
             ap (λ (n : ℕ). getD (fused t P b ++ peeled t P b) n (iteration 0 0)) z
-            ∙ getD-append-add (fused t P b) (peeled t P b) (column cs b - length (fused t P b)) (iteration 0 0)
-            ∙ ap named q,
+                ∙ getD-append-add (fused t P b) (peeled t P b) (column cs b - length (fused t P b)) (iteration 0 0)
+                ∙ ap named q,
           )
       by t a (ends f c h) q = absurd (omega (arith, ap tag q))
 
