@@ -40,7 +40,7 @@ begins-next [] a = refl
 begins-next (n ∷ ns) zero = omega (arith, begins-none ns)
 begins-next (n ∷ ns) (suc a) = omega (arith, begins-next ns a)
 
-pub begins-most : (ns : List ℕ) (a : ℕ) → begins ns a ≤ sum ns
+begins-most : (ns : List ℕ) (a : ℕ) → begins ns a ≤ sum ns
 begins-most [] a = omega arith
 begins-most (n ∷ ns) zero = omega arith
 begins-most (n ∷ ns) (suc a) = omega (arith, begins-most ns a)
@@ -84,7 +84,7 @@ module _ (ns firsts : List ℕ) where
   filled-all next k f h a l = f .filled a (omega arith)
 
 -- A STORE, in an array's own part of the memory
-pub part-long : (m : List Float) (b at : ℕ) → b + at < length m → at < length (midOf b (length m - b) m)
+part-long : (m : List Float) (b at : ℕ) → b + at < length m → at < length (midOf b (length m - b) m)
 part-long m b at h = omega (arith, mid-len b (length m) m (omega arith))
 
 pub part-stored : (m : List Float) (b at : ℕ) (x : Float) → b + at < length m

@@ -106,6 +106,16 @@ fn run_table(
     0
 }
 
+fn outcome(number: usize, place: usize, read: usize) -> Verdict
+    ensures { λ r. ⌜ r ≡ record { number = number; place = place; read = read } ⌝ }
+{
+    Verdict {
+        number,
+        place,
+        read,
+    }
+}
+
 // A table's bytes and a memory: 1 to 9, then 12, and a refused run changes nothing.
 pub fn plain_run(s: &[u8], memory: &mut [f64]) -> Verdict
     ensures { λ r. ⌜ Told (now (s .entry)) (plainAnswer (now (s .entry)) (length (now (memory .entry)))) r ⌝ }
@@ -129,11 +139,7 @@ pub fn plain_run(s: &[u8], memory: &mut [f64]) -> Verdict
         &mut values,
     );
     if o.number != 0 {
-        return Verdict {
-            number: o.number,
-            place: o.place,
-            read: o.read,
-        };
+        return outcome(o.number, o.place, o.read);
     }
     let number = run_table(
         o.arrays,
@@ -147,9 +153,5 @@ pub fn plain_run(s: &[u8], memory: &mut [f64]) -> Verdict
         &values,
         memory,
     );
-    Verdict {
-        number,
-        place: 0,
-        read: 0,
-    }
+    outcome(number, 0, 0)
 }
