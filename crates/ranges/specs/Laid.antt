@@ -94,14 +94,14 @@ pub laid-for : (s : List ℕ) (P b : ℕ) (p : Plan) (c : Columns) → Made (pla
 laid-for s P b p c made =
     let (e, l) = named-fits s P b (tableAt c (p .arrays) (p .loops)) (made .is) in (
       laid s P p c
-      (record {
-        is = e;
-        sized = made .sized;
-        kept = made .kept;
-        shifts-are = made .shifts-are;
-        peels-are = made .peels-are;
-        first-is = made .first-is;
-        count-is = made .count-is;
-      }),
+          (record {
+            is = e;
+            sized = made .sized;
+            kept = made .kept;
+            shifts-are = made .shifts-are;
+            peels-are = made .peels-are;
+            first-is = made .first-is;
+            count-is = made .count-is;
+          }),
       l,
     )
