@@ -3,7 +3,9 @@ use Prim.Native.Nat.{ℕ, zero, suc, _+_, _*_, _≤_, _<_}
 use native.Mathlib.Omega.{arith}
 use native.Mathlib.Numerals.{add-one}
 use mathlib.Core.Path.{_≡_, refl, sym, ap, subst, _∙_}
+use mathlib.Core.Bool.{Bool, true, false}
 use mathlib.Core.List.{List, [], _∷_, _++_, append-nil}
+use lib.Dec.{ltb}
 use lib.ListN.{length, getD, length-append}
 use borrow.Author.Tests.{lt-ltb, le-ltb}
 use Rattle.order.specs.Lists.{joined}
@@ -15,13 +17,14 @@ use Rattle.chains.specs.Walk.{shifts, peels}
 use Rattle.text.specs.Written.{written, Put, put-none, put-then, put-most, written-front}
 use Rattle.numbers.specs.declared.Outcome.{Outcome}
 use Rattle.numbers.specs.Numbers.{four, encoded, encoded-length, encoded-append}
-use Rattle.numbers.specs.Given.{Given, refused, numbers, final, numberOf, placeOf, countOf}
+use Rattle.numbers.specs.Given.{Given, refused, numbers, pick, final, numberOf, placeOf, countOf}
 use Rattle.tables.specs.declared.Outline.{Outline}
 use Rattle.tables.specs.Verdict.{Outlined}
 use Rattle.tables.specs.Verdict as Verdict
 use Rattle.plans.specs.declared.Measured.{Measured}
-use Rattle.plans.specs.Plans.{Measures, shiftOf, peelOf}
-use Rattle.entries.specs.Entries.{after, amountsOf, amounts, Told}
+use Rattle.plans.specs.Plans.{Measures, Tells, shiftOf, peelOf}
+use Rattle.entries.specs.Entries.{after, amountsOf, Told}
+use Rattle.entries.specs.Code.{Gives}
 
 -- A ROW OF NUMBERS
 module _ (f : ℕ → List ℕ) where
@@ -60,56 +63,67 @@ unfolding final
 refused-after (accepted t) more n = absurd (n refl)
 refused-after (Answer.refused g p) more n = (refl, refl, refl, λ out. refl)
 
--- an entry that asks for the numbers f of a table that was read through 9
-module _ (s : List ℕ) (c : Columns) (o : Outline) (outlined : Outlined s o c) (f : Table → List ℕ) (out : List ℕ) where
-  abbrev pub given : Given
-  given = after (table s) (λ t. numbers (length out) (f t))
+-- the numbers do not fit; they are written
+pub gives-short : (xs out : List ℕ) → length out < length (encoded xs) → Gives xs out out (refusing 13 0 0)
+unfolding numbers final
+gives-short xs out l = let e = lt-ltb (length out) (length (encoded xs)) l in record { tells = rw e; leaves = rw e }
 
-  pub entry-refused : (o .number ≡ 0 → ⊥) → Told s given (refusing (o .number) (o .place) (o .read)) × (out ≡ final given out)
-  entry-refused n =
-      let told = outlined .told in
-      let (a, b, d, e) = refused-after (table s) (λ t. numbers (length out) (f t)) (λ z. n (told .number ∙ z)) in (
+pub gives-written : (xs out left : List ℕ) (past most : ℕ) → length (encoded xs) ≤ length out → Put out 0 (encoded xs) most left past
+    → Gives xs out left (record { number = 0; place = 0; read = 0; written = past })
+unfolding numbers final
+gives-written xs out left past most l p =
+    let e = le-ltb (length out) (length (encoded xs)) l in
+    let q : past ≡ length (encoded xs) = omega (arith, p .place) in
+    record { tells = rw (e, q); leaves = rw e (p .bytes ∙ written-front out (encoded xs) l) }
+
+not-nine : (room : ℕ) (xs : List ℕ) → numberOf (numbers room xs) ≡ 9 → ⊥
+unfolding numbers
+not-nine room xs = go (ltb room (length (encoded xs)))
+  where
+    go : (b : Bool) → numberOf (pick b (refused 13 0) (Given.written (encoded xs))) ≡ 9 → ⊥
+    go true z = omega (arith, z)
+    go false z = omega (arith, z)
+
+-- what is told of a table's outline is told of its answer
+pub outline-tells : (s : List ℕ) (o : Outline) (c : Columns) → Outlined s o c → Tells s (table s) (o .number) (o .place) (o .read)
+outline-tells s o c g = record { number-is = g .told .number; place-is = g .told .place; named = g .told .named; unnamed = g .told .unnamed }
+
+-- AN ENTRY that asks for the numbers f of a table, where the answer is a
+module _ (s : List ℕ) (a : Answer) (f : Table → List ℕ) (out : List ℕ) where
+  abbrev pub given : Given
+  given = after a (λ t. numbers (length out) (f t))
+
+  pub entry-refused : (number place read : ℕ) → Tells s a number place read → (number ≡ 0 → ⊥)
+      → Told s given (refusing number place read) × (out ≡ final given out)
+  entry-refused number place read h n =
+      let (p, q, d, e) = refused-after a (λ t. numbers (length out) (f t)) (λ z. n (h .number-is ∙ z)) in (
         record {
-          says = record { number = told .number ∙ sym a; place = told .place ∙ sym b; count = sym d };
-          named = told .named;
-          unnamed = told .unnamed;
+          says = record { number = h .number-is ∙ sym p; place = h .place-is ∙ sym q; count = sym d };
+          named = h .named;
+          unnamed = h .unnamed;
         },
         sym (e out),
       )
 
-  module _ (none : o .number ≡ 0) where
-    abbrev pub t : Table
-    t = tableAt c (o .arrays) (o .loops)
-
-    is : given ≡ numbers (length out) (f t)
-    is = ap (λ (a : Answer). after a (λ u. numbers (length out) (f u))) (outlined .held none .0)
-
-    pub entry-short : length out < length (encoded (f t)) → Told s given (refusing 13 0 0) × (out ≡ final given out)
-    unfolding numbers final
-    entry-short l =
-        let e : given ≡ refused 13 0 = is ∙ (rw (lt-ltb (length out) (length (encoded (f t))) l)) in
-        rw e (
+  module _ (t : Table) (is : a ≡ accepted t) where
+    pub entry-given : (left : List ℕ) (o : Outcome) → Gives (f t) out left o → Told s given o × (left ≡ final given out)
+    entry-given left o g =
+        let e : given ≡ numbers (length out) (f t) = ap (λ (x : Answer). after x (λ u. numbers (length out) (f u))) is in
+        rw (e, g .tells) (
           record {
             says = record { number = refl; place = refl; count = refl };
-            named = λ u q z. absurd (omega (arith, z));
+            named = λ u q z. absurd (not-nine (length out) (f t) z);
             unnamed = λ z. refl;
           },
-          refl,
+          g .leaves,
         )
+
+    pub entry-short : length out < length (encoded (f t)) → Told s given (refusing 13 0 0) × (out ≡ final given out)
+    entry-short l = entry-given out (refusing 13 0 0) (gives-short (f t) out l)
 
     pub entry-written : length (encoded (f t)) ≤ length out → (left : List ℕ) (past most : ℕ) → Put out 0 (encoded (f t)) most left past
         → Told s given (record { number = 0; place = 0; read = 0; written = past }) × (left ≡ final given out)
-    unfolding numbers final
-    entry-written l left past most p =
-        let e : given ≡ Given.written (encoded (f t)) = is ∙ (rw (le-ltb (length out) (length (encoded (f t))) l)) in
-        rw e (
-          record {
-            says = record { number = refl; place = refl; count = omega (arith, p .place) };
-            named = λ u q z. absurd (omega (arith, z));
-            unnamed = λ z. refl;
-          },
-          p .bytes ∙ written-front out (encoded (f t)) l,
-        )
+    entry-written l left past most p = entry-given left _ (gives-written (f t) out left past most l p)
 
 -- the pairs that the code writes are the table's shifts and peels
 module _ (s : List ℕ) (c : Columns) (m : Measured) (h : Measures s m c) (none : m .outline .number ≡ 0) where
