@@ -1,13 +1,15 @@
 -- What is known of the columns that hold a plan: bounds, and the lists that their ranges give.
 use Prim.Native.Nat.{ℕ, zero, suc, _+_, _-_, _*_, _≤_, _<_, _^_, min, max}
 use native.Mathlib.Omega.{arith}
-use mathlib.Core.Path.{_≡_, sym, ap, _∙_}
+use mathlib.Core.Path.{_≡_, refl, sym, ap, _∙_}
 use mathlib.Core.Bool.{Bool, true, false, cond}
-use mathlib.Core.List.{List}
+use mathlib.Core.List.{List, [], _∷_}
+use mathlib.Core.List.{List·Memᴰ as Mem, List·Memᴰ·head as mhere, List·Memᴰ·tail as mthere}
 use lib.Dec.{eqb}
 use lib.ListN.{length, getD, take, length-take}
 use lib.Seq.{getD-take}
-use Rattle.model.specs.Table.{Table, count}
+use Rattle.model.specs.Table.{Table, count, iteration, Inside}
+use Rattle.model.specs.declared.Iteration.{Iteration}
 use Rattle.blocks.specs.declared.Range.{Range}
 use Rattle.blocks.specs.Sums.{column, total-same}
 use Rattle.blocks.specs.Blocks.{edge, block, blockAt, start-up, start-last}
@@ -15,13 +17,19 @@ use Rattle.blocks.specs.Parts.{fusedPart, peeledPart}
 use Rattle.lists.specs.Lists.{ranges}
 use Rattle.lists.specs.Search.{Aligned}
 use Rattle.lists.specs.Below.{lengths, by-sums-length, by-loops-length}
-use Rattle.lists.specs.Fusion.{fusedRange, peeledRange, fused-columns, peeled-columns}
+use Rattle.lists.specs.Fusion.{fused-list, peeled-list, fusedRange, peeledRange, fused-columns, peeled-columns}
 use Rattle.plans.specs.declared.Plan.{Plan}
 use Rattle.plans.specs.Plans.{planOf}
 use Rattle.ranges.specs.declared.Part.{Part}
 use Rattle.ranges.specs.declared.Part.the-variants.{Fused, Peeled}
 use Rattle.ranges.specs.Laid.{Laid, Some}
 use Rattle.ranges.specs.Code.{partOf, rangeOf, rangeIn, listOf, listIn, range-in}
+
+-- the n-th of a list stands in it
+nth-mem : {A : Type 0} (xs : List A) (d : A) (n : ℕ) → n < length xs → Mem (getD xs n d) xs
+nth-mem [] d n l = absurd (omega arith)
+nth-mem (x ∷ xs) d zero l = mhere refl
+nth-mem (x ∷ xs) d (suc n) l = mthere (nth-mem xs d n (omega arith))
 
 -- WHAT THE CODE ASKS
 module _ (P : ℕ) (p : Plan) (firsts lasts : List ℕ) (h : Some P p firsts lasts) where
@@ -94,6 +102,18 @@ module _ (t : Table) (P : ℕ) (p : Plan) (firsts lasts : List ℕ) (h : Laid t 
       long Fused = by-sums-length (count t) (fusedRange t (planOf t P) b) (planOf t P .shift)
       long Peeled = by-loops-length (count t) (peeledRange t (planOf t P) b)
 
+  -- each of its iterations is one of the table, and so of small numbers
+  pub listed-small : (part : Part) (b n : ℕ) → b < P → n < length (listIn part t P b)
+      → (getD (listIn part t P b) n (iteration 0 0) .number < 16) × (getD (listIn part t P b) n (iteration 0 0) .index ≤ 65790)
+  listed-small part b n l i = small _ (inside part (nth-mem (listIn part t P b) (iteration 0 0) n i))
+    where
+      inside : (x : Part) {y : Iteration} → Mem y (listIn x t P b) → Inside t y
+      inside Fused {y} m = fused-list t (planOf t P) b y l .0 m .0
+      inside Peeled {y} m = peeled-list t (planOf t P) b y l .0 m .0
+
+      small : (y : Iteration) → Inside t y → (y .number < 16) × (y .index ≤ 65790)
+      small y (c, f, g) = (omega (arith, h .few-loops), omega (arith, h .small-last (y .number) c))
+
   -- from columns of the ranges
   module _ (part : Part) (b : ℕ) (froms pasts : List ℕ) (long : (length froms ≡ 16) × (length pasts ≡ 16))
       (e : (k : ℕ) → k < p .loops → ranges froms pasts k ≡ rangeOf part p P firsts lasts b k) where
@@ -129,3 +149,7 @@ module _ (t : Table) (P : ℕ) (p : Plan) (firsts lasts : List ℕ) (h : Laid t 
         → ((length (take (p .loops) froms) ≤ 16) × Aligned (take (p .loops) froms) (take (p .loops) pasts) (take (p .loops) (p .amounts .shifts)))
         × (n < length (listOf part (take (p .loops) froms) (take (p .loops) pasts) (take (p .loops) (p .amounts .shifts))))
     nth-asks n l = (aligned, rw list-held l)
+
+    -- and counts the list by its ranges
+    pub size-in : lengths (length (take (p .loops) froms)) (ranges (take (p .loops) froms) (take (p .loops) pasts)) ≡ length (listIn part t P b)
+    size-in = cut-lengths (p .loops) froms pasts (omega (arith, h .loops, h .few-loops)) long (rangeOf part p P firsts lasts b) e ∙ lengths-in part b
