@@ -1,15 +1,17 @@
 -- The numbers that each entry gives, four bytes each, or the refusal: 1 to 9, then 10 and 11 where P is asked, then 13.
-use Prim.Native.Nat.{ℕ}
+use Prim.Native.Nat.{ℕ, suc, _-_}
 use mathlib.Core.Path.{_≡_}
 use mathlib.Core.List.{List, [], _∷_}
 use Rattle.order.specs.Lists.{joined}
 use Rattle.model.specs.Table.{Table, count}
+use Rattle.model.specs.declared.Iteration.{Iteration}
 use Rattle.reader.specs.Reading.{Answer, accepted, reading}
 use Rattle.serial.specs.Serial.{table}
 use Rattle.serial.specs.Meeting.{Collides}
 use Rattle.numbers.specs.declared.Outcome.{Outcome}
 use Rattle.numbers.specs.Given.{Given, refused, numbers, Says}
-use Rattle.plans.specs.Plans.{shiftOf, peelOf, thresholdOf}
+use Rattle.plans.specs.Plans.{shiftOf, peelOf, thresholdOf, planOf, planned, plannedFor}
+use Rattle.lists.specs.Fusion.{fusedList, peeledList}
 use Rattle.sweeps.specs.Sweeps.{before}
 use Rattle.sweeps.specs.Sweeps as Sweeps
 
@@ -22,6 +24,15 @@ after (accepted t) more = more t
 abbrev pub amountsOf : Table → List ℕ
 amountsOf t = joined (count t) (λ k. shiftOf t k ∷ peelOf t k ∷ [])
 
+-- first and last index of each block
+abbrev pub blocksOf : ℕ → Table → List ℕ
+blocksOf P t = joined P (λ b. planOf t P .edge b ∷ (planOf t P .edge (suc b) - 1) ∷ [])
+
+-- loop and iteration
+abbrev pub pairsOf : List Iteration → List ℕ
+pairsOf [] = []
+pairsOf (x ∷ xs) = x .number ∷ x .index ∷ pairsOf xs
+
 -- each entry, with so much room
 unfoldable pub amounts : List ℕ → ℕ → Given
 amounts s room = after (table s) (λ t. numbers room (amountsOf t))
@@ -31,6 +42,16 @@ thresholds s room = after (table s) (λ t. numbers room (thresholdOf t ∷ []))
 
 unfoldable pub sweepsGiven : List ℕ → ℕ → Given
 sweepsGiven s room = after (table s) (λ t. numbers room (before t ∷ Sweeps.after t ∷ []))
+
+unfoldable pub blocksGiven : List ℕ → ℕ → ℕ → Given
+blocksGiven s P room = after (planned s P) (λ t. numbers room (blocksOf P t))
+
+-- the lists of processor b
+unfoldable pub fusedGiven : List ℕ → ℕ → ℕ → ℕ → Given
+fusedGiven s P b room = after (plannedFor s P b) (λ t. numbers room (pairsOf (fusedList t (planOf t P) b)))
+
+unfoldable pub peeledGiven : List ℕ → ℕ → ℕ → ℕ → Given
+peeledGiven s P b room = after (plannedFor s P b) (λ t. numbers room (pairsOf (peeledList t (planOf t P) b)))
 
 -- what is told: the outcome, and the read that 9 names, which collides
 pub record Told (s : List ℕ) (g : Given) (o : Outcome) : Type 0 where

@@ -1,11 +1,13 @@
 use mathlib.Core.Path.{_∙_}
+use Rattle.ranges.proofs.Laws.{Counted, counted-none, counted-next}
+use Rattle.ranges.specs.Held.{lengths-in}
+use mathlib.Core.Path.{_∙_}
 use native.Mathlib.Omega.{arith}
 use denote.Ref.{now}
 use Prim.Native.Nat.{_-_}
 use Rattle.lists.specs.Below.{lengths}
 use Rattle.ranges.specs.declared.Part.the-variants.{Fused, Peeled}
 use Rattle.ranges.specs.Code.{rangeOf}
-use Rattle.ranges.proofs.Laws.{Counted, counted-none, counted-next, lengths-in}
 use Rattle.ranges.proofs.lengths_of.Statement.{statement}
 use Rattle.ranges.proofs.lengths_of.Tie as tie
 
