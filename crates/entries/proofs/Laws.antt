@@ -13,7 +13,6 @@ use Rattle.model.specs.Table.{Table, count, iteration}
 use Rattle.model.specs.declared.Iteration.{Iteration}
 use Rattle.reader.specs.Reading.{Answer, accepted}
 use Rattle.reader.specs.Columns.{Columns, tableAt, count-table}
-use Rattle.serial.specs.Serial.{table}
 use Rattle.blocks.specs.Blocks.{edge}
 use Rattle.lists.specs.Lists.{ranges}
 use Rattle.lists.specs.Search.{Aligned}
@@ -23,11 +22,10 @@ use Rattle.text.specs.Written.{written, Put, put-none, put-then, put-most, writ
 use Rattle.numbers.specs.declared.Outcome.{Outcome}
 use Rattle.numbers.specs.Numbers.{four, encoded, encoded-length, encoded-append}
 use Rattle.numbers.specs.Given.{Given, refused, numbers, pick, final, numberOf, placeOf, countOf}
-use Rattle.tables.specs.declared.Outline.{Outline}
-use Rattle.tables.specs.Verdict.{Outlined}
+use Rattle.tables.specs.Verdict.{Tells}
 use Rattle.tables.specs.Verdict as Verdict
 use Rattle.plans.specs.declared.Measured.{Measured}
-use Rattle.plans.specs.Plans.{Measures, Tells, Made, shiftOf, peelOf, planned, plannedFor}
+use Rattle.plans.specs.Plans.{Measures, Made, shiftOf, peelOf, planned, plannedFor}
 use Rattle.plans.specs.declared.Plan.{Plan}
 use Rattle.ranges.specs.declared.Part.{Part}
 use Rattle.ranges.specs.Laid.{Laid, Some, laid, laid-for}
@@ -142,10 +140,6 @@ not-nine room xs = go (ltb room (length (encoded xs)))
     go : (b : Bool) → numberOf (pick b (refused 13 0) (Given.written (encoded xs))) ≡ 9 → ⊥
     go true z = omega (arith, z)
     go false z = omega (arith, z)
-
--- what is told of a table's outline is told of its answer
-pub outline-tells : (s : List ℕ) (o : Outline) (c : Columns) → Outlined s o c → Tells s (table s) (o .number) (o .place) (o .read)
-outline-tells s o c g = record { number-is = g .told .number; place-is = g .told .place; named = g .told .named; unnamed = g .told .unnamed }
 
 -- AN ENTRY that asks for the numbers f of a table, where the answer is a
 module _ (s : List ℕ) (a : Answer) (f : Table → List ℕ) (out : List ℕ) where

@@ -16,12 +16,12 @@ use Rattle.reader.specs.Stored.{Sized, Kept}
 use Rattle.serial.specs.Serial.{table}
 use Rattle.grounds.specs.Accepted.{Valid, accepted-valid, valid-last}
 use Rattle.tables.specs.declared.Outline.{Outline}
-use Rattle.tables.specs.Verdict.{numberOf, placeOf, Outlined}
+use Rattle.tables.specs.Verdict.{numberOf, placeOf, Tells, Outlined}
 use Rattle.tables.specs.Nine.{accepted-read}
 use Rattle.bodies.specs.Workable.{Based}
 use Rattle.iterations.specs.Memory.{total, remembered, remembered-as-long, remembered-unlike, run-length, looped-length}
 use Rattle.iterations.specs.Loaded.{Loaded, loaded, based-total}
-use Rattle.plain.specs.Plain.{plainAnswer, after, plainMemory, Told}
+use Rattle.plain.specs.Plain.{plainAnswer, after, plainMemory}
 use Rattle.plain.specs.Running.{Running}
 
 -- A WALK, the same for every table with P: the turns from i on give, from what the memory now holds, what all turns give
@@ -167,12 +167,12 @@ refused-stays n (refused g p) e = (refl, λ m. refl)
 
 module _ (s : List ℕ) (c : Columns) (o : Outline) (outlined : Outlined s o c) (m : List Float) where
   pub run-refused : (o .number ≡ 0 → ⊥)
-      → Told s (plainAnswer s (length m)) (record { number = o .number; place = o .place; read = o .read }) × (m ≡ plainMemory s m)
+      → Tells s (plainAnswer s (length m)) (o .number) (o .place) (o .read) × (m ≡ plainMemory s m)
   unfolding plainAnswer plainMemory
   run-refused e =
       let told = outlined .told in
-      let (z, same) = refused-stays (length m) (table s) (λ q. e (told .number ∙ q)) in
-      rw z (record { number = told .number; place = told .place; named = told .named; unnamed = told .unnamed }, same m)
+      let (z, same) = refused-stays (length m) (table s) (λ q. e (told .number-is ∙ q)) in
+      rw z (record { number-is = told .number-is; place-is = told .place-is; named = told .named; unnamed = told .unnamed }, same m)
 
   module _ (none : o .number ≡ 0) where
     pub run-valid : Valid (tableAt c (o .arrays) (o .loops))
@@ -180,9 +180,9 @@ module _ (s : List ℕ) (c : Columns) (o : Outline) (outlined : Outlined s o c) 
 
     pub run-accepted : (r : ℕ) (n : List Float) → r ≡ numberOf (remembered (length m) (accepted (tableAt c (o .arrays) (o .loops))))
         → n ≡ after (remembered (length m) (accepted (tableAt c (o .arrays) (o .loops)))) m
-        → Told s (plainAnswer s (length m)) (record { number = r; place = 0; read = 0 }) × (n ≡ plainMemory s m)
+        → Tells s (plainAnswer s (length m)) r 0 0 × (n ≡ plainMemory s m)
     unfolding plainAnswer plainMemory
     run-accepted r n e f =
         let t = tableAt c (o .arrays) (o .loops) in
         let (place, other) = twelve (length m) t in
-        rw (outlined .held none .0) (record { number = e; place = place; named = λ u q z. absurd (other (sym e ∙ z)); unnamed = λ q. refl }, f)
+        rw (outlined .held none .0) (record { number-is = e; place-is = place; named = λ u q z. absurd (other (sym e ∙ z)); unnamed = λ q. refl }, f)

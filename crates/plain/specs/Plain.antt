@@ -7,11 +7,8 @@ use lib.ListN.{length}
 use lib.Ieee.{Float}
 use Rattle.model.specs.Table.{Table}
 use Rattle.model.specs.PlainRun.{plainRun}
-use Rattle.reader.specs.Reading.{Answer, accepted, refused, reading}
+use Rattle.reader.specs.Reading.{Answer, accepted, refused}
 use Rattle.serial.specs.Serial.{table}
-use Rattle.serial.specs.Meeting.{Collides}
-use Rattle.tables.specs.declared.Verdict.{Verdict}
-use Rattle.tables.specs.Verdict.{numberOf, placeOf}
 use Rattle.iterations.specs.Memory.{total, remembered}
 
 -- 1 to 9, then 12, for a memory of n elements
@@ -25,13 +22,6 @@ after (accepted t) m = plainRun t m
 
 unfoldable pub plainMemory : List ℕ → List Float → List Float
 plainMemory s m = after (plainAnswer s (length m)) m
-
--- what is told of an answer to the bytes s: the read that 9 names is one that meets the destination in another iteration
-pub record Told (s : List ℕ) (a : Answer) (v : Verdict) : Type 0 where
-  pub number : v .number ≡ numberOf a
-  pub place : v .place ≡ placeOf a
-  pub named : (t : Table) → reading s ≡ accepted t → v .number ≡ 9 → Collides t (v .place) (v .read)
-  pub unnamed : (v .number ≡ 9 → ⊥) → v .read ≡ 0
 
 -- LAW: of an accepted table and a memory of its length it is the plain run of the table
 pub plain-memory : (s : List ℕ) (t : Table) (m : List Float) → table s ≡ accepted t → length m ≡ total t → plainMemory s m ≡ plainRun t m

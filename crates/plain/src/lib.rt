@@ -9,9 +9,9 @@ ghost use Rattle.reader.specs.Reading.{accepted};
 ghost use Rattle.reader.specs.Columns.{columns, tableAt};
 ghost use Rattle.reader.specs.Stored.{Sized, Kept};
 ghost use Rattle.grounds.specs.Accepted.{Valid};
-ghost use Rattle.tables.specs.Verdict.{numberOf};
+ghost use Rattle.tables.specs.Verdict.{numberOf, Told};
 ghost use Rattle.iterations.specs.Memory.{total, remembered};
-ghost use Rattle.plain.specs.Plain.{plainAnswer, after, plainMemory, Told};
+ghost use Rattle.plain.specs.Plain.{plainAnswer, after, plainMemory};
 ghost use Rattle.plain.specs.Running.{Running};
 
 // One loop, from first to last.

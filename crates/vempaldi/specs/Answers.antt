@@ -3,6 +3,7 @@ use Prim.Native.Nat.{ℕ}
 use mathlib.Core.Path.{_≡_}
 use mathlib.Core.List.{List}
 use lib.ListN.{set}
+use Rattle.serial.specs.Serial.{table}
 use Rattle.tables.specs.declared.Verdict.{Verdict}
 use Rattle.tables.specs.Verdict.{Told}
 use Rattle.numbers.specs.declared.Outcome.{Outcome as Entry}
@@ -19,7 +20,7 @@ answered number place read w = set (set (set w 0 number) 1 place) 2 read
 -- the answer on a table's bytes s: `found` is what was lent, `left` what it then holds
 pub record CheckTold (s found left : List ℕ) : Type 0 where
   pub verdict : Verdict
-  pub told : Told s verdict
+  pub told : Told s (table s) verdict
   pub is : left ≡ answered (verdict .number) (verdict .place) (verdict .read) found
 
 -- the answer on two tables joined into so many lent bytes, and how many were written

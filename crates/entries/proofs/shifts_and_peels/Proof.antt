@@ -5,7 +5,7 @@ use Rattle.reader.specs.Columns.{columns, tableAt}
 use Rattle.text.specs.Written.{put-length}
 use Rattle.sweeps.specs.Sweeps.{before}
 use Rattle.entries.specs.Entries.{amounts, amountsOf}
-use Rattle.entries.proofs.Laws.{outline-tells, entry-refused, entry-short, entry-written, amounts-size, amounts-put}
+use Rattle.entries.proofs.Laws.{entry-refused, entry-short, entry-written, amounts-size, amounts-put}
 use borrow.Author.Needs.{needs}
 use Rattle.entries.proofs.shifts_and_peels.Statement.{statement}
 use Rattle.entries.proofs.shifts_and_peels.Tie as tie
@@ -26,7 +26,7 @@ returns c = let z = c .before .before .before .before .measure .last in
     let h = c .before .before .before .before .measure .ensures in
     let o = m .outline in
     let g = h .outlined in
-    rw (c .refusal .ensures) (entry-refused s (table s) amountsOf out (o .number) (o .place) (o .read) (outline-tells s o d g) (c .before .if1 .taken))
+    rw (c .refusal .ensures) (entry-refused s (table s) amountsOf out (o .number) (o .place) (o .read) (g .told) (c .before .if1 .taken))
 
 mul-if2 : tie.Need-mul-if2
 mul-if2 c = omega (arith, c .before .before .before .measure .ensures .outlined .held (c .if1 .left) .2 .few-loops)

@@ -8,7 +8,7 @@ use Rattle.sweeps.specs.Sweeps.{before, after, sweeps as sweepsOf}
 use Rattle.sweeps.specs.declared.Sweeps.{Sweeps}
 use Rattle.sweeps.specs.Rows.{kept-placed}
 use Rattle.entries.specs.Entries.{sweepsGiven}
-use Rattle.entries.proofs.Laws.{outline-tells, entry-refused, entry-short, entry-written, two-put, two-size}
+use Rattle.entries.proofs.Laws.{entry-refused, entry-short, entry-written, two-put, two-size}
 use borrow.Author.Needs.{needs}
 use Rattle.entries.proofs.sweeps.Statement.{statement}
 use Rattle.entries.proofs.sweeps.Tie as tie
@@ -26,7 +26,7 @@ returns c = let z = c .before .before .before .read-through .last in
     let s = now (c .before .before .before .before .before .before .before .before .before .before .before .before .before .args .s) in
     let out = now (c .before .before .before .before .before .before .before .before .before .before .before .before .before .args .out) in
     let o = c .before .before .before .read-through .result in
-    rw (c .refusal .ensures) (entry-refused s (table s) (λ t. before t ∷ after t ∷ []) out (o .number) (o .place) (o .read) (outline-tells s o d (c .before .before .before .read-through .ensures)) (c .before .if1 .taken))
+    rw (c .refusal .ensures) (entry-refused s (table s) (λ t. before t ∷ after t ∷ []) out (o .number) (o .place) (o .read) (c .before .before .before .read-through .ensures .told) (c .before .if1 .taken))
 
 refusal-requires-2 : tie.Need-refusal-requires-2
 refusal-requires-2 c κs = search needs

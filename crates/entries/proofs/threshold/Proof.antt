@@ -10,7 +10,7 @@ use Rattle.plans.specs.Plans.{thresholdOf}
 use Rattle.plans.proofs.Laws.{threshold-is, threshold-fits}
 use Rattle.sweeps.specs.Sweeps.{before}
 use Rattle.entries.specs.Entries.{thresholds}
-use Rattle.entries.proofs.Laws.{outline-tells, entry-refused, entry-short, entry-written, one-put, one-size}
+use Rattle.entries.proofs.Laws.{entry-refused, entry-short, entry-written, one-put, one-size}
 use borrow.Author.Needs.{needs}
 use Rattle.entries.proofs.threshold.Statement.{statement}
 use Rattle.entries.proofs.threshold.Tie as tie
@@ -31,7 +31,7 @@ returns c = let z = c .before .before .before .before .measure .last in
     let h = c .before .before .before .before .measure .ensures in
     let o = m .outline in
     let g = h .outlined in
-    rw (c .refusal .ensures) (entry-refused s (table s) (λ t. thresholdOf t ∷ []) out (o .number) (o .place) (o .read) (outline-tells s o d g) (c .before .if1 .taken))
+    rw (c .refusal .ensures) (entry-refused s (table s) (λ t. thresholdOf t ∷ []) out (o .number) (o .place) (o .read) (g .told) (c .before .if1 .taken))
 
 refusal-requires-2 : tie.Need-refusal-requires-2
 refusal-requires-2 c κs = search needs
