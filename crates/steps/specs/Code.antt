@@ -1,13 +1,13 @@
 -- What the code's contracts cite: the barrier and ground 15 by the lengths that the code keeps. Assumes nothing.
-use Prim.Native.Nat.{ℕ, _+_, _<_}
+use Prim.Native.Nat.{ℕ, zero, suc, _+_, _<_}
 use native.Mathlib.Omega.{arith}
-use mathlib.Core.Path.{_≡_, refl, _∙_}
-use mathlib.Core.Bool.{Bool, true, false, cond, _&&_, _||_}
+use mathlib.Core.Path.{_≡_, refl}
+use mathlib.Core.Bool.{Bool, cond, _&&_, _||_}
 use mathlib.Core.List.{List}
-use lib.Dec.{ltb}
+use lib.Dec.{ltb, leb}
 use lib.ListN.{length}
 use lib.Ieee.{Float}
-use borrow.Author.Tests.{lt-ltb, le-ltb}
+use borrow.Author.Tests.{lt-ltb, le-ltb, lt-leb, le-leb}
 use native.Mathlib.Decide.{decLt}
 use Rattle.model.specs.Table.{Table}
 use Rattle.blocks.specs.Sums.{column, some}
@@ -24,12 +24,12 @@ after counts m report = record { counts = counts; memory = m; report = report }
 abbrev pub closedBy : ℕ → List ℕ → List ℕ → Bool
 closedBy P fused counts = some P (λ b. ltb (column counts b) (column fused b))
 
--- ground 15 of one processor with n iterations done: whether it is below P, and whether the barrier is closed
+-- ground 15 of one processor with n iterations done: whether it is not below P, and whether the barrier is closed
 abbrev pub wrongBy : Bool → Bool → ℕ → ℕ → ℕ → Bool
-wrongBy inside shut fused peeled n = cond inside (ltb (fused + peeled) n || (ltb fused n && shut)) (ltb 0 n)
+wrongBy outside shut fused peeled n = cond outside (ltb 0 n) (ltb (fused + peeled) n || (ltb fused n && shut))
 
 abbrev pub wrongIn : ℕ → Lengths → Bool → List ℕ → ℕ → Bool
-wrongIn P l shut counts b = wrongBy (ltb b P) shut (column (l .fused) b) (column (l .peeled) b) (column counts b)
+wrongIn P l shut counts b = wrongBy (leb P b) shut (column (l .fused) b) (column (l .peeled) b) (column counts b)
 
 -- LAWS: they are those of the table's plan
 some-same : (n : ℕ) (f g : ℕ → Bool) → ((b : ℕ) → b < n → f b ≡ g b) → some n f ≡ some n g
@@ -46,8 +46,8 @@ module _ (t : Table) (P : ℕ) (l : Lengths) (h : Measured t P l) (counts : List
   wrong-at b = go (decLt b P)
     where
       go : Dec (b < P) → wrongIn P l (closedBy P (l .fused) counts) counts b ≡ wrongCount t P counts b
-      go (yes i) = rw (lt-ltb b P i, closed-by, h .fused-is b i, h .peeled-is b i)
-      go (no i) = rw (le-ltb b P (omega arith))
+      go (yes i) = rw (lt-ltb b P i, lt-leb P b i, closed-by, h .fused-is b i, h .peeled-is b i)
+      go (no i) = rw (le-ltb b P (omega arith), le-leb P b (omega arith))
 
   pub wrong-by : some 64 (wrongIn P l (closedBy P (l .fused) counts) counts) ≡ wrongState t P counts
   unfolding wrongState

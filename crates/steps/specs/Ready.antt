@@ -2,12 +2,15 @@
 use Prim.Native.Nat.{ℕ, _≤_, _<_}
 use mathlib.Core.Path.{_≡_}
 use mathlib.Core.List.{List}
-use lib.ListN.{length, take}
+use native.Mathlib.Omega.{arith}
+use lib.ListN.{length, getD, take, length-take}
 use Rattle.model.specs.Table.{Table}
 use Rattle.reader.specs.Columns.{Columns, tableAt}
 use Rattle.blocks.specs.Sums.{column}
 use Rattle.bodies.specs.Workable.{Based}
-use Rattle.iterations.specs.Loaded.{Loaded, loaded}
+use Rattle.grounds.specs.Accepted.{Valid}
+use Rattle.iterations.specs.Memory.{total}
+use Rattle.iterations.specs.Loaded.{Loaded, loaded, based-total}
 use Rattle.plans.specs.declared.Plan.{Plan}
 use Rattle.plans.specs.Plans.{planned, Made}
 use Rattle.plans.specs.Known.{valid}
@@ -35,14 +38,33 @@ pub record Ready (t : Table) (P : ℕ) (p : Plan) (l : Lengths) (firsts lasts st
 abbrev pub Planned : ℕ → Plan → Columns → Type 0
 Planned P p c = (s : List ℕ) × Made (planned s P) p c
 
--- with where the arrays begin, and the lengths, they are what a step is lent
-pub made-ready : (P : ℕ) (p : Plan) (c : Columns) → Planned P p c → (l : Lengths) (bases : List ℕ) → Based bases (take (p .arrays) (c .lens))
-    → Measured (tableAt c (p .arrays) (p .loops)) P l
-    → Ready (tableAt c (p .arrays) (p .loops)) P p l (c .firsts) (c .lasts) (c .starts) (c .kinds) (c .arrays) (c .values) bases
-made-ready P p c (s, made) l bases based measured =
-    let t = tableAt c (p .arrays) (p .loops) in
-    record {
-      laid = laid s P p c made;
-      loaded = loaded c (p .arrays) (p .loops) (p .rows) bases (made .sized) (made .kept) (valid s t (planned-fits s P t (made .is) .read)) based;
-      measured = measured;
+-- from them: where the arrays begin, and the lists' lengths, and so what a step is lent
+module _ (P : ℕ) (p : Plan) (c : Columns) (planned-by : Planned P p c) where
+  abbrev t : Table
+  t = tableAt c (p .arrays) (p .loops)
+
+  made : Made (planned (planned-by .0) P) p c
+  made = planned-by .1
+
+  pub made-valid : Valid t
+  made-valid = valid (planned-by .0) t (planned-fits (planned-by .0) P t (made .is) .read)
+
+  pub made-laid : Laid t P p (c .firsts) (c .lasts)
+  made-laid = laid (planned-by .0) P p c made
+
+  pub made-arrays : p .arrays ≤ 16
+  made-arrays = made .kept .few-arrays
+
+  module _ (bases : List ℕ) (based : Based bases (take (p .arrays) (c .lens))) where
+    -- where the memory ends is how long it should be
+    pub made-total : getD bases (p .arrays) 0 ≡ total t
+    made-total = based-total bases (take (p .arrays) (c .lens)) (p .arrays) based (omega (arith, length-take (p .arrays) (c .lens))) made-arrays
+
+    pub made-ready : (l : Lengths) → Small l
+        → ((u : Table) → Laid u P p (c .firsts) (c .lasts) → (b : ℕ) → b < P → (column (l .fused) b ≡ length (fused u P b)) × (column (l .peeled) b ≡ length (peeled u P b)))
+        → Ready t P p l (c .firsts) (c .lasts) (c .starts) (c .kinds) (c .arrays) (c .values) bases
+    made-ready l small is = record {
+      laid = made-laid;
+      loaded = loaded c (p .arrays) (p .loops) (p .rows) bases (made .sized) (made .kept) made-valid based;
+      measured = record { small = small; fused-is = λ b i. is t made-laid b i .0; peeled-is = λ b i. is t made-laid b i .1 };
     }

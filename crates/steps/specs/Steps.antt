@@ -8,8 +8,13 @@ use Rattle.reader.specs.Reading.{accepted, reading}
 use Rattle.serial.specs.Meeting.{Collides}
 use Rattle.stepping.specs.declared.Report.the-variants.{Refused}
 use Rattle.stepping.specs.Step.{step}
+use Rattle.steps.specs.declared.Counts.{Counts}
 use Rattle.steps.specs.declared.Stepped.{Stepped}
 use Rattle.steps.specs.Code.{after}
+
+-- a refused call hands back the counts as found
+abbrev pub refusing : Counts → ℕ → ℕ → ℕ → Stepped
+refusing counts number place read = record { counts = counts; report = Refused number place; read = read }
 
 -- from a table's bytes s, for processor b of P, with the counts and the memory m as found; r is handed back, and the memory holds `left`
 pub record Steps (s : List ℕ) (P b : ℕ) (counts : List ℕ) (m : List Float) (r : Stepped) (left : List Float) : Type 0 where

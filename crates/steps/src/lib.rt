@@ -15,7 +15,7 @@ ghost use Rattle.iterations.specs.Loaded.{Loaded};
 ghost use Rattle.stepping.specs.Step.{performs, turn, stepped};
 ghost use Rattle.steps.specs.Ready.{Small, Ready, Planned};
 ghost use Rattle.steps.specs.Code.{closedBy, wrongBy, wrongIn, after};
-ghost use Rattle.steps.specs.Steps.{Steps};
+ghost use Rattle.steps.specs.Steps.{refusing, Steps};
 
 // How many iterations each processor has done.
 pub struct Counts {
@@ -52,12 +52,12 @@ pub fn is_closed(c: Counts, l: Lengths, processors: u32) -> bool
     false
 }
 
-// Ground 15 of one processor, whose lists have so many iterations: `inside` if it is below P, `shut` if the barrier is closed.
-fn wrong_count(inside: bool, shut: bool, fused: u32, peeled: u32, n: u32) -> bool
+// Ground 15 of one processor, whose lists have so many iterations: `outside` if it is not below P, `shut` if the barrier is closed.
+fn wrong_count(outside: bool, shut: bool, fused: u32, peeled: u32, n: u32) -> bool
     requires { ⌜ fused + peeled < 2 ^ 32 ⌝ }
-    ensures { λ r. ⌜ r ≡ wrongBy inside shut fused peeled n ⌝ }
+    ensures { λ r. ⌜ r ≡ wrongBy outside shut fused peeled n ⌝ }
 {
-    if !inside {
+    if outside {
         return 0 < n;
     }
     if fused + peeled < n {
@@ -80,7 +80,7 @@ fn wrong_state(c: Counts, l: Lengths, processors: u32) -> bool
     let peeled = l.peeled;
     let mut b: usize = 0;
     while b < 64 {
-        if wrong_count(b < processors as usize, shut, fused[b], peeled[b], done[b]) {
+        if wrong_count(processors as usize <= b, shut, fused[b], peeled[b], done[b]) {
             return true;
         }
         b += 1;
@@ -184,7 +184,9 @@ impl Counts {
     }
 
     // A refused call hands back the counts as found.
-    fn refused(self, number: usize, place: usize, read: usize) -> Stepped {
+    fn refused(self, number: usize, place: usize, read: usize) -> Stepped
+        ensures { λ r. ⌜ r ≡ refusing self number place read ⌝ }
+    {
         Stepped {
             counts: self,
             report: Report::Refused { number, place },
