@@ -3,7 +3,7 @@ ghost use mathlib.Core.Path.{_≡_};
 ghost use lib.ListN.{length};
 ghost use Rattle.joining.specs.Joining.{joining, final};
 ghost use Rattle.numbers.specs.Given as Given;
-ghost use Rattle.entries.specs.Entries.{amounts, thresholds, sweepsGiven};
+ghost use Rattle.entries.specs.Entries.{amounts, thresholds, sweepsGiven, blocksGiven, fusedGiven, peeledGiven};
 ghost use Rattle.printing.specs.Printing.{text};
 ghost use Rattle.vempaldi.specs.Answers.{answered, CheckTold, JoinTold, EntryTold, ListingTold};
 
@@ -88,6 +88,56 @@ pub extern "C" fn vempaldi_sweeps(table: &[u8], out: &mut [u8], answer: &mut [u6
     ensures { λ r. ⌜ now (out .exit) ≡ Given.final (sweepsGiven (now (table .entry)) (length (now (out .entry)))) (now (out .entry)) ⌝ }
 {
     let o = entries::sweeps(table, out);
+    write_answer(answer, o.number, o.place, o.read);
+    o.written as u64
+}
+
+// First and last index of each block, four bytes each; answers how many bytes were written, 0 where it refuses.
+#[no_mangle]
+pub extern "C" fn vempaldi_blocks(
+    table: &[u8],
+    processors: u32,
+    out: &mut [u8],
+    answer: &mut [u64; 3],
+) -> u64
+    ensures { λ r. ⌜ EntryTold (now (table .entry)) (blocksGiven (now (table .entry)) processors (length (now (out .entry)))) (now (answer .entry)) (now (answer .exit)) r ⌝ }
+    ensures { λ r. ⌜ now (out .exit) ≡ Given.final (blocksGiven (now (table .entry)) processors (length (now (out .entry)))) (now (out .entry)) ⌝ }
+{
+    let o = entries::blocks(table, processors, out);
+    write_answer(answer, o.number, o.place, o.read);
+    o.written as u64
+}
+
+// Loop and iteration of each in a processor's fused list, four bytes each; answers how many bytes were written, 0 where it refuses.
+#[no_mangle]
+pub extern "C" fn vempaldi_fused_list(
+    table: &[u8],
+    processors: u32,
+    processor: u32,
+    out: &mut [u8],
+    answer: &mut [u64; 3],
+) -> u64
+    ensures { λ r. ⌜ EntryTold (now (table .entry)) (fusedGiven (now (table .entry)) processors processor (length (now (out .entry)))) (now (answer .entry)) (now (answer .exit)) r ⌝ }
+    ensures { λ r. ⌜ now (out .exit) ≡ Given.final (fusedGiven (now (table .entry)) processors processor (length (now (out .entry)))) (now (out .entry)) ⌝ }
+{
+    let o = entries::fused_list(table, processors, processor, out);
+    write_answer(answer, o.number, o.place, o.read);
+    o.written as u64
+}
+
+// Loop and iteration of each in a processor's peeled list, four bytes each; answers how many bytes were written, 0 where it refuses.
+#[no_mangle]
+pub extern "C" fn vempaldi_peeled_list(
+    table: &[u8],
+    processors: u32,
+    processor: u32,
+    out: &mut [u8],
+    answer: &mut [u64; 3],
+) -> u64
+    ensures { λ r. ⌜ EntryTold (now (table .entry)) (peeledGiven (now (table .entry)) processors processor (length (now (out .entry)))) (now (answer .entry)) (now (answer .exit)) r ⌝ }
+    ensures { λ r. ⌜ now (out .exit) ≡ Given.final (peeledGiven (now (table .entry)) processors processor (length (now (out .entry)))) (now (out .entry)) ⌝ }
+{
+    let o = entries::peeled_list(table, processors, processor, out);
     write_answer(answer, o.number, o.place, o.read);
     o.written as u64
 }
