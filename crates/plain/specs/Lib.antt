@@ -2,5 +2,3 @@
 pub mod Plain
 -- a table's loops in columns, as the code runs them
 pub mod Running
--- known results
-pub mod Known

@@ -48,14 +48,14 @@ module _ (h : ℕ → Range) (froms pasts : List ℕ) (k : ℕ) (f : Filled h fr
   filled-end n l j i = rw (f .0 .is j (omega arith), f .1 .is j (omega arith))
 
 -- the lengths of the lists of the first b processors, none of them large
-pub record Counted (P : ℕ) (f g : ℕ → ℕ) (fused peeled : List ℕ) (b : ℕ) : Type 0 where
+pub record Counted (f g : ℕ → ℕ) (fused peeled : List ℕ) (b : ℕ) : Type 0 where
   pub fused-is : Holds 64 f fused b
   pub peeled-is : Holds 64 g peeled b
   pub fused-small : (j : ℕ) → column fused j ≤ 1052656
   pub peeled-small : (j : ℕ) → column peeled j ≤ 1052656
 
-module _ (P : ℕ) (f g : ℕ → ℕ) where
-  pub counted-none : Counted P f g (replicate 64 0) (replicate 64 0) 0
+module _ (f g : ℕ → ℕ) where
+  pub counted-none : Counted f g (replicate 64 0) (replicate 64 0) 0
   counted-none = record {
     fused-is = holds-none 64 f (replicate 64 0) refl;
     peeled-is = holds-none 64 g (replicate 64 0) refl;
@@ -63,8 +63,8 @@ module _ (P : ℕ) (f g : ℕ → ℕ) where
     peeled-small = λ j. omega (arith, zeros 64 j);
   }
 
-  pub counted-next : (fused peeled : List ℕ) (b x y : ℕ) → Counted P f g fused peeled b → b < 64 → (x ≡ f b) × (x ≤ 1052656) → (y ≡ g b) × (y ≤ 1052656)
-      → Counted P f g (set fused b x) (set peeled b y) (b + 1)
+  pub counted-next : (fused peeled : List ℕ) (b x y : ℕ) → Counted f g fused peeled b → b < 64 → (x ≡ f b) × (x ≤ 1052656) → (y ≡ g b) × (y ≤ 1052656)
+      → Counted f g (set fused b x) (set peeled b y) (b + 1)
   counted-next fused peeled b x y c l d e = record {
     fused-is = holds-next 64 f fused b x (c .fused-is) l (d .0);
     peeled-is = holds-next 64 g peeled b y (c .peeled-is) l (e .0);

@@ -16,6 +16,7 @@ use Rattle.ranges.specs.Laid.{Laid}
 use Rattle.ranges.specs.declared.Part.{Part}
 use Rattle.ranges.specs.declared.Part.the-variants.{Fused, Peeled}
 
+-- a loop's fused or peeled part
 abbrev pub partOf : Part → Range → Range → ℕ → ℕ → ℕ → ℕ → Range
 partOf Fused = fusedPart
 partOf Peeled = peeledPart

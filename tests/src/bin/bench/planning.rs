@@ -88,13 +88,39 @@ fn compare_amounts(name: &str, tables: &[Table]) {
     measure::print(name, "table", &pair);
 }
 
+/// The plan of each table and its blocks, without any text.
+fn compare_blocks(name: &str, tables: &[Table]) {
+    let made: Vec<Vec<u8>> = tables.iter().map(encode).collect();
+    let mut out = vec![0; ROOM];
+    let pair = measure::beside(
+        ROUNDS,
+        made.len(),
+        || {
+            for table in &made {
+                black_box(library::blocks(black_box(table), PROCESSORS, &mut out));
+            }
+        },
+        || {
+            for table in &made {
+                black_box(outputs::blocks(black_box(table), PROCESSORS, ROOM)).ok();
+            }
+        },
+    );
+    measure::print(name, "table", &pair);
+}
+
 /// The same tables with loops ten and a hundred times as long: the ranges
-/// are worked out without counting iterations, so the time stays.
+/// are worked out without counting iterations, so the time stays. The listing
+/// has longer numbers to print; the plan and its blocks alone do not.
 fn lengths(random: &mut Random) {
     let base = repeat(100, || accepted(|| near(random)));
     for factor in [1, 10, 100] {
         let longer: Vec<Table> = base.iter().map(|table| lengthen(table, factor)).collect();
         compare(&format!("planning the same 100 tables, loops {factor} times as long"), &longer);
+    }
+    for factor in [1, 10, 100] {
+        let longer: Vec<Table> = base.iter().map(|table| lengthen(table, factor)).collect();
+        compare_blocks(&format!("plan and blocks alone, loops {factor} times as long"), &longer);
     }
 }
 

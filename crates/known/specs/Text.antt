@@ -1,7 +1,7 @@
--- Known results, from bytes to text, by computation.
+-- The listing's known results, from bytes to text, by computation.
 use Prim.Native.Nat.{ℕ}
 use mathlib.Core.Path.{_≡_, refl}
-use mathlib.Core.List.{List, [], _∷_, _++_}
+use mathlib.Core.List.{[], _++_}
 use Rattle.records.specs.Bytes.{two, four, offset, kindOf, bodyLength, recordOf, recordAt}
 use Rattle.records.specs.Grounds.{early, edge, fields, ground, passed, tested}
 use Rattle.records.specs.History.{operands, withArray, withLoop, withItem, advanced, blank, summary, lengths}
@@ -14,36 +14,21 @@ use Rattle.blocks.specs.Span.{spanOf}
 use Rattle.blocks.specs.Blocks.{size, start, isShort}
 use Rattle.blocks.specs.Parts.{fusedPart, peeledPart}
 use Rattle.plans.specs.Plans.{fitting, planned}
+use Rattle.known.specs.Bytes.{example}
 use Rattle.marks.specs.Marks.{countFrom}
 use Rattle.sweeps.specs.Sweeps.{some}
 use Rattle.text.specs.Ascii.{ascii}
 use Rattle.text.specs.Decimal.{decimal, digits}
 use Rattle.text.specs.Line.{line}
 use Rattle.listing.specs.Listing.{listing, refusal}
 use Rattle.printing.specs.Printing.{textOf, text}
 
 -- no table byte, whatever P is
 pub empty-input : (P : ℕ) → text [] P ≡ ascii "refused 1 0\n"
 unfolding text textOf planned fitting table through reading readFrom follow tested ground refusal line decimal digits
 empty-input P = refl
 
--- the example: three arrays of 12; loop 0, 1 to 10: A0[i] = A1[i] + 1; loop 1, 1 to 10: A2[i] = A0[i−1] + A0[i+1]
-abbrev array : List ℕ
-array = 1 ∷ 12 ∷ 0 ∷ 0 ∷ 0 ∷ []
-
-abbrev loopTo : ℕ → List ℕ
-loopTo a = 2 ∷ 1 ∷ 0 ∷ 0 ∷ 0 ∷ 10 ∷ 0 ∷ 0 ∷ 0 ∷ a ∷ 0 ∷ 0 ∷ []
-
-abbrev add : List ℕ
-add = 5 ∷ 1 ∷ []
-
-abbrev pub example : List ℕ
-example =
-    array ++ array ++ array
-    ++ loopTo 0 ++ (3 ∷ 1 ∷ 0 ∷ 0 ∷ []) ++ (4 ∷ 1 ∷ 0 ∷ 0 ∷ 0 ∷ []) ++ add
-    ++ loopTo 2 ++ (3 ∷ 0 ∷ 255 ∷ 255 ∷ []) ++ (3 ∷ 0 ∷ 1 ∷ 0 ∷ []) ++ add
-    ++ (6 ∷ [])
-
+-- the example
 pub example-text : text example 2
     ≡ ascii "loop 0 0 0\n"
     ++ ascii "loop 1 1 1\n"
