@@ -8,5 +8,3 @@ pub mod Blocks
 pub mod Index
 -- the same parts as ranges
 pub mod Parts
--- known results
-pub mod Known

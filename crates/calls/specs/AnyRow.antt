@@ -6,17 +6,16 @@ use mathlib.Core.Path.{_≡_, refl, sym, ap, subst, _∙_, fun-ext}
 use mathlib.Core.Logic.{⊎-elim}
 use mathlib.Core.List.{List, _∷_, _++_, List·Memᴰ·cases-cons}
 use mathlib.Core.List.{List·Memᴰ as Mem, List·Memᴰ·head as mhere, List·Memᴰ·tail as mthere}
-use lib.ListN.{length, drop}
+use lib.ListN.{length}
 use lib.Ieee.{Float}
 use Rattle.order.specs.Lists.{Before, NoDup}
 use Rattle.order.specs.Reorder.{runAll}
-use Rattle.order.specs.Machine.{trace, final, zeros, left, mine}
+use Rattle.order.specs.Machine.{trace, zeros, left}
 use Rattle.model.specs.declared.Iteration.{Iteration}
 use Rattle.model.specs.declared.Reference.{Reference}
 use Rattle.model.specs.Table.{Table, iteration, Inside}
 use Rattle.model.specs.References.{allRefs}
 use Rattle.model.specs.Bodies.{run}
-use Rattle.model.specs.PlainRun.{plainRun}
 use Rattle.model.specs.Sound.{Sound}
 use Rattle.reader.specs.Reading.{accepted}
 use Rattle.chains.specs.Dependence.{Dependence}
@@ -30,10 +29,11 @@ use Rattle.plans.specs.Plans.{shiftOf, peelOf, planOf, planned}
 use Rattle.plans.specs.Known.{valid}
 use Rattle.plans.specs.Fitting.{planned-fits}
 use Rattle.iterations.specs.Memory.{total}
+use Rattle.plain.specs.Plain.{plainMemory, plain-memory}
 use Rattle.stepping.specs.declared.Report.{Report}
 use Rattle.stepping.specs.declared.Report.the-variants.{Refused, Performed, Waiting, Finished}
 use Rattle.stepping.specs.Step.{fused, peeled}
-use Rattle.stepping.specs.Row.{noneDone, reports, countsAfter, memoryAfter}
+use Rattle.stepping.specs.Row.{noneDone, reports, memoryAfter}
 use Rattle.stepping.specs.Reach.{none-done, none-reachable}
 use Rattle.calls.specs.Turns.{done, machine}
 use Rattle.calls.specs.Rows.{performed, few, wide, follows, Follows}
@@ -93,31 +93,16 @@ module _ (s : List ℕ) (P : ℕ) (t : Table) (planned-is : planned s P ≡ acce
     all-reported : Complete → rows.AllReported t (planOf t P) (wide s P t planned-is) bs
     all-reported all x i = rw (← row-is) (performed-mem x (reports s P bs noneDone m) (all x i))
 
-    pub any-row : Complete → memoryAfter s P bs noneDone m ≡ plainRun t m
+    pub any-row : Complete → memoryAfter s P bs noneDone m ≡ plainMemory s m
     any-row all =
         follow .memory
         ∙ ap (λ (l : List Iteration). runAll (run t) l m) (sym (follow .iterations) ∙ row-is)
         ∙ rows.any-row t sound Counts none-missed (planOf t P) legal (wide s P t planned-is) bs (all-reported all) m
+        ∙ sym (plain-memory s t m (planned-fits s P t planned-is .read) fits)
 
     -- BESIDE IT, of every row, complete or not: no iteration is reported twice
     pub once : NoDup row
     once = rw row-is (rows.once-reported t (planOf t P) (wide s P t planned-is) bs)
-
-    -- each processor keeps its own list's order: what has been reported of it, and then what it has left, is its fused list and then its
-    -- peeled list
-    pub own-order : (b : ℕ) → b < P
-        → mine (machine t P (few s P t planned-is) (wide s P t planned-is)) b row ++ drop (column (countsAfter s P bs noneDone m) b) (fused t P b ++ peeled t P b)
-        ≡ fused t P b ++ peeled t P b
-    own-order b l =
-        let p = machine t P (few s P t planned-is) (wide s P t planned-is) in
-        let whole = fused t P b ++ peeled t P b in
-        let counted : column (countsAfter s P bs noneDone m) b ≡ final p bs zeros b =
-        ap (λ (f : ℕ → ℕ). f b) (follow .counts ∙ ap (final p bs) none-is) in
-        ap (λ (k : List Iteration). mine p b k ++ drop (column (countsAfter s P bs noneDone m) b) whole) row-is
-        ∙ ap (λ (n : ℕ). mine p b (rows.reported t (planOf t P) (wide s P t planned-is) bs) ++ drop n whole) counted
-        ∙ ap (λ (k : List Iteration). mine p b (rows.reported t (planOf t P) (wide s P t planned-is) bs) ++ drop (final p bs zeros b) k)
-        (sym (rows.list-of t (planOf t P) (wide s P t planned-is) b l))
-        ∙ rows.own-order t (planOf t P) (wide s P t planned-is) bs b l
 
     -- no peeled iteration is reported before the last fused one
     pub barrier : (a b : ℕ) (x y : Iteration) → a < P → b < P → Mem x (peeled t P a) → Mem y (fused t P b) → Mem x row → Before y x row

@@ -17,7 +17,6 @@ use Rattle.order.specs.Machine as Machine
 use Rattle.order.specs.Exists.{Ready, some-ready, nothing}
 use Rattle.model.specs.declared.Iteration.{Iteration}
 use Rattle.model.specs.Table.{Table}
-use Rattle.model.specs.PlainRun.{plainRun}
 use Rattle.reader.specs.Reading.{accepted}
 use Rattle.blocks.specs.Sums.{column, total-same}
 use Rattle.blocks.specs.Sums.{total as sumOf}
@@ -25,6 +24,7 @@ use Rattle.lists.specs.Fusion.{phase}
 use Rattle.rows.specs.Theorem as rows
 use Rattle.plans.specs.Plans.{planOf, planned}
 use Rattle.iterations.specs.Memory.{total, remembered}
+use Rattle.plain.specs.Plain.{plainMemory}
 use Rattle.stepping.specs.declared.Report.{Report}
 use Rattle.stepping.specs.declared.Report.the-variants.{Refused, Performed, Waiting, Finished}
 use Rattle.stepping.specs.Step.{After, fused, peeled, turn, step}
@@ -165,7 +165,7 @@ module _ (s : List ℕ) (P : ℕ) (t : Table) (planned-is : planned s P ≡ acce
             (λ y h. List·Memᴰ·not-nil (rw nothing-left at (left-rest M (column (countsAfter s P (rowOf s P t order m) noneDone m)) b h))))
 
     -- so whatever bytes it takes, the run leaves the plain run's memory
-    pub any-order : runMemory s P order m ≡ plainRun t m
+    pub any-order : runMemory s P order m ≡ plainMemory s m
     unfolding runMemory remembered
     any-order =
         let e : runAnswer s P (length m) ≡ accepted t = rw (planned-is, eq-eqb (length m) (total t) fits) in

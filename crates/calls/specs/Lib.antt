@@ -6,3 +6,5 @@ pub mod Rows
 pub mod AnyRow
 -- the run in a caller's order
 pub mod CallersOrder
+-- each processor keeps its own list's order
+pub mod Own

@@ -39,14 +39,14 @@ module _ (s : List ℕ) (P : ℕ) (t : Table) (planned-is : planned s P ≡ acce
   wide = planned-wide s P t planned-is
 
   -- a call, from a state with the machine's counts c: it performs d, and leaves those of c after d
-  record Called (b : ℕ) (cs : List ℕ) (m : List Float) (a : After) : Type 0 where
-    same : done (a .report) ≡ next (machine t P few wide) (column cs) (left (machine t P few wide) (column cs) b)
-    counts : column (a .counts) ≡ machine-count (machine t P few wide) (column cs) b (done (a .report))
-    memory : a .memory ≡ runAll (run t) (done (a .report)) m
-    reachable : Reachable t P (a .counts)
-    size : length (a .memory) ≡ total t
+  pub record Called (b : ℕ) (cs : List ℕ) (m : List Float) (a : After) : Type 0 where
+    pub same : done (a .report) ≡ next (machine t P few wide) (column cs) (left (machine t P few wide) (column cs) b)
+    pub counts : column (a .counts) ≡ machine-count (machine t P few wide) (column cs) b (done (a .report))
+    pub memory : a .memory ≡ runAll (run t) (done (a .report)) m
+    pub reachable : Reachable t P (a .counts)
+    pub size : length (a .memory) ≡ total t
 
-  called : (b : ℕ) (cs : List ℕ) (m : List Float) → length m ≡ total t → Reachable t P cs → Called b cs m (step s P b cs m)
+  pub called : (b : ℕ) (cs : List ℕ) (m : List Float) → length m ≡ total t → Reachable t P cs → Called b cs m (step s P b cs m)
   called b cs m e r = go (decLt b P)
     where
       go : Dec (b < P) → Called b cs m (step s P b cs m)

@@ -20,5 +20,3 @@ pub mod Tables
 pub mod Columns
 -- later loops change no number of an earlier one
 pub mod Join
--- known results
-pub mod Known

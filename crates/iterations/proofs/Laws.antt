@@ -8,17 +8,17 @@ use mathlib.Core.Bool.{false}
 use mathlib.Core.List.{List, [], _∷_, append-nil}
 use mathlib.Core.List.{List·Memᴰ as Mem, List·Memᴰ·head as mhere, List·Memᴰ·tail as mthere}
 use lib.ListN.{length, getD, set, take, length-set}
-use lib.Seq.{getD-take, getD-set-same, getD-set-other}
+use lib.Seq.{getD-set-same, getD-set-other}
 use lib.Ieee.{Float}
 use borrow.Rule.Slice.PartMut.{midOf, putMid, mid-len, set-mid-at}
 use Rattle.model.specs.declared.Reference.{Reference}
-use Rattle.model.specs.Table.{Item, read, constant, operation, Statement, Table, count, loop, last, iteration, Inside}
+use Rattle.model.specs.Table.{Item, read, constant, operation, Statement, Table, loop, iteration, Inside}
 use Rattle.model.specs.References.{destination, reads, references, refs}
-use Rattle.model.specs.Bodies.{begins, place, value, performed, run}
+use Rattle.model.specs.Bodies.{begins, value, performed, run}
 use Rattle.order.specs.Reorder.{runAll}
 use Rattle.reader.specs.Columns.{itemsFrom}
 use Rattle.grounds.specs.Statements.{sum}
-use Rattle.grounds.specs.Accepted.{Works, ValidLoop, Valid, valid-last}
+use Rattle.grounds.specs.Accepted.{Works, ValidLoop, valid-last}
 use Rattle.bodies.specs.Workable.{Based, Element, ReadsWithin}
 use Rattle.iterations.specs.Memory.{total}
 use Rattle.iterations.specs.Loaded.{Loaded, statementIn}
@@ -40,7 +40,7 @@ begins-next [] a = refl
 begins-next (n ∷ ns) zero = omega (arith, begins-none ns)
 begins-next (n ∷ ns) (suc a) = omega (arith, begins-next ns a)
 
-pub begins-most : (ns : List ℕ) (a : ℕ) → begins ns a ≤ sum ns
+begins-most : (ns : List ℕ) (a : ℕ) → begins ns a ≤ sum ns
 begins-most [] a = omega arith
 begins-most (n ∷ ns) zero = omega arith
 begins-most (n ∷ ns) (suc a) = omega (arith, begins-most ns a)
@@ -84,7 +84,7 @@ module _ (ns firsts : List ℕ) where
   filled-all next k f h a l = f .filled a (omega arith)
 
 -- A STORE, in an array's own part of the memory
-pub part-long : (m : List Float) (b at : ℕ) → b + at < length m → at < length (midOf b (length m - b) m)
+part-long : (m : List Float) (b at : ℕ) → b + at < length m → at < length (midOf b (length m - b) m)
 part-long m b at h = omega (arith, mid-len b (length m) m (omega arith))
 
 pub part-stored : (m : List Float) (b at : ℕ) (x : Float) → b + at < length m

@@ -1,5 +1,5 @@
 -- The memory of a table: its length, which no iteration changes, and ground 12.
-use Prim.Native.Nat.{ℕ, zero, suc}
+use Prim.Native.Nat.{ℕ, zero, suc, _-_}
 use mathlib.Core.Path.{_≡_, refl, ap, _∙_}
 use mathlib.Core.Bool.{Bool, true, false}
 use mathlib.Core.List.{List, [], _∷_}
@@ -10,7 +10,7 @@ use borrow.Author.Tests.{eqb-true, eq-eqb, ne-eqb}
 use lib.Ieee.{Float}
 use Rattle.order.specs.Reorder.{runAll}
 use Rattle.model.specs.declared.Iteration.{Iteration}
-use Rattle.model.specs.Table.{Statement, Table, loop}
+use Rattle.model.specs.Table.{Statement, Table, loop, count, first, last, iteration}
 use Rattle.model.specs.Bodies.{place, value, performed, run}
 use Rattle.model.specs.PlainRun.{upward, looped, plainRun}
 use Rattle.reader.specs.Reading.{Answer, accepted, refused, choose}
@@ -54,3 +54,14 @@ module _ (ns : List ℕ) (i : ℕ) where
 
 pub run-length : (t : Table) (x : Iteration) (m : List Float) → length (run t x m) ≡ length m
 run-length t x m = statements-length (t .lengths) (x .index) (loop t (x .number) .body) m
+
+upward-length : (g : ℕ → List Float → List Float) → ((i : ℕ) (m : List Float) → length (g i m) ≡ length m) → (i n : ℕ) (m : List Float)
+    → length (upward g i n m) ≡ length m
+upward-length g h i zero m = refl
+upward-length g h i (suc n) m = upward-length g h (suc i) n (g i m) ∙ h i m
+
+pub looped-length : (t : Table) (k : ℕ) (m : List Float) → length (looped t k m) ≡ length m
+looped-length t k = upward-length (λ i. run t (iteration k i)) (λ i. run-length t (iteration k i)) (first t k) (suc (last t k) - first t k)
+
+pub plainRun-length : (t : Table) (m : List Float) → length (plainRun t m) ≡ length m
+plainRun-length t = upward-length (looped t) (looped-length t) 0 (count t)

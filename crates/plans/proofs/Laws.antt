@@ -56,8 +56,8 @@ module _ (s : List ℕ) (wrong : Bool) (P : ℕ) (c : Columns) (m : Measured) (h
   pub plans-refused : (o .number ≡ 0 → ⊥) → Plans s (fitting wrong P (table s)) (refusing (o .number) (o .place) (o .read) (m .amounts)) c
   plans-refused n = record {
     tells = record {
-      number-is = outlined .told .number ∙ same .0;
-      place-is = outlined .told .place ∙ same .1;
+      number-is = outlined .told .number-is ∙ same .0;
+      place-is = outlined .told .place-is ∙ same .1;
       named = outlined .told .named;
       unnamed = outlined .told .unnamed;
     };
@@ -65,7 +65,7 @@ module _ (s : List ℕ) (wrong : Bool) (P : ℕ) (c : Columns) (m : Measured) (h
   }
     where
       same : (numberOf (table s) ≡ numberOf (fitting wrong P (table s))) × (placeOf (table s) ≡ placeOf (fitting wrong P (table s)))
-      same = refused-stays wrong P (table s) (λ z. n (outlined .told .number ∙ z))
+      same = refused-stays wrong P (table s) (λ z. n (outlined .told .number-is ∙ z))
 
   module _ (zero-number : o .number ≡ 0) where
     abbrev pub t : Table

@@ -7,18 +7,17 @@ use lib.Dec.{eqb, ltb, leb}
 use lib.ListN.{getD}
 use Rattle.model.specs.Table.{Table}
 use Rattle.model.specs.References.{allRefs}
-use Rattle.reader.specs.Reading.{Answer, accepted, refused, choose, reading}
+use Rattle.reader.specs.Reading.{Answer, accepted, refused, choose}
 use Rattle.reader.specs.Columns.{Columns, tableAt}
 use Rattle.reader.specs.Stored.{Sized, Kept}
 use Rattle.serial.specs.Serial.{table}
-use Rattle.serial.specs.Meeting.{Collides}
 use Rattle.chains.specs.declared.Amounts.{Amounts}
 use Rattle.chains.specs.Walk.{shifts, peels}
 use Rattle.chains.specs.Threshold.{threshold}
 use Rattle.blocks.specs.Span.{tableSpan}
 use Rattle.blocks.specs.Blocks.{isShort}
 use Rattle.lists.specs.Fusion.{Fusion, fusionOf}
-use Rattle.tables.specs.Verdict.{numberOf, placeOf, Outlined}
+use Rattle.tables.specs.Verdict.{Tells, Outlined}
 use Rattle.plans.specs.declared.Measured.{Measured}
 use Rattle.plans.specs.declared.Plan.{Plan}
 
@@ -60,14 +59,7 @@ pub record Measures (s : List ℕ) (r : Measured) (c : Columns) : Type 0 where
   pub shifts-are : r .outline .number ≡ 0 → r .amounts .shifts ≡ shifts (allRefs (tableAt c (r .outline .arrays) (r .outline .loops)))
   pub peels-are : r .outline .number ≡ 0 → r .amounts .peels ≡ peels (allRefs (tableAt c (r .outline .arrays) (r .outline .loops)))
 
--- what is told of an answer's refusal; the read that 9 names collides, and which, if several do, is left free
-pub record Tells (s : List ℕ) (a : Answer) (number place read : ℕ) : Type 0 where
-  pub number-is : number ≡ numberOf a
-  pub place-is : place ≡ placeOf a
-  pub named : (t : Table) → reading s ≡ accepted t → number ≡ 9 → Collides t place read
-  pub unnamed : (number ≡ 9 → ⊥) → read ≡ 0
-
--- and where nothing is refused: the table, its amounts, and the least first and T
+-- where nothing is refused: the table, its amounts, and the least first and T
 pub record Made (a : Answer) (r : Plan) (c : Columns) : Type 0 where
   pub is : a ≡ accepted (tableAt c (r .arrays) (r .loops))
   pub sized : Sized c

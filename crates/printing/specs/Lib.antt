@@ -4,5 +4,3 @@ pub mod Printing
 pub mod Prefix
 -- the names that contracts cite
 pub mod Code
--- known results
-pub mod Known

@@ -1,2 +1,2 @@
--- ranges and lengths put into columns, and the lists that the columns hold
+-- columns that are filled from the front
 pub mod Laws

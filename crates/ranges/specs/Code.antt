@@ -8,6 +8,7 @@ use Rattle.blocks.specs.declared.Range.{Range}
 use Rattle.blocks.specs.Sums.{column}
 use Rattle.blocks.specs.Blocks.{block}
 use Rattle.blocks.specs.Parts.{fusedPart, peeledPart}
+use Rattle.lists.specs.Lists.{fusedColumns, peeledColumns}
 use Rattle.lists.specs.Fusion.{fusedRange, peeledRange, fusedList, peeledList}
 use Rattle.plans.specs.declared.Plan.{Plan}
 use Rattle.plans.specs.Plans.{planOf}
@@ -15,6 +16,7 @@ use Rattle.ranges.specs.Laid.{Laid}
 use Rattle.ranges.specs.declared.Part.{Part}
 use Rattle.ranges.specs.declared.Part.the-variants.{Fused, Peeled}
 
+-- a loop's fused or peeled part
 abbrev pub partOf : Part → Range → Range → ℕ → ℕ → ℕ → ℕ → Range
 partOf Fused = fusedPart
 partOf Peeled = peeledPart
@@ -29,6 +31,11 @@ rangeOf part p P firsts lasts b k =
 abbrev pub rangeIn : Part → Table → ℕ → ℕ → ℕ → Range
 rangeIn Fused t P = fusedRange t (planOf t P)
 rangeIn Peeled t P = peeledRange t (planOf t P)
+
+-- the list that ranges kept in columns give
+abbrev pub listOf : Part → List ℕ → List ℕ → List ℕ → List Iteration
+listOf Fused froms pasts shifts = fusedColumns froms pasts shifts
+listOf Peeled froms pasts shifts = peeledColumns froms pasts
 
 abbrev pub listIn : Part → Table → ℕ → ℕ → List Iteration
 listIn Fused t P = fusedList t (planOf t P)

@@ -13,9 +13,9 @@ use Rattle.grounds.specs.Accepted.{Valid, valid-last}
 use Rattle.blocks.specs.Span.{tableSpan}
 use Rattle.lists.specs.Fusion.{Wide}
 use Rattle.plans.specs.declared.Plan.{Plan}
-use Rattle.plans.specs.Plans.{planned, shiftOf, peelOf, planOf, Made}
+use Rattle.plans.specs.Plans.{planned, plannedFor, shiftOf, peelOf, planOf, Made}
 use Rattle.plans.specs.Known.{valid, shift-small, peel-small, first-at, last-at}
-use Rattle.plans.specs.Fitting.{Fits, planned-fits, planned-wide, span-small}
+use Rattle.plans.specs.Fitting.{Fits, planned-fits, planned-wide, named-fits, span-small}
 
 pub record Laid (t : Table) (P : ℕ) (p : Plan) (firsts lasts : List ℕ) : Type 0 where
   pub loops : p .loops ≡ count t
@@ -82,3 +82,21 @@ module _ (s : List ℕ) (P : ℕ) (p : Plan) (c : Columns) (made : Made (planned
     small-peel = peel-small t ready;
     wide = planned-wide s P t (made .is);
   }
+
+-- the same for a call that names a processor, which is then below P
+pub laid-for : (s : List ℕ) (P b : ℕ) (p : Plan) (c : Columns) → Made (plannedFor s P b) p c
+    → Laid (tableAt c (p .arrays) (p .loops)) P p (c .firsts) (c .lasts) × (b < P)
+laid-for s P b p c made =
+    let (e, l) = named-fits s P b (tableAt c (p .arrays) (p .loops)) (made .is) in (
+      laid s P p c
+          (record {
+            is = e;
+            sized = made .sized;
+            kept = made .kept;
+            shifts-are = made .shifts-are;
+            peels-are = made .peels-are;
+            first-is = made .first-is;
+            count-is = made .count-is;
+          }),
+      l,
+    )

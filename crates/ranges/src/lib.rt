@@ -7,11 +7,12 @@ ghost use Prim.Native.Nat.{ℕ, suc, _+_, _≤_, _<_, _^_};
 ghost use lib.ListN.{length, getD};
 ghost use Rattle.model.specs.Table.{Table, count, iteration};
 ghost use Rattle.lists.specs.Lists.{ranges};
+ghost use Rattle.lists.specs.Search.{Aligned};
 ghost use Rattle.lists.specs.Below.{lengths};
 ghost use Rattle.lists.specs.Fusion.{fusedRange, peeledRange, fusedList, peeledList};
 ghost use Rattle.plans.specs.Plans.{planOf};
 ghost use Rattle.ranges.specs.Laid.{Laid, Some};
-ghost use Rattle.ranges.specs.Code.{partOf, rangeOf};
+ghost use Rattle.ranges.specs.Code.{partOf, rangeOf, listOf, listIn};
 
 // Loop k has the indices from froms[k] up to pasts[k], pasts[k] not among them.
 pub struct Ranges {
@@ -26,7 +27,7 @@ pub struct Lengths {
 }
 
 // Which part of the loops is asked for.
-enum Part {
+pub enum Part {
     Fused,
     Peeled,
 }
@@ -72,7 +73,7 @@ fn part_between(
 }
 
 // The ranges of the loops in block b.
-fn ranges_of(
+pub fn ranges_of(
     part: Part,
     p: Plan,
     processors: u32,
@@ -139,6 +140,40 @@ pub fn peeled_ranges(
     ranges_of(Part::Peeled, p, processors, b, firsts, lasts)
 }
 
+// The n-th iteration of the list that the ranges give.
+pub fn nth_of(part: Part, froms: &[u32], pasts: &[u32], shifts: &[u32], n: usize) -> Iteration
+    requires { ⌜ (length (now froms) ≤ 16) × Aligned (now froms) (now pasts) (now shifts) ⌝ }
+    requires { ⌜ n < length (listOf part (now froms) (now pasts) (now shifts)) ⌝ }
+    ensures { λ r. ⌜ r ≡ getD (listOf part (now (froms .entry)) (now (pasts .entry)) (now (shifts .entry))) n (iteration 0 0) ⌝ }
+{
+    match part {
+        Part::Fused => lists::fused_nth(froms, pasts, shifts, n),
+        Part::Peeled => lists::peeled_nth(froms, pasts, n),
+    }
+}
+
+// The n-th iteration of processor b's list.
+fn iteration_of(
+    part: Part,
+    p: Plan,
+    processors: u32,
+    b: u32,
+    firsts: &[u32; 16],
+    lasts: &[u32; 16],
+    n: usize,
+) -> Iteration
+    requires { ⌜ (b < processors) × ((t : Table) × Laid t processors p (now firsts) (now lasts) × (n < length (listIn part t processors b))) ⌝ }
+    ensures { λ r. ⌜ ((t : Table) → Laid t processors p (now (firsts .entry)) (now (lasts .entry)) → r ≡ getD (listIn part t processors b) n (iteration 0 0)) ⌝ }
+{
+    let r = ranges_of(part, p, processors, b, firsts, lasts);
+    let l = p.loops;
+    let froms = r.froms;
+    let pasts = r.pasts;
+    let a = p.amounts;
+    let shifts = a.shifts;
+    nth_of(part, &froms[..l], &pasts[..l], &shifts[..l], n)
+}
+
 // The n-th iteration of processor b's fused list.
 pub fn fused_iteration(
     p: Plan,
@@ -151,13 +186,7 @@ pub fn fused_iteration(
     requires { ⌜ (b < processors) × ((t : Table) × Laid t processors p (now firsts) (now lasts) × (n < length (fusedList t (planOf t processors) b))) ⌝ }
     ensures { λ r. ⌜ ((t : Table) → Laid t processors p (now (firsts .entry)) (now (lasts .entry)) → r ≡ getD (fusedList t (planOf t processors) b) n (iteration 0 0)) ⌝ }
 {
-    let r = fused_ranges(p, processors, b, firsts, lasts);
-    let l = p.loops;
-    let froms = r.froms;
-    let pasts = r.pasts;
-    let a = p.amounts;
-    let shifts = a.shifts;
-    lists::fused_nth(&froms[..l], &pasts[..l], &shifts[..l], n)
+    iteration_of(Part::Fused, p, processors, b, firsts, lasts, n)
 }
 
 // The n-th iteration of processor b's peeled list.
@@ -172,11 +201,7 @@ pub fn peeled_iteration(
     requires { ⌜ (b < processors) × ((t : Table) × Laid t processors p (now firsts) (now lasts) × (n < length (peeledList t (planOf t processors) b))) ⌝ }
     ensures { λ r. ⌜ ((t : Table) → Laid t processors p (now (firsts .entry)) (now (lasts .entry)) → r ≡ getD (peeledList t (planOf t processors) b) n (iteration 0 0)) ⌝ }
 {
-    let r = peeled_ranges(p, processors, b, firsts, lasts);
-    let l = p.loops;
-    let froms = r.froms;
-    let pasts = r.pasts;
-    lists::peeled_nth(&froms[..l], &pasts[..l], n)
+    iteration_of(Part::Peeled, p, processors, b, firsts, lasts, n)
 }
 
 // How long the list of the ranges in block b is.

@@ -1,23 +1,27 @@
 -- What a step's report says.
-use Prim.Native.Nat.{ℕ, _+_, _-_, _≤_, _<_}
+use Prim.Native.Nat.{ℕ, zero, suc, _+_, _-_, _≤_, _<_}
 use native.Mathlib.Omega.{arith}
-use mathlib.Core.Path.{_≡_, refl, sym, ap, _∙_}
-use mathlib.Core.Logic.{_⊎_, inl, inr}
-use mathlib.Core.Bool.{Bool, true, false, cond}
-use mathlib.Core.List.{List, _++_}
+use mathlib.Core.Path.{_≡_, refl, sym, ap, _∙_, subst}
+use mathlib.Core.Logic.{_⊎_, inl, inr, ⊎-elim}
+use mathlib.Core.Bool.{Bool, true, false}
+use mathlib.Core.List.{List, [], _∷_, _++_, List·Memᴰ·append-cases}
+use mathlib.Core.List.{List·Memᴰ as Mem, List·Memᴰ·head as mhere, List·Memᴰ·tail as mthere}
 use lib.ListN.{length, getD, length-append, List·getD-append}
 use lib.Seq.{getD-append-add}
 use lib.Ieee.{Float}
 use Rattle.model.specs.declared.Iteration.{Iteration}
-use Rattle.model.specs.Table.{Table, iteration}
+use Rattle.model.specs.Table.{Table, iteration, Inside}
 use Rattle.reader.specs.Reading.{Answer, accepted, refused}
 use Rattle.blocks.specs.Sums.{column}
-use Rattle.plans.specs.Plans.{planned, plannedFor}
-use Rattle.plans.specs.Fitting.{named-fits}
+use Rattle.grounds.specs.Accepted.{valid-last}
+use Rattle.lists.specs.Fusion.{fused-list, peeled-list}
+use Rattle.plans.specs.Plans.{planOf, planned, plannedFor}
+use Rattle.plans.specs.Known.{valid}
+use Rattle.plans.specs.Fitting.{planned-fits, named-fits}
 use Rattle.iterations.specs.Memory.{total, remembered, remembered-accepted}
 use Rattle.stepping.specs.declared.Report.{Report}
 use Rattle.stepping.specs.declared.Report.the-variants.{Refused, Performed, Waiting, Finished}
-use Rattle.stepping.specs.Step.{After, stays, fused, peeled, closed, wrongState, turn, stepped, step}
+use Rattle.stepping.specs.Step.{After, stays, fused, peeled, wrongState, turn, stepped, step}
 use Rattle.stepping.specs.Reach.{Opened, Turn, early, waits, late, ends, turn-is, closed-opened, closed-which}
 
 -- a call is refused and changes nothing, or it is a turn of an accepted table, P, memory and state
@@ -68,6 +72,18 @@ turned {B} s P b cs m r n e f = go (step-is s P b cs m)
     go (inl (g, p, q)) = absurd (n (ap tag (sym e ∙ ap (λ (a : After). a .report) q)))
     go (inr (t, a)) = (t, a, f t (turn t P b cs m) (turn-is t P b cs m) (sym (ap (λ (a : After). a .report) (a .turns)) ∙ e))
 
+-- what stands in a processor's lists are iterations of the table
+nth-mem : (n : ℕ) (l : List Iteration) → n < length l → Mem (getD l n (iteration 0 0)) l
+nth-mem n [] h = absurd (omega arith)
+nth-mem zero (x ∷ l) h = mhere refl
+nth-mem (suc n) (x ∷ l) h = mthere (nth-mem n l (omega arith))
+
+listed-inside : (t : Table) (P b : ℕ) → b < P → (n : ℕ) → n < length (fused t P b ++ peeled t P b)
+    → Inside t (getD (fused t P b ++ peeled t P b) n (iteration 0 0))
+listed-inside t P b proper n l =
+    ⊎-elim (λ h. fused-list t (planOf t P) b _ proper .0 h .0) (λ h. peeled-list t (planOf t P) b _ proper .0 h .0)
+    (List·Memᴰ·append-cases (fused t P b) (nth-mem n (fused t P b ++ peeled t P b) l))
+
 module _ (s : List ℕ) (P b : ℕ) (cs : List ℕ) (m : List Float) where
   -- the reported iteration is the count-th of that processor's lists
   pub performed-nth : (k i : ℕ) → step s P b cs m .report ≡ Performed k i → (t : Table) × Accepts s P b cs m t
@@ -83,8 +99,8 @@ module _ (s : List ℕ) (P b : ℕ) (cs : List ℕ) (m : List Float) where
           let z : column cs b ≡ length (fused t P b) + (column cs b - length (fused t P b)) = omega arith in (
             omega (arith, length-append (fused t P b) (peeled t P b)),
             ap (λ (n : ℕ). getD (fused t P b ++ peeled t P b) n (iteration 0 0)) z
-            ∙ getD-append-add (fused t P b) (peeled t P b) (column cs b - length (fused t P b)) (iteration 0 0)
-            ∙ ap named q,
+                ∙ getD-append-add (fused t P b) (peeled t P b) (column cs b - length (fused t P b)) (iteration 0 0)
+                ∙ ap named q,
           )
       by t a (ends f c h) q = absurd (omega (arith, ap tag q))
 
@@ -110,3 +126,11 @@ module _ (s : List ℕ) (P b : ℕ) (cs : List ℕ) (m : List Float) where
       by t a (waits f c) q = absurd (omega (arith, ap tag q))
       by t a (late f c h) q = absurd (omega (arith, ap tag q))
       by t a (ends f c h) q = (omega arith, closed-opened t P cs c)
+
+  -- its loop is one of sixteen, and its index is small
+  pub performed-small : (k i : ℕ) → step s P b cs m .report ≡ Performed k i → (k < 16) × (i ≤ 65790)
+  performed-small k i e =
+      let (t, a, (l, q)) = performed-nth k i e in
+      let v = valid s t (planned-fits s P t (a .plan) .read) in
+      let x = subst (Inside t) q (listed-inside t P b (a .proper) (column cs b) l) in
+      (omega (arith, x .0, v .few-loops), omega (arith, x .2, valid-last t v k (x .0)))

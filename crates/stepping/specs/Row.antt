@@ -5,7 +5,7 @@ use native.Mathlib.Decide.{ℕ-discrete, decLt}
 use mathlib.Core.Path.{_≡_, refl, sym, ap, _∙_}
 use mathlib.Core.Bool.{Bool, true, false, cond}
 use mathlib.Core.List.{List, [], _∷_, _++_}
-use lib.Dec.{ltb}
+use lib.Dec.{ltb, eqb}
 use borrow.Author.Tests.{lt-ltb, le-ltb}
 use lib.ListN.{length}
 use lib.Ieee.{Float}
@@ -39,6 +39,13 @@ module _ (s : List ℕ) (P : ℕ) where
   unfoldable pub memoryAfter : List ℕ → List ℕ → List Float → List Float
   memoryAfter [] counts m = m
   memoryAfter (b ∷ bs) counts m = let a = step s P b counts m in memoryAfter bs (a .counts) (a .memory)
+
+  -- the reports of the calls that name processor d
+  unfoldable pub reportsTo : ℕ → List ℕ → List ℕ → List Float → List Report
+  reportsTo d [] counts m = []
+  reportsTo d (b ∷ bs) counts m =
+      let a = step s P b counts m in
+      cond (eqb b d) (a .report ∷ reportsTo d bs (a .counts) (a .memory)) (reportsTo d bs (a .counts) (a .memory))
 
 -- a call that waits, is finished or is refused is idle
 abbrev pub performing : Report → Bool

@@ -4,5 +4,3 @@ pub mod Sweeps
 pub mod Members
 -- the same sets from a loop's rows
 pub mod Rows
--- known results
-pub mod Known

@@ -9,34 +9,34 @@ use Rattle.serial.specs.declared.Checked.the-variants.{Refused, Serial, Accepte
 use Rattle.serial.specs.Serial.{table, answer, Left}
 use Rattle.serial.specs.Named.{named-collides}
 use Rattle.grounds.specs.Theorems.{refused-number}
-use Rattle.tables.specs.Verdict.{numberOf, placeOf, Told, refusing, Outlined}
+use Rattle.tables.specs.Verdict.{numberOf, placeOf, Tells, refusing, Outlined}
 
 module _ (s : List ℕ) (c : Columns) where
   pub told-refused : (g p n : ℕ) → answer (Refused g p) c ≡ table s → Left (Refused g p) c s → n ≡ g
-      → Told s (record { number = n; place = p; read = 0 })
+      → Tells s (table s) n p 0
   unfolding answer
   told-refused g p n e l f = record {
-    number = f ∙ ap numberOf e;
-    place = ap placeOf e;
+    number-is = f ∙ ap numberOf e;
+    place-is = ap placeOf e;
     named = λ t h q. let z : refused g p ≡ accepted t = sym l ∙ h in let w : _≡_ {A = ℕ} 0 1 = cc in absurd (omega arith);
     unnamed = λ h. refl;
   }
 
   pub told-serial : (k n : ℕ) → answer (Serial k n) c ≡ table s → Left (Serial k n) c s
-      → Told s (record { number = 9; place = k; read = n })
+      → Tells s (table s) 9 k n
   unfolding answer
   told-serial k n e h = record {
-    number = ap numberOf e;
-    place = ap placeOf e;
+    number-is = ap numberOf e;
+    place-is = ap placeOf e;
     named = λ t q z. named-collides s c k n h t q;
     unnamed = λ z. absurd (z refl);
   }
 
-  pub told-accepted : (a l r : ℕ) → answer (Accepted a l r) c ≡ table s → Told s (record { number = 0; place = 0; read = 0 })
+  pub told-accepted : (a l r : ℕ) → answer (Accepted a l r) c ≡ table s → Tells s (table s) 0 0 0
   unfolding answer
   told-accepted a l r e = record {
-    number = ap numberOf e;
-    place = ap placeOf e;
+    number-is = ap numberOf e;
+    place-is = ap placeOf e;
     named = λ t q z. absurd (omega (arith, z));
     unnamed = λ z. refl;
   }

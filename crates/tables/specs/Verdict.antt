@@ -19,12 +19,16 @@ abbrev pub placeOf : Answer → ℕ
 placeOf (accepted t) = 0
 placeOf (refused n p) = p
 
--- the read that 9 names is one that meets the destination in another iteration; which, if several do, is left free
-pub record Told (s : List ℕ) (v : Verdict) : Type 0 where
-  pub number : v .number ≡ numberOf (table s)
-  pub place : v .place ≡ placeOf (table s)
-  pub named : (t : Table) → reading s ≡ accepted t → v .number ≡ 9 → Collides t (v .place) (v .read)
-  pub unnamed : (v .number ≡ 9 → ⊥) → v .read ≡ 0
+-- what a call tells of an answer on the bytes s. The read that 9 names is one that meets the destination in another iteration; which, if
+-- several do, is left free
+pub record Tells (s : List ℕ) (a : Answer) (number place read : ℕ) : Type 0 where
+  pub number-is : number ≡ numberOf a
+  pub place-is : place ≡ placeOf a
+  pub named : (t : Table) → reading s ≡ accepted t → number ≡ 9 → Collides t place read
+  pub unnamed : (number ≡ 9 → ⊥) → read ≡ 0
+
+abbrev pub Told : List ℕ → Answer → Verdict → Type 0
+Told s a v = Tells s a (v .number) (v .place) (v .read)
 
 -- a refusal has no columns
 abbrev pub refusing : ℕ → ℕ → ℕ → Outline
@@ -32,5 +36,5 @@ refusing number place read = record { number = number; place = place; read = rea
 
 -- the same of an outline, and where there is no refusal the columns hold the table
 pub record Outlined (s : List ℕ) (r : Outline) (c : Columns) : Type 0 where
-  pub told : Told s (record { number = r .number; place = r .place; read = r .read })
+  pub told : Tells s (table s) (r .number) (r .place) (r .read)
   pub held : r .number ≡ 0 → (table s ≡ accepted (tableAt c (r .arrays) (r .loops))) × Sized c × Kept c (r .arrays) (r .loops) (r .rows)

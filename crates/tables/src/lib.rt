@@ -3,6 +3,7 @@ use serial::Checked;
 ghost use mathlib.Core.Path.{_≡_};
 ghost use Rattle.reader.specs.Columns.{columns};
 ghost use Rattle.reader.specs.Stored.{Sized};
+ghost use Rattle.serial.specs.Serial.{table};
 ghost use Rattle.tables.specs.Verdict.{Told, refusing, Outlined};
 
 // The number of the refusal, 0 where there is none; its place; and the read that 9 names, else 0.
@@ -75,7 +76,7 @@ pub fn read_through(
 }
 
 pub fn check(s: &[u8]) -> Verdict
-    ensures { λ r. ⌜ Told (now (s .entry)) r ⌝ }
+    ensures { λ r. ⌜ Told (now (s .entry)) (table (now (s .entry))) r ⌝ }
 {
     let mut lens = [0u32; 16];
     let mut firsts = [0u32; 16];

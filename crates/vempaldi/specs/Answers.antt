@@ -1,8 +1,15 @@
 -- What an exported function leaves in the lent answer: the refusal's number (0 for none), its place, and the read that 9 names (else 0).
-use Prim.Native.Nat.{ℕ}
+use Prim.Native.Nat.{ℕ, _≤_, _<_}
 use mathlib.Core.Path.{_≡_}
 use mathlib.Core.List.{List}
 use lib.ListN.{set}
+use lib.Ieee.{Float}
+use Rattle.model.specs.Table.{Table}
+use Rattle.reader.specs.Reading.{Answer, accepted, reading}
+use Rattle.serial.specs.Meeting.{Collides}
+use Rattle.stepping.specs.declared.Report.{Report}
+use Rattle.stepping.specs.declared.Report.the-variants.{Refused, Performed, Waiting, Finished}
+use Rattle.stepping.specs.Step.{step}
 use Rattle.tables.specs.declared.Verdict.{Verdict}
 use Rattle.tables.specs.Verdict.{Told}
 use Rattle.numbers.specs.declared.Outcome.{Outcome as Entry}
@@ -16,10 +23,10 @@ use Rattle.joining.specs.Told.{Told as JoinedTold}
 abbrev pub answered : ℕ → ℕ → ℕ → List ℕ → List ℕ
 answered number place read w = set (set (set w 0 number) 1 place) 2 read
 
--- the answer on a table's bytes s: `found` is what was lent, `left` what it then holds
-pub record CheckTold (s found left : List ℕ) : Type 0 where
+-- the answer of a call on a table's bytes s that a decides: `found` is what was lent, `left` what it then holds
+pub record AnswerTold (s : List ℕ) (a : Answer) (found left : List ℕ) : Type 0 where
   pub verdict : Verdict
-  pub told : Told s verdict
+  pub told : Told s a verdict
   pub is : left ≡ answered (verdict .number) (verdict .place) (verdict .read) found
 
 -- the answer on two tables joined into so many lent bytes, and how many were written
@@ -42,3 +49,36 @@ pub record ListingTold (text out left found answer : List ℕ) (count : ℕ) : T
   pub prints : Prints text out left printed
   pub is : answer ≡ answered (printed .number) 0 0 found
   pub written : count ≡ printed .written
+
+-- the three numbers of a report, and the three of its answer; `read` is the read that 9 names
+abbrev pub written : ℕ → ℕ → ℕ → List ℕ → List ℕ
+written kind number index w = set (set (set w 0 kind) 1 number) 2 index
+
+unfoldable pub reported : Report → List ℕ → List ℕ
+reported (Refused number place) w = w
+reported (Performed number index) w = written 0 number index w
+reported Waiting w = written 1 0 0 w
+reported Finished w = written 2 0 0 w
+
+unfoldable pub refusal : Report → ℕ → List ℕ → List ℕ
+refusal (Refused number place) read w = answered number place read w
+refusal (Performed number index) read w = answered 0 0 0 w
+refusal Waiting read w = answered 0 0 0 w
+refusal Finished read w = answered 0 0 0 w
+
+-- a report's numbers have room
+unfoldable pub Small : Report → Type 0
+Small (Refused number place) = Unit {0}
+Small (Performed number index) = (number < 16) × (index ≤ 65790)
+Small Waiting = Unit {0}
+Small Finished = Unit {0}
+
+-- a step of processor b of P: what was lent before, and after
+pub record StepTold (s : List ℕ) (P b : ℕ) (counts : List ℕ) (m : List Float) (report answer counts′ : List ℕ) (m′ : List Float) (report′ answer′ : List ℕ) : Type 0 where
+  pub counts-are : counts′ ≡ step s P b counts m .counts
+  pub memory-is : m′ ≡ step s P b counts m .memory
+  pub report-is : report′ ≡ reported (step s P b counts m .report) report
+  pub read : ℕ
+  pub answer-is : answer′ ≡ refusal (step s P b counts m .report) read answer
+  pub named : (t : Table) → reading s ≡ accepted t → (place : ℕ) → step s P b counts m .report ≡ Refused 9 place → Collides t place read
+  pub unnamed : ((place : ℕ) → step s P b counts m .report ≡ Refused 9 place → ⊥) → read ≡ 0

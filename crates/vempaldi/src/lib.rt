@@ -1,11 +1,15 @@
 // The exported functions: thin, with plain numbers and slices. None requires anything: what it cannot take it refuses.
 ghost use mathlib.Core.Path.{_≡_};
 ghost use lib.ListN.{length};
+ghost use Rattle.serial.specs.Serial.{table as accepts};
 ghost use Rattle.joining.specs.Joining.{joining, final};
 ghost use Rattle.numbers.specs.Given as Given;
-ghost use Rattle.entries.specs.Entries.{amounts, thresholds, sweepsGiven};
+ghost use Rattle.entries.specs.Entries.{amounts, thresholds, sweepsGiven, blocksGiven, fusedGiven, peeledGiven};
 ghost use Rattle.printing.specs.Printing.{text};
-ghost use Rattle.vempaldi.specs.Answers.{answered, CheckTold, JoinTold, EntryTold, ListingTold};
+use stepping::Report;
+use steps::Counts;
+ghost use Rattle.plain.specs.Plain.{plainAnswer, plainMemory};
+ghost use Rattle.vempaldi.specs.Answers.{AnswerTold, written, reported, refusal, Small, StepTold, answered, JoinTold, EntryTold, ListingTold};
 
 fn write_answer(answer: &mut [u64; 3], number: usize, place: usize, read: usize)
     ensures { λ _. ⌜ now (answer .exit) ≡ answered number place read (now (answer .entry)) ⌝ }
@@ -18,7 +22,7 @@ fn write_answer(answer: &mut [u64; 3], number: usize, place: usize, read: usize)
 // Whether a table is accepted, or the refusal.
 #[no_mangle]
 pub extern "C" fn vempaldi_check(table: &[u8], answer: &mut [u64; 3])
-    ensures { λ _. ⌜ CheckTold (now (table .entry)) (now (answer .entry)) (now (answer .exit)) ⌝ }
+    ensures { λ _. ⌜ AnswerTold (now (table .entry)) (accepts (now (table .entry))) (now (answer .entry)) (now (answer .exit)) ⌝ }
 {
     let v = tables::check(table);
     write_answer(answer, v.number, v.place, v.read);
@@ -90,4 +94,122 @@ pub extern "C" fn vempaldi_sweeps(table: &[u8], out: &mut [u8], answer: &mut [u6
     let o = entries::sweeps(table, out);
     write_answer(answer, o.number, o.place, o.read);
     o.written as u64
+}
+
+// First and last index of each block, four bytes each; answers how many bytes were written, 0 where it refuses.
+#[no_mangle]
+pub extern "C" fn vempaldi_blocks(
+    table: &[u8],
+    processors: u32,
+    out: &mut [u8],
+    answer: &mut [u64; 3],
+) -> u64
+    ensures { λ r. ⌜ EntryTold (now (table .entry)) (blocksGiven (now (table .entry)) processors (length (now (out .entry)))) (now (answer .entry)) (now (answer .exit)) r ⌝ }
+    ensures { λ r. ⌜ now (out .exit) ≡ Given.final (blocksGiven (now (table .entry)) processors (length (now (out .entry)))) (now (out .entry)) ⌝ }
+{
+    let o = entries::blocks(table, processors, out);
+    write_answer(answer, o.number, o.place, o.read);
+    o.written as u64
+}
+
+// Loop and iteration of each in a processor's fused list, four bytes each; answers how many bytes were written, 0 where it refuses.
+#[no_mangle]
+pub extern "C" fn vempaldi_fused_list(
+    table: &[u8],
+    processors: u32,
+    processor: u32,
+    out: &mut [u8],
+    answer: &mut [u64; 3],
+) -> u64
+    ensures { λ r. ⌜ EntryTold (now (table .entry)) (fusedGiven (now (table .entry)) processors processor (length (now (out .entry)))) (now (answer .entry)) (now (answer .exit)) r ⌝ }
+    ensures { λ r. ⌜ now (out .exit) ≡ Given.final (fusedGiven (now (table .entry)) processors processor (length (now (out .entry)))) (now (out .entry)) ⌝ }
+{
+    let o = entries::fused_list(table, processors, processor, out);
+    write_answer(answer, o.number, o.place, o.read);
+    o.written as u64
+}
+
+// Loop and iteration of each in a processor's peeled list, four bytes each; answers how many bytes were written, 0 where it refuses.
+#[no_mangle]
+pub extern "C" fn vempaldi_peeled_list(
+    table: &[u8],
+    processors: u32,
+    processor: u32,
+    out: &mut [u8],
+    answer: &mut [u64; 3],
+) -> u64
+    ensures { λ r. ⌜ EntryTold (now (table .entry)) (peeledGiven (now (table .entry)) processors processor (length (now (out .entry)))) (now (answer .entry)) (now (answer .exit)) r ⌝ }
+    ensures { λ r. ⌜ now (out .exit) ≡ Given.final (peeledGiven (now (table .entry)) processors processor (length (now (out .entry)))) (now (out .entry)) ⌝ }
+{
+    let o = entries::peeled_list(table, processors, processor, out);
+    write_answer(answer, o.number, o.place, o.read);
+    o.written as u64
+}
+
+// The plain run of a table in the lent memory. A refused run leaves the memory as found.
+#[no_mangle]
+pub extern "C" fn vempaldi_plain_run(table: &[u8], memory: &mut [f64], answer: &mut [u64; 3])
+    ensures { λ _. ⌜ AnswerTold (now (table .entry)) (plainAnswer (now (table .entry)) (length (now (memory .entry)))) (now (answer .entry)) (now (answer .exit)) ⌝ }
+    ensures { λ _. ⌜ now (memory .exit) ≡ plainMemory (now (table .entry)) (now (memory .entry)) ⌝ }
+{
+    let v = plain::plain_run(table, memory);
+    write_answer(answer, v.number, v.place, v.read);
+}
+
+fn write_report(report: &mut [u32; 3], kind: u32, number: u32, index: u32)
+    ensures { λ _. ⌜ now (report .exit) ≡ written kind number index (now (report .entry)) ⌝ }
+{
+    report[0] = kind;
+    report[1] = number;
+    report[2] = index;
+}
+
+// What a call reports: 0, a loop and an iteration; 1 where its processor waits; 2 where it is finished. A refused call leaves it as found.
+fn tell_report(report: &mut [u32; 3], r: Report)
+    requires { ⌜ Small r ⌝ }
+    ensures { λ _. ⌜ now (report .exit) ≡ reported r (now (report .entry)) ⌝ }
+{
+    match r {
+        Report::Refused { number, place } => {}
+        Report::Performed { number, index } => {
+            write_report(report, 0, number as u32, index as u32)
+        }
+        Report::Waiting => write_report(report, 1, 0, 0),
+        Report::Finished => write_report(report, 2, 0, 0),
+    }
+}
+
+fn tell_answer(answer: &mut [u64; 3], r: Report, read: usize)
+    ensures { λ _. ⌜ now (answer .exit) ≡ refusal r read (now (answer .entry)) ⌝ }
+{
+    match r {
+        Report::Refused { number, place } => write_answer(answer, number, place, read),
+        Report::Performed { number, index } => write_answer(answer, 0, 0, 0),
+        Report::Waiting => write_answer(answer, 0, 0, 0),
+        Report::Finished => write_answer(answer, 0, 0, 0),
+    }
+}
+
+// One step of a processor: the counts and the memory are as the step before left them, first all counts 0.
+#[no_mangle]
+pub extern "C" fn vempaldi_step(
+    table: &[u8],
+    processors: u32,
+    processor: u32,
+    counts: &mut [u32; 64],
+    memory: &mut [f64],
+    report: &mut [u32; 3],
+    answer: &mut [u64; 3],
+)
+    ensures { λ _. ⌜ StepTold (now (table .entry)) processors processor (now (counts .entry)) (now (memory .entry)) (now (report .entry)) (now (answer .entry)) (now (counts .exit)) (now (memory .exit)) (now (report .exit)) (now (answer .exit)) ⌝ }
+{
+    let done = *counts;
+    let state = Counts { done };
+    let r = state.step(table, processors, processor, memory);
+    let c = r.counts;
+    let left = c.done;
+    *counts = left;
+    let told = r.report;
+    tell_report(report, told);
+    tell_answer(answer, told, r.read);
 }

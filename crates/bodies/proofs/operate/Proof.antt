@@ -2,25 +2,19 @@ use borrow.Author.Tests.{eq-eqb, ne-eqb}
 use Rattle.model.specs.Bodies.{binary}
 use Rattle.bodies.proofs.operate.Statement.{statement}
 use Rattle.bodies.proofs.operate.Tie as tie
-use Rattle.bodies.proofs.operate.Reads as reads
-use Rattle.bodies.proofs.operate.Lts as lts
 
--- src/lib.rt:26:9
 returns : tie.Need-returns
 unfolding binary
 returns c = simp (eq-eqb _ _ (c .if1 .taken))
 
--- src/lib.rt:29:9
 returns-2 : tie.Need-returns-2
 unfolding binary
 returns-2 c = simp (ne-eqb _ _ (c .before .if1 .left), eq-eqb _ _ (c .if2 .taken))
 
--- src/lib.rt:32:9
 returns-3 : tie.Need-returns-3
 unfolding binary
 returns-3 c = simp (ne-eqb _ _ (c .before .before .if1 .left), ne-eqb _ _ (c .before .if2 .left), eq-eqb _ _ (c .if3 .taken))
 
--- src/lib.rt:22:1
 returns-4 : tie.Need-returns-4
 unfolding binary
 returns-4 c = simp (ne-eqb _ _ (c .before .before .if1 .left), ne-eqb _ _ (c .before .if2 .left), ne-eqb _ _ (c .if3 .left))

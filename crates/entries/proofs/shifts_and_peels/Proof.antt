@@ -1,6 +1,7 @@
+use Rattle.serial.specs.Serial.{table}
 use native.Mathlib.Omega.{arith}
 use denote.Ref.{now}
-use Rattle.reader.specs.Columns.{columns}
+use Rattle.reader.specs.Columns.{columns, tableAt}
 use Rattle.text.specs.Written.{put-length}
 use Rattle.sweeps.specs.Sweeps.{before}
 use Rattle.entries.specs.Entries.{amounts, amountsOf}
@@ -25,7 +26,7 @@ returns c = let z = c .before .before .before .before .measure .last in
     let h = c .before .before .before .before .measure .ensures in
     let o = m .outline in
     let g = h .outlined in
-    rw (c .refusal .ensures) (entry-refused s d o g amountsOf out (c .before .if1 .taken))
+    rw (c .refusal .ensures) (entry-refused s (table s) amountsOf out (o .number) (o .place) (o .read) (g .told) (c .before .if1 .taken))
 
 mul-if2 : tie.Need-mul-if2
 mul-if2 c = omega (arith, c .before .before .before .measure .ensures .outlined .held (c .if1 .left) .2 .few-loops)
@@ -43,7 +44,7 @@ returns-2 c = let z = c .before .before .before .before .before .measure .last i
     let h = c .before .before .before .before .before .measure .ensures in
     let o = m .outline in
     let g = h .outlined in
-    rw (c .refusal2 .ensures) (entry-short s d o g amountsOf out (c .before .before .if1 .left) (rw (amounts-size s d m h (c .before .before .if1 .left)) (c .before .if2 .taken)))
+    rw (c .refusal2 .ensures) (entry-short s (table s) amountsOf out (tableAt d (o .arrays) (o .loops)) (g .held (c .before .before .if1 .left) .0) (rw (amounts-size s d m h (c .before .before .if1 .left)) (c .before .if2 .taken)))
 
 write-pairs-requires : tie.Need-write-pairs-requires
 write-pairs-requires c κs = c .before .before .before .before .before .before .before .before .before .before .measure .ensures .outlined .held (c .before .before .before .before .before .before .before .if1 .left) .2 .few-loops
@@ -61,7 +62,7 @@ returns-3 c = let z = c .before .before .before .before .before .before .before 
     let h = c .before .before .before .before .before .before .before .before .before .before .before .before .before .measure .ensures in
     let o = m .outline in
     let g = h .outlined in
-    entry-written s d o g amountsOf out (c .before .before .before .before .before .before .before .before .before .before .if1 .left) (rw (amounts-size s d m h (c .before .before .before .before .before .before .before .before .before .before .if1 .left)) (c .before .before .before .before .before .before .before .before .before .if2 .left)) _ _ _ (amounts-put s d m h (c .before .before .before .before .before .before .before .before .before .before .if1 .left) out _ _ _ (c .before .before .write-pairs .ensures))
+    entry-written s (table s) amountsOf out (tableAt d (o .arrays) (o .loops)) (g .held (c .before .before .before .before .before .before .before .before .before .before .if1 .left) .0) (rw (amounts-size s d m h (c .before .before .before .before .before .before .before .before .before .before .if1 .left)) (c .before .before .before .before .before .before .before .before .before .if2 .left)) _ _ _ (amounts-put s d m h (c .before .before .before .before .before .before .before .before .before .before .if1 .left) out _ _ _ (c .before .before .write-pairs .ensures))
 
 pub shifts-and-peels-spec : {M : Type 1} → statement M
 shifts-and-peels-spec =

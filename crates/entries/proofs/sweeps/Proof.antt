@@ -1,7 +1,8 @@
+use Rattle.serial.specs.Serial.{table}
 use mathlib.Core.Path.{ap}
 use denote.Ref.{now}
 use mathlib.Core.List.{[], _∷_}
-use Rattle.reader.specs.Columns.{columns}
+use Rattle.reader.specs.Columns.{columns, tableAt}
 use Rattle.text.specs.Written.{put-length}
 use Rattle.sweeps.specs.Sweeps.{before, after, sweeps as sweepsOf}
 use Rattle.sweeps.specs.declared.Sweeps.{Sweeps}
@@ -25,7 +26,7 @@ returns c = let z = c .before .before .before .read-through .last in
     let s = now (c .before .before .before .before .before .before .before .before .before .before .before .before .before .args .s) in
     let out = now (c .before .before .before .before .before .before .before .before .before .before .before .before .before .args .out) in
     let o = c .before .before .before .read-through .result in
-    rw (c .refusal .ensures) (entry-refused s d o (c .before .before .before .read-through .ensures) (λ t. before t ∷ after t ∷ []) out (c .before .if1 .taken))
+    rw (c .refusal .ensures) (entry-refused s (table s) (λ t. before t ∷ after t ∷ []) out (o .number) (o .place) (o .read) (c .before .before .before .read-through .ensures .told) (c .before .if1 .taken))
 
 refusal-requires-2 : tie.Need-refusal-requires-2
 refusal-requires-2 c κs = search needs
@@ -37,7 +38,7 @@ returns-2 c = let z = c .before .before .before .before .read-through .last in
     let s = now (c .before .before .before .before .before .before .before .before .before .before .before .before .before .before .args .s) in
     let out = now (c .before .before .before .before .before .before .before .before .before .before .before .before .before .before .args .out) in
     let o = c .before .before .before .before .read-through .result in
-    rw (c .refusal2 .ensures) (entry-short s d o (c .before .before .before .before .read-through .ensures) (λ t. before t ∷ after t ∷ []) out (c .before .before .if1 .left) (rw (two-size _ _) (c .before .if2 .taken)))
+    rw (c .refusal2 .ensures) (entry-short s (table s) (λ t. before t ∷ after t ∷ []) out (tableAt d (o .arrays) (o .loops)) (c .before .before .before .before .read-through .ensures .held (c .before .before .if1 .left) .0) (rw (two-size _ _) (c .before .if2 .taken)))
 
 sweeps-of-requires : tie.Need-sweeps-of-requires
 sweeps-of-requires c κs = let z = c .before .before .before .before .before .before .read-through .last in
@@ -61,7 +62,7 @@ returns-3 c = let z = c .before .before .before .before .before .before .before 
     let out = now (c .before .before .before .before .before .before .before .before .before .before .before .before .before .before .before .before .before .before .before .before .before .args .out) in
     let o = c .before .before .before .before .before .before .before .before .before .before .before .read-through .result in
     let e = c .before .before .before .before .sweeps-of .ensures (d .lens) (d .firsts) (d .lasts) (d .values) (o .arrays) in
-    entry-written s d o (c .before .before .before .before .before .before .before .before .before .before .before .read-through .ensures) (λ t. before t ∷ after t ∷ []) out (c .before .before .before .before .before .before .before .before .before .if1 .left) (rw (two-size _ _) (c .before .before .before .before .before .before .before .before .if2 .left)) _ _ _ (two-put _ _ _ _ out _ _ (ap (λ (w : Sweeps). w .before) e) (ap (λ (w : Sweeps). w .after) e) (c .before .before .put-pair .ensures))
+    entry-written s (table s) (λ t. before t ∷ after t ∷ []) out (tableAt d (o .arrays) (o .loops)) (c .before .before .before .before .before .before .before .before .before .before .before .read-through .ensures .held (c .before .before .before .before .before .before .before .before .before .if1 .left) .0) (rw (two-size _ _) (c .before .before .before .before .before .before .before .before .if2 .left)) _ _ _ (two-put _ _ _ _ out _ _ (ap (λ (w : Sweeps). w .before) e) (ap (λ (w : Sweeps). w .after) e) (c .before .before .put-pair .ensures))
 
 pub sweeps-spec : {M : Type 1} → statement M
 sweeps-spec =

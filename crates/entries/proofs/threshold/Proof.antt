@@ -1,8 +1,10 @@
+use mathlib.Core.Bool.{false}
+use Rattle.serial.specs.Serial.{table}
 use native.Mathlib.Omega.{arith}
 use mathlib.Core.Path.{_∙_}
 use denote.Ref.{now}
 use mathlib.Core.List.{[], _∷_}
-use Rattle.reader.specs.Columns.{columns}
+use Rattle.reader.specs.Columns.{columns, tableAt}
 use Rattle.text.specs.Written.{put-length}
 use Rattle.plans.specs.Plans.{thresholdOf}
 use Rattle.plans.proofs.Laws.{threshold-is, threshold-fits}
@@ -29,7 +31,7 @@ returns c = let z = c .before .before .before .before .measure .last in
     let h = c .before .before .before .before .measure .ensures in
     let o = m .outline in
     let g = h .outlined in
-    rw (c .refusal .ensures) (entry-refused s d o g (λ t. thresholdOf t ∷ []) out (c .before .if1 .taken))
+    rw (c .refusal .ensures) (entry-refused s (table s) (λ t. thresholdOf t ∷ []) out (o .number) (o .place) (o .read) (g .told) (c .before .if1 .taken))
 
 refusal-requires-2 : tie.Need-refusal-requires-2
 refusal-requires-2 c κs = search needs
@@ -44,7 +46,7 @@ returns-2 c = let z = c .before .before .before .before .before .measure .last i
     let h = c .before .before .before .before .before .measure .ensures in
     let o = m .outline in
     let g = h .outlined in
-    rw (c .refusal2 .ensures) (entry-short s d o g (λ t. thresholdOf t ∷ []) out (c .before .before .if1 .left) (rw (one-size _) (c .before .if2 .taken)))
+    rw (c .refusal2 .ensures) (entry-short s (table s) (λ t. thresholdOf t ∷ []) out (tableAt d (o .arrays) (o .loops)) (g .held (c .before .before .if1 .left) .0) (rw (one-size _) (c .before .if2 .taken)))
 
 threshold-of-requires : tie.Need-threshold-of-requires
 threshold-of-requires c κs = search needs
@@ -58,7 +60,7 @@ cast-x c = let z = c .before .before .before .before .before .before .measure .l
     let h = c .before .before .before .before .before .before .measure .ensures in
     let o = m .outline in
     let g = h .outlined in
-    omega (arith, threshold-fits s 0 d m h (c .before .before .before .if1 .left) (c .threshold-of .result) (c .threshold-of .ensures))
+    omega (arith, threshold-fits s false 0 d m h (c .before .before .before .if1 .left) (c .threshold-of .result) (c .threshold-of .ensures))
 
 put-number-requires : tie.Need-put-number-requires
 put-number-requires c κs = search needs
@@ -76,8 +78,8 @@ returns-3 c = let z = c .before .before .before .before .before .before .before 
     let h = c .before .before .before .before .before .before .before .before .before .before .measure .ensures in
     let o = m .outline in
     let g = h .outlined in
-    let e = c .before .before .before .before .threshold-of .ensures ∙ threshold-is s 0 d m h (c .before .before .before .before .before .before .before .if1 .left) in
-    entry-written s d o g (λ t. thresholdOf t ∷ []) out (c .before .before .before .before .before .before .before .if1 .left) (rw (one-size _) (c .before .before .before .before .before .before .if2 .left)) _ _ _ (one-put _ _ out _ _ e (c .before .before .put-number .ensures))
+    let e = c .before .before .before .before .threshold-of .ensures ∙ threshold-is s false 0 d m h (c .before .before .before .before .before .before .before .if1 .left) in
+    entry-written s (table s) (λ t. thresholdOf t ∷ []) out (tableAt d (o .arrays) (o .loops)) (g .held (c .before .before .before .before .before .before .before .if1 .left) .0) (rw (one-size _) (c .before .before .before .before .before .before .if2 .left)) _ _ _ (one-put _ _ out _ _ e (c .before .before .put-number .ensures))
 
 pub threshold-spec : {M : Type 1} → statement M
 threshold-spec =

@@ -5,15 +5,11 @@ use lib.Ieee.Compare.{differs-from-itself}
 use borrow.Author.Needs.{needs}
 use Rattle.iterations.proofs.canonical.Statement.{statement}
 use Rattle.iterations.proofs.canonical.Tie as tie
-use Rattle.iterations.proofs.canonical.Reads as reads
-use Rattle.iterations.proofs.canonical.Lts as lts
 
--- src/lib.rt:43:1
 returns : tie.Need-returns
 unfolding div ofBits
 returns c = sym (differs-from-itself (c .before .args .x) (subst T (sym (c .if1 .taken)) tt))
 
--- src/lib.rt:43:1
 returns-2 : tie.Need-returns-2
 returns-2 c = search needs
 

@@ -1,8 +1,7 @@
 use native.Mathlib.Omega.{arith}
-use mathlib.Core.Path.{_≡_, refl, sym, ap, _∙_, subst}
 use denote.Ref.{now}
-use Prim.Native.Nat.{_+_, _-_, _<_, _≤_}
-use lib.ListN.{length, getD, set}
+use Prim.Native.Nat.{_<_}
+use lib.ListN.{length, getD}
 use Rattle.iterations.proofs.Laws.{loop-rows, index-small, body-asks, destination-within, stored}
 use borrow.Author.Needs.{needs}
 use Rattle.iterations.proofs.iterate.Statement.{statement}
@@ -12,73 +11,60 @@ use Rattle.iterations.proofs.iterate.Lts as lts
 use Rattle.bodies.proofs.value_of.Reads as value-of-reads
 use Rattle.iterations.proofs.store_in.Reads as store-in-reads
 
--- src/lib.rt:88:16
+abbrev Start : Type 0
+Start = lts.Start (value-of-reads.Asked, value-of-reads.Learnt, store-in-reads.Asked, store-in-reads.Learnt) reads.Pre reads.Post
+
+-- the row of the destination
+row : (s : Start) → getD (now (s .args .starts)) (s .args .number) 0 < 528
+row s =
+    let a = s .args in
+    let (t, l, h, e) = s .pre in
+    let (x, y, z) = loop-rows t (now (a .starts)) (now (a .kinds)) (now (a .arrays)) (now (a .values)) (now (a .bases)) l (a .number) (a .index) h in
+    omega arith
+
 mul-from : tie.Need-mul-from
 mul-from c = search needs
 
--- src/lib.rt:88:16
 element-copy-out-from : tie.Need-element-copy-out-from
 element-copy-out-from c = search needs
 
--- src/lib.rt:89:23
 add-past : tie.Need-add-past
 add-past c = search needs
 
--- src/lib.rt:89:16
 mul-past : tie.Need-mul-past
 mul-past c = search needs
 
--- src/lib.rt:89:16
 element-copy-out-past : tie.Need-element-copy-out-past
 element-copy-out-past c = search needs
 
--- src/lib.rt:95:9
 add-value-of : tie.Need-add-value-of
-add-value-of c = let a = c .before .before .before .args in
-    let (t, l, h, e) = c .before .before .before .pre in
-    omega (arith, loop-rows t (now (a .starts)) (now (a .kinds)) (now (a .arrays)) (now (a .values)) (now (a .bases)) l (a .number) (a .index) h .1, loop-rows t (now (a .starts)) (now (a .kinds)) (now (a .arrays)) (now (a .values)) (now (a .bases)) l (a .number) (a .index) h .2)
+add-value-of c = omega (arith, row (c .before .before .before))
 
--- src/lib.rt:90:9
 value-of-requires : tie.Need-value-of-requires
 value-of-requires c κs = let a = c .before .before .before .before .args in
     let (t, l, h, e) = c .before .before .before .before .pre in
     body-asks t (now (a .starts)) (now (a .kinds)) (now (a .arrays)) (now (a .values)) (now (a .bases)) l (a .number) (a .index) h (length (now (a .memory))) e
 
--- src/lib.rt:100:14
 mul-store-in : tie.Need-mul-store-in
-mul-store-in c = let a = c .before .before .before .before .before .args in
-    let (t, l, h, e) = c .before .before .before .before .before .pre in
-    omega (arith, loop-rows t (now (a .starts)) (now (a .kinds)) (now (a .arrays)) (now (a .values)) (now (a .bases)) l (a .number) (a .index) h .1, loop-rows t (now (a .starts)) (now (a .kinds)) (now (a .arrays)) (now (a .values)) (now (a .bases)) l (a .number) (a .index) h .2)
+mul-store-in c = omega (arith, row (c .before .before .before .before .before))
 
--- src/lib.rt:100:14
 element-copy-out-store-in : tie.Need-element-copy-out-store-in
-element-copy-out-store-in c = let a = c .before .before .before .before .before .args in
-    let (t, l, h, e) = c .before .before .before .before .before .pre in
-    omega (arith, loop-rows t (now (a .starts)) (now (a .kinds)) (now (a .arrays)) (now (a .values)) (now (a .bases)) l (a .number) (a .index) h .1, loop-rows t (now (a .starts)) (now (a .kinds)) (now (a .arrays)) (now (a .values)) (now (a .bases)) l (a .number) (a .index) h .2)
+element-copy-out-store-in c = omega (arith, row (c .before .before .before .before .before))
 
--- src/lib.rt:100:28
 mul-store-in-2 : tie.Need-mul-store-in-2
-mul-store-in-2 c = let a = c .before .before .before .before .before .before .args in
-    let (t, l, h, e) = c .before .before .before .before .before .before .pre in
-    omega (arith, loop-rows t (now (a .starts)) (now (a .kinds)) (now (a .arrays)) (now (a .values)) (now (a .bases)) l (a .number) (a .index) h .1, loop-rows t (now (a .starts)) (now (a .kinds)) (now (a .arrays)) (now (a .values)) (now (a .bases)) l (a .number) (a .index) h .2)
+mul-store-in-2 c = omega (arith, row (c .before .before .before .before .before .before))
 
--- src/lib.rt:100:28
 element-copy-out-store-in-2 : tie.Need-element-copy-out-store-in-2
-element-copy-out-store-in-2 c = let a = c .before .before .before .before .before .before .args in
-    let (t, l, h, e) = c .before .before .before .before .before .before .pre in
-    omega (arith, loop-rows t (now (a .starts)) (now (a .kinds)) (now (a .arrays)) (now (a .values)) (now (a .bases)) l (a .number) (a .index) h .1, loop-rows t (now (a .starts)) (now (a .kinds)) (now (a .arrays)) (now (a .values)) (now (a .bases)) l (a .number) (a .index) h .2)
+element-copy-out-store-in-2 c = omega (arith, row (c .before .before .before .before .before .before))
 
--- src/lib.rt:100:5
 store-in-requires : tie.Need-store-in-requires
 store-in-requires c κs = let a = c .before .before .before .before .before .before .before .before .args in
     let (t, l, h, e) = c .before .before .before .before .before .before .before .before .pre in
     (omega (arith, index-small t (now (a .starts)) (now (a .kinds)) (now (a .arrays)) (now (a .values)) (now (a .bases)) l (a .number) (a .index) h), destination-within t (now (a .starts)) (now (a .kinds)) (now (a .arrays)) (now (a .values)) (now (a .bases)) l (a .number) (a .index) h (length (now (a .memory))) e)
 
--- src/lib.rt:75:1
 same-length : tie.Need-same-length
 same-length c = search needs
 
--- src/lib.rt:75:1
 returns : tie.Need-returns
 returns c = let a = c .before .before .before .before .before .before .before .before .before .before .before .args in
     λ t l h.

@@ -1,8 +1,9 @@
 use mathlib.Core.Path.{_∙_}
+use Rattle.ranges.specs.Held.{cut-long, cut-lengths, total-asks, few-loops, lengths-fit}
+use mathlib.Core.Path.{_∙_}
 use native.Mathlib.Omega.{arith}
 use denote.Ref.{now}
 use Rattle.ranges.specs.Code.{rangeOf}
-use Rattle.ranges.proofs.Laws.{cut-long, cut-lengths, total-asks, few-loops, lengths-fit}
 use borrow.Author.Needs.{needs}
 use Rattle.ranges.proofs.length_of.Statement.{statement}
 use Rattle.ranges.proofs.length_of.Tie as tie

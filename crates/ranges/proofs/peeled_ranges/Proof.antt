@@ -1,4 +1,5 @@
 use mathlib.Core.Path.{_∙_}
+use mathlib.Core.Path.{_∙_}
 use native.Mathlib.Omega.{arith}
 use denote.Ref.{now}
 use Rattle.ranges.specs.Code.{range-in}

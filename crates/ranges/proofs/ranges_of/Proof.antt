@@ -1,4 +1,5 @@
-use Rattle.ranges.proofs.Laws.{Filled, holds-none, filled-next, filled-end, few-loops, span-fits, part-asks}
+use Rattle.ranges.proofs.Laws.{Filled, holds-none, filled-next, filled-end}
+use Rattle.ranges.specs.Held.{few-loops, span-fits, part-asks}
 use native.Mathlib.Omega.{arith}
 use borrow.Author.Needs.{needs}
 use denote.Ref.{now}

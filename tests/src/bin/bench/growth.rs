@@ -1,6 +1,6 @@
 //! How the cost of a plan (the listing) grows with loops, items, iterations and processors, each by itself.
 
-use crate::planning::{a_loop, listings};
+use crate::planning::{a_loop, lengths, listings};
 use vempaldi_checks::blocks::plan;
 use vempaldi_checks::measure::{print_growth, Pair};
 use vempaldi_checks::random::Random;
@@ -16,25 +16,23 @@ const PROCESSORS: u32 = 16;
 
 pub fn measure() {
     let loops = [1, 2, 4, 8, 16];
-    let by_loops = loops.map(|count| cost(count, ITEMS, INDICES, PROCESSORS));
+    let by_loops = loops.map(|count| cost(count, ITEMS, PROCESSORS));
     print_growth("planning, 1, 2, 4, 8, 16 loops", "table", &by_loops);
     let items = [1, 3, 7, 15, 31];
-    let by_items = items.map(|count| cost(LOOPS, count, INDICES, PROCESSORS));
+    let by_items = items.map(|count| cost(LOOPS, count, PROCESSORS));
     print_growth("planning, 1, 3, 7, 15, 31 items a body", "table", &by_items);
-    let indices = [640, 6_400, 64_000];
-    let by_indices = indices.map(|count| cost(LOOPS, ITEMS, count, PROCESSORS));
-    print_growth("planning, 640, 6,400, 64,000 iterations a loop", "table", &by_indices);
+    lengths();
     let processors = [1, 4, 16, 64];
-    let by_processors = processors.map(|count| cost(LOOPS, ITEMS, INDICES, count));
+    let by_processors = processors.map(|count| cost(LOOPS, ITEMS, count));
     print_growth("planning for 1, 4, 16, 64 processors", "table", &by_processors);
 }
 
 /// The same seed for each size, so that a line's tables differ in that size alone as far as chance allows.
-fn cost(loops: usize, items: usize, indices: u32, processors: u32) -> Pair {
+fn cost(loops: usize, items: usize, processors: u32) -> Pair {
     let mut random = Random::new(3);
     let mut tables = Vec::new();
     while tables.len() < TABLES {
-        let table = table(&mut random, loops, items, indices);
+        let table = table(&mut random, loops, items);
         if plan(&table, processors).is_ok() {
             tables.push(table);
         }
@@ -43,12 +41,12 @@ fn cost(loops: usize, items: usize, indices: u32, processors: u32) -> Pair {
 }
 
 /// Offsets next to 0, so that the shortest loops still have a plan.
-fn table(random: &mut Random, loops: usize, items: usize, indices: u32) -> Table {
-    let arrays = vec![indices + 2; ARRAYS];
+fn table(random: &mut Random, loops: usize, items: usize) -> Table {
+    let arrays = vec![INDICES + 2; ARRAYS];
     let loops = (0..loops)
         .map(|_| {
             let store = random.below(arrays.len()) as u8;
-            a_loop(random, &arrays, 1, indices, store, items)
+            a_loop(random, &arrays, 1, INDICES, store, items)
         })
         .collect();
     Table { arrays, loops }

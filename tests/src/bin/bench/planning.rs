@@ -91,6 +91,42 @@ fn compare_amounts(name: &str, tables: &[Table]) {
     measure::print(name, "table", &pair);
 }
 
+/// The plan of each table and its blocks, without any text.
+fn plans(tables: &[Table]) -> Pair {
+    let made: Vec<Vec<u8>> = tables.iter().map(encode).collect();
+    let mut out = vec![0; ROOM];
+    measure::beside(
+        ROUNDS,
+        made.len(),
+        || {
+            for table in &made {
+                black_box(library::blocks(black_box(table), PROCESSORS, &mut out));
+            }
+        },
+        || {
+            for table in &made {
+                black_box(outputs::blocks(black_box(table), PROCESSORS, ROOM)).ok();
+            }
+        },
+    )
+}
+
+/// The same tables with loops ten and a hundred times as long: the ranges
+/// are worked out without counting iterations, so the time stays. The listing
+/// has longer numbers to print; the plan and its blocks alone do not.
+pub fn lengths() {
+    let mut random = Random::new(4);
+    let base = repeat(100, || accepted(|| near(&mut random)));
+    let longer = [1, 10, 100]
+        .map(|factor| -> Vec<Table> { base.iter().map(|table| lengthen(table, factor)).collect() });
+    let listed = longer.each_ref().map(|tables| listings(tables, PROCESSORS));
+    let name = "planning, 640, 6,400, 64,000 iterations a loop";
+    measure::print_growth(name, "table", &listed);
+    let planned = longer.each_ref().map(|tables| plans(tables));
+    let name = "plan and blocks alone, 640, 6,400, 64,000 iterations a loop";
+    measure::print_growth(name, "table", &planned);
+}
+
 /// 2 to 16 loops of 1 to 32 items over 16 arrays.
 fn mixed(random: &mut Random) -> Table {
     let arrays = vec![16_384; MOST_ARRAYS];
@@ -103,6 +139,31 @@ fn mixed(random: &mut Random) -> Table {
         })
         .collect();
     Table { arrays, loops }
+}
+
+/// Few indices and offsets next to 0, so that the shortest still has a plan.
+fn near(random: &mut Random) -> Table {
+    let arrays = vec![642; 4];
+    let loops = random.between(2, 16);
+    let loops = (0..loops)
+        .map(|_| {
+            let store = random.below(arrays.len()) as u8;
+            let items = random.between(1, 32) as usize;
+            a_loop(random, &arrays, 1, 640, store, items)
+        })
+        .collect();
+    Table { arrays, loops }
+}
+
+fn lengthen(table: &Table, factor: u32) -> Table {
+    let mut longer = table.clone();
+    for length in &mut longer.arrays {
+        *length = (*length - 2) * factor + 2;
+    }
+    for one in &mut longer.loops {
+        one.last *= factor;
+    }
+    longer
 }
 
 /// Every loop stores one of two arrays and reads the other 16 times, so that

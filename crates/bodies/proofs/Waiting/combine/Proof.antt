@@ -6,55 +6,40 @@ use Rattle.bodies.proofs.Tops.{combined-tops}
 use borrow.Author.Needs.{needs}
 use Rattle.bodies.proofs.Waiting.combine.Statement.{statement}
 use Rattle.bodies.proofs.Waiting.combine.Tie as tie
-use Rattle.bodies.proofs.Waiting.combine.Reads as reads
-use Rattle.bodies.proofs.Waiting.combine.Lts as lts
-use Rattle.bodies.proofs.operate.Reads as operate-reads
 
--- src/lib.rt:97:20
 sub-x : tie.Need-sub-x
 sub-x c = search needs
 
--- src/lib.rt:97:17
 mul-x : tie.Need-mul-x
 mul-x c = search needs
 
--- src/lib.rt:97:17
 array-read-x : tie.Need-array-read-x
 array-read-x c = search needs
 
--- src/lib.rt:98:20
 sub-y : tie.Need-sub-y
 sub-y c = search needs
 
--- src/lib.rt:98:17
 mul-y : tie.Need-mul-y
 mul-y c = search needs
 
--- src/lib.rt:98:17
 array-read-y : tie.Need-array-read-y
 array-read-y c = search needs
 
--- src/lib.rt:99:21
 operate-requires : tie.Need-operate-requires
 operate-requires c κs = search needs
 
--- src/lib.rt:99:12
 sub-vs : tie.Need-sub-vs
 sub-vs c = search needs
 
--- src/lib.rt:99:9
 mul-vs : tie.Need-mul-vs
 mul-vs c = search needs
 
--- src/lib.rt:99:9
 array-write-vs : tie.Need-array-write-vs
 array-write-vs c = search needs
 
--- src/lib.rt:102:20
 sub-t7 : tie.Need-sub-t7
 sub-t7 c = search needs
 
--- src/lib.rt:91:5
 returns : tie.Need-returns
 returns c = let w = c .before .before .args .self in
     let long : length (w .values) ≡ 8 = search needs in

@@ -6,34 +6,25 @@ use Rattle.bodies.proofs.Tops.{negated-top}
 use borrow.Author.Needs.{needs}
 use Rattle.bodies.proofs.Waiting.negate.Statement.{statement}
 use Rattle.bodies.proofs.Waiting.negate.Tie as tie
-use Rattle.bodies.proofs.Waiting.negate.Reads as reads
-use Rattle.bodies.proofs.Waiting.negate.Lts as lts
 
--- src/lib.rt:83:25
 sub-vs : tie.Need-sub-vs
 sub-vs c = search needs
 
--- src/lib.rt:83:22
 mul-vs : tie.Need-mul-vs
 mul-vs c = search needs
 
--- src/lib.rt:83:22
 array-read-vs : tie.Need-array-read-vs
 array-read-vs c = search needs
 
--- src/lib.rt:83:12
 sub-vs-2 : tie.Need-sub-vs-2
 sub-vs-2 c = search needs
 
--- src/lib.rt:83:9
 mul-vs-2 : tie.Need-mul-vs-2
 mul-vs-2 c = search needs
 
--- src/lib.rt:83:9
 array-write-vs : tie.Need-array-write-vs
 array-write-vs c = search needs
 
--- src/lib.rt:77:5
 returns : tie.Need-returns
 returns c = let w = c .before .args .self in
     let long : length (w .values) ≡ 8 = search needs in

@@ -5,22 +5,16 @@ use Rattle.bodies.proofs.Tops.{more}
 use borrow.Author.Needs.{needs}
 use Rattle.bodies.proofs.Waiting.push.Statement.{statement}
 use Rattle.bodies.proofs.Waiting.push.Tie as tie
-use Rattle.bodies.proofs.Waiting.push.Reads as reads
-use Rattle.bodies.proofs.Waiting.push.Lts as lts
 
--- src/lib.rt:70:9
 mul-vs : tie.Need-mul-vs
 mul-vs c = search needs
 
--- src/lib.rt:70:9
 array-write-vs : tie.Need-array-write-vs
 array-write-vs c = search needs
 
--- src/lib.rt:73:20
 add-t5 : tie.Need-add-t5
 add-t5 c = search needs
 
--- src/lib.rt:64:5
 returns : tie.Need-returns
 returns c = let w = c .before .args .self in
     let inside : w .count < length (w .values) = search needs in

@@ -1,78 +1,40 @@
-use native.Mathlib.Omega.{arith}
-use mathlib.Core.Path.{_≡_, sym, _∙_, subst}
+use Rattle.bodies.proofs.Work.{read-asks, read-works, constant-asks, constant-works, operation-asks, operation-works}
 use denote.Ref.{now}
-use Prim.Native.Nat.{_+_, _-_, _<_, _≤_}
-use lib.ListN.{length, getD}
 use Rattle.bodies.specs.Stack.{waiting}
-use Rattle.bodies.proofs.Work.{ready-read, next-read, worked-read, ready-constant, next-constant, worked-constant, ready-operation, next-operation, worked-operation}
 use borrow.Author.Needs.{needs}
 use Rattle.bodies.proofs.Waiting.work.Statement.{statement}
 use Rattle.bodies.proofs.Waiting.work.Tie as tie
-use Rattle.bodies.proofs.Waiting.work.Reads as reads
-use Rattle.bodies.proofs.Waiting.work.Lts as lts
-use Rattle.bodies.proofs.Waiting.apply.Reads as apply-reads
-use Rattle.bodies.proofs.Waiting.push.Reads as push-reads
-use Rattle.bodies.proofs.constant.Reads as constant-reads
-use Rattle.bodies.proofs.element.Reads as element-reads
 
--- src/lib.rt:132:30
 element-requires : tie.Need-element-requires
 element-requires c κs = let a = c .before .before .args in
-    let bs = now (a .bases) in
-    let m = now (a .memory) in
-    (c .before .before .pre .0, ready-read bs (a .i) m (a .kind) (a .array) (a .value) (a .self .count) (c .if1 .taken) (length m) (c .before .before .pre .1) .1)
+    (c .before .before .pre .0, read-asks (now (a .bases)) (a .i) (now (a .memory)) (a .kind) (a .array) (a .value) (waiting (a .self)) (a .self .count) (c .before .before .pre .1) (c .if1 .taken) .1)
 
--- src/lib.rt:132:13
 push-requires : tie.Need-push-requires
 push-requires c κs = let a = c .before .before .before .args in
-    let bs = now (a .bases) in
-    let m = now (a .memory) in
-    ready-read bs (a .i) m (a .kind) (a .array) (a .value) (a .self .count) (c .before .if1 .taken) (length m) (c .before .before .before .pre .1) .0
+    read-asks (now (a .bases)) (a .i) (now (a .memory)) (a .kind) (a .array) (a .value) (waiting (a .self)) (a .self .count) (c .before .before .before .pre .1) (c .before .if1 .taken) .0
 
--- src/lib.rt:132:13
 returns : tie.Need-returns
 returns c = let a = c .before .before .before .before .args in
-    let bs = now (a .bases) in
-    let m = now (a .memory) in (
-      c .push .ensures .1 ∙ sym (next-read bs (a .i) m (a .kind) (a .array) (a .value) (a .self .count) (c .before .before .if1 .taken)),
-      worked-read bs (a .i) m (a .kind) (a .array) (a .value) (a .self .count) (c .before .before .if1 .taken) (ready-read bs (a .i) m (a .kind) (a .array) (a .value) (a .self .count) (c .before .before .if1 .taken) (length m) (c .before .before .before .before .pre .1) .1 .0) (waiting (a .self)) _ _ (c .before .element .ensures) (c .push .ensures .0),
-    )
+    read-works (now (a .bases)) (a .i) (now (a .memory)) (a .kind) (a .array) (a .value) (waiting (a .self)) (a .self .count) (c .before .before .before .before .pre .1) (c .before .before .if1 .taken) _ _ _ (c .before .element .ensures) (c .push .ensures)
 
--- src/lib.rt:135:30
 constant-requires : tie.Need-constant-requires
 constant-requires c κs = search needs
 
--- src/lib.rt:135:13
 push-requires-2 : tie.Need-push-requires-2
 push-requires-2 c κs = let a = c .before .before .before .before .args in
-    let bs = now (a .bases) in
-    let m = now (a .memory) in
-    ready-constant bs (a .i) m (a .kind) (a .array) (a .value) (a .self .count) (c .before .if2 .taken) (length m) (c .before .before .before .before .pre .1)
+    constant-asks (now (a .bases)) (a .i) (now (a .memory)) (a .kind) (a .array) (a .value) (waiting (a .self)) (a .self .count) (c .before .before .before .before .pre .1) (c .before .if2 .taken)
 
--- src/lib.rt:135:13
 returns-2 : tie.Need-returns-2
 returns-2 c = let a = c .before .before .before .before .before .args in
-    let bs = now (a .bases) in
-    let m = now (a .memory) in (
-      c .push2 .ensures .1 ∙ sym (next-constant bs (a .i) m (a .kind) (a .array) (a .value) (a .self .count) (c .before .before .if2 .taken)),
-      λ ns b. worked-constant bs (a .i) m (a .kind) (a .array) (a .value) (a .self .count) (c .before .before .if2 .taken) (waiting (a .self)) _ _ (c .before .constant .ensures) (c .push2 .ensures .0) ns,
-    )
+    constant-works (now (a .bases)) (a .i) (now (a .memory)) (a .kind) (a .array) (a .value) (waiting (a .self)) (a .self .count) (c .before .before .before .before .before .pre .1) (c .before .before .if2 .taken) _ _ _ (c .before .constant .ensures) (c .push2 .ensures)
 
--- src/lib.rt:137:9
 apply-requires : tie.Need-apply-requires
 apply-requires c κs = let a = c .before .before .before .args in
-    let bs = now (a .bases) in
-    let m = now (a .memory) in
-    ready-operation bs (a .i) m (a .kind) (a .array) (a .value) (a .self .count) (c .before .if1 .left) (c .if2 .left) (length m) (c .before .before .before .pre .1)
+    operation-asks (now (a .bases)) (a .i) (now (a .memory)) (a .kind) (a .array) (a .value) (waiting (a .self)) (a .self .count) (c .before .before .before .pre .1) (c .before .if1 .left) (c .if2 .left)
 
--- src/lib.rt:118:5
 returns-3 : tie.Need-returns-3
 returns-3 c = let a = c .before .before .before .before .args in
-    let bs = now (a .bases) in
-    let m = now (a .memory) in (
-      c .apply .ensures .1 ∙ sym (next-operation bs (a .i) m (a .kind) (a .array) (a .value) (a .self .count) (c .before .before .if1 .left) (c .before .if2 .left)),
-      λ ns b. worked-operation bs (a .i) m (a .kind) (a .array) (a .value) (a .self .count) (c .before .before .if1 .left) (c .before .if2 .left) (waiting (a .self)) _ (c .apply .ensures .0) ns,
-    )
+    operation-works (now (a .bases)) (a .i) (now (a .memory)) (a .kind) (a .array) (a .value) (waiting (a .self)) (a .self .count) (c .before .before .before .before .pre .1) (c .before .before .if1 .left) (c .before .if2 .left) _ _ (c .apply .ensures)
 
 pub work-spec : {M : Type 1} → statement M
 work-spec =

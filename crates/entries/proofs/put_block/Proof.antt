@@ -1,0 +1,23 @@
+use borrow.Author.Needs.{needs}
+use Rattle.entries.proofs.put_block.Statement.{statement}
+use Rattle.entries.proofs.put_block.Tie as tie
+
+block-of-requires : tie.Need-block-of-requires
+block-of-requires c κs = search needs
+
+last-before-requires : tie.Need-last-before-requires
+last-before-requires c κs = search needs
+
+put-pair-requires : tie.Need-put-pair-requires
+put-pair-requires c κs = search needs
+
+same-length : tie.Need-same-length
+same-length c = search needs
+
+returns : tie.Need-returns
+returns c = rw (c .before .before .before .before .before .block-of .ensures) at (rw (c .before .before .before .before .last-before .ensures) at (c .before .before .put-pair .ensures))
+
+pub put-block-spec : {M : Type 1} → statement M
+put-block-spec =
+    tie.close
+    (tie.spec block-of-requires last-before-requires put-pair-requires same-length returns)

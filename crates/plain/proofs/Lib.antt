@@ -1,0 +1,2 @@
+-- the loops' walks, and what is told of the run
+pub mod Laws

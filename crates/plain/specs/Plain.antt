@@ -1,0 +1,29 @@
+-- The plain run of a table's bytes: the answer, and what the memory then holds.
+use Prim.Native.Nat.{ℕ}
+use mathlib.Core.Path.{_≡_}
+use mathlib.Core.List.{List}
+use borrow.Author.Tests.{eq-eqb}
+use lib.ListN.{length}
+use lib.Ieee.{Float}
+use Rattle.model.specs.Table.{Table}
+use Rattle.model.specs.PlainRun.{plainRun}
+use Rattle.reader.specs.Reading.{Answer, accepted, refused}
+use Rattle.serial.specs.Serial.{table}
+use Rattle.iterations.specs.Memory.{total, remembered}
+
+-- 1 to 9, then 12, for a memory of n elements
+unfoldable pub plainAnswer : List ℕ → ℕ → Answer
+plainAnswer s n = remembered n (table s)
+
+-- a refused run changes nothing
+unfoldable pub after : Answer → List Float → List Float
+after (refused g p) m = m
+after (accepted t) m = plainRun t m
+
+unfoldable pub plainMemory : List ℕ → List Float → List Float
+plainMemory s m = after (plainAnswer s (length m)) m
+
+-- LAW: of an accepted table and a memory of its length it is the plain run of the table
+pub plain-memory : (s : List ℕ) (t : Table) (m : List Float) → table s ≡ accepted t → length m ≡ total t → plainMemory s m ≡ plainRun t m
+unfolding plainMemory after plainAnswer remembered
+plain-memory s t m e l = rw (e, eq-eqb (length m) (total t) l)

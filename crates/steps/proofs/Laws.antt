@@ -1,0 +1,199 @@
+-- Tests that no processor has passed so far, and what a turn's code makes of its tests.
+use Prim.Native.Nat.{ℕ, zero, suc, _+_, _-_, _≤_, _<_, _^_}
+use native.Mathlib.Omega.{arith}
+use native.Mathlib.Decide.{ℕ-discrete}
+use mathlib.Core.Path.{_≡_, refl, sym, ap, _∙_}
+use mathlib.Core.Bool.{Bool, true, false}
+use mathlib.Core.List.{List, [], _∷_}
+use mathlib.Core.List.{List·Memᴰ as Mem, List·Memᴰ·head as mhere, List·Memᴰ·tail as mthere}
+use lib.ListN.{length, getD}
+use lib.Ieee.{Float}
+use borrow.Author.Tests.{lt-ltb, le-ltb}
+use Rattle.model.specs.declared.Iteration.{Iteration}
+use Rattle.model.specs.Table.{Table, iteration, Inside}
+use Rattle.reader.specs.Reading.{Answer, accepted, refused, reading}
+use Rattle.reader.specs.Columns.{Columns, tableAt}
+use Rattle.serial.specs.Meeting.{Collides}
+use Rattle.tables.specs.Verdict.{numberOf, placeOf}
+use Rattle.blocks.specs.Sums.{column, some}
+use Rattle.iterations.specs.Memory.{total, remembered, remembered-as-long, remembered-unlike}
+use Rattle.lists.specs.Fusion.{fused-list, peeled-list}
+use Rattle.plans.specs.declared.Plan.{Plan}
+use Rattle.plans.specs.Plans.{planOf, plannedFor, Plans}
+use Rattle.plans.specs.Fitting.{named-fits}
+use Rattle.ranges.specs.declared.Lengths.{Lengths}
+use Rattle.stepping.specs.declared.Report.the-variants.{Refused, Waiting, Finished}
+use Rattle.stepping.specs.Step.{After, stays, fused, peeled, wrongState, performs, turn, stepped, step}
+use Rattle.stepping.specs.Reach.{Turn, early, waits, late, ends, turn-is}
+use Rattle.steps.specs.declared.Counts.{Counts}
+use Rattle.steps.specs.declared.Stepped.{Stepped}
+use Rattle.steps.specs.Ready.{Measured, Ready, Planned}
+use Rattle.steps.specs.Steps.{refusing, Steps}
+use Rattle.steps.specs.Code.{closedBy, wrongIn, closed-by, wrong-by}
+
+-- WALKS: none of the first b passes
+abbrev pub Passed : (ℕ → Bool) → ℕ → Type 0
+Passed f b = (k : ℕ) → k < b → f k ≡ false
+
+pub passed-none : (f : ℕ → Bool) → Passed f 0
+passed-none f k l = absurd (omega arith)
+
+pub passed-next : (f : ℕ → Bool) (b : ℕ) → Passed f b → f b ≡ false → Passed f (b + 1)
+passed-next f b h e k l = go (ℕ-discrete k b)
+  where
+    go : Dec (k ≡ b) → f k ≡ false
+    go (yes q) = ap f q ∙ e
+    go (no q) = h k (omega arith)
+
+-- a numbered member of a list is one of its members
+pub numbered-mem : {A : Type 0} (xs : List A) (d : A) (n : ℕ) → n < length xs → Mem (getD xs n d) xs
+numbered-mem [] d n l = absurd (omega arith)
+numbered-mem (x ∷ xs) d zero l = mhere refl
+numbered-mem (x ∷ xs) d (suc n) l = mthere (numbered-mem xs d n (omega arith))
+
+-- A TURN of processor b, by the tests of its code
+module _ {t : Table} {P : ℕ} {p : Plan} {l : Lengths} {firsts lasts starts kinds arrays values bases : List ℕ}
+    (h : Ready t P p l firsts lasts starts kinds arrays values bases) {b : ℕ} (below : b < P) (cs : List ℕ) where
+  pub proper : b < 64
+  proper = omega (arith, h .laid .few)
+
+  fused-long : column (l .fused) b ≡ length (fused t P b)
+  fused-long = h .measured .fused-is b below
+
+  peeled-long : column (l .peeled) b ≡ length (peeled t P b)
+  peeled-long = h .measured .peeled-is b below
+
+  -- it performs x
+  pub record Next (x : Iteration) : Type 0 where
+    pub inside : Inside t x
+    pub small : column cs b < 2 ^ 31
+    pub turns : {a : After} (m : List Float) → a ≡ performs t P b cs m x → a ≡ turn t P b cs m
+
+  pub fused-next : column cs b < column (l .fused) b → (x : Iteration) → x ≡ getD (fused t P b) (column cs b) (iteration 0 0) → Next x
+  unfolding turn
+  fused-next i x e =
+      let j : column cs b < length (fused t P b) = omega (arith, fused-long) in
+      record {
+        inside = rw e (fused-list t (planOf t P) b _ below .0 (numbered-mem (fused t P b) (iteration 0 0) (column cs b) j) .0);
+        small = omega (arith, h .measured .small b .0);
+        turns = λ m q. q ∙ rw (e, lt-ltb (column cs b) (length (fused t P b)) j);
+      }
+
+  module _ (i : column (l .fused) b ≤ column cs b) where
+    past : length (fused t P b) ≤ column cs b
+    past = omega (arith, fused-long)
+
+    pub then-waits : closedBy P (l .fused) cs ≡ true → (m : List Float) → stays cs m Waiting ≡ turn t P b cs m
+    unfolding turn
+    then-waits e m = rw (le-ltb (column cs b) (length (fused t P b)) past, ← (closed-by t P l (h .measured) cs), e)
+
+    module _ (opened : closedBy P (l .fused) cs ≡ false) where
+      pub peeled-next : column cs b - column (l .fused) b < column (l .peeled) b → (x : Iteration)
+          → x ≡ getD (peeled t P b) (column cs b - column (l .fused) b) (iteration 0 0) → Next x
+      unfolding turn
+      peeled-next k x e =
+          let j : column cs b - length (fused t P b) < length (peeled t P b) = omega (arith, fused-long, peeled-long) in
+          let z : x ≡ getD (peeled t P b) (column cs b - length (fused t P b)) (iteration 0 0) = e ∙ ap (λ (n : ℕ). getD (peeled t P b) (column cs b - n) (iteration 0 0)) fused-long in
+          record {
+            inside = rw z (peeled-list t (planOf t P) b _ below .0 (numbered-mem (peeled t P b) (iteration 0 0) (column cs b - length (fused t P b)) j) .0);
+            small = omega (arith, h .measured .small b .0, h .measured .small b .1);
+            turns = λ m q.
+                q ∙ rw (
+                  z,
+                  le-ltb (column cs b) (length (fused t P b)) past,
+                  ← (closed-by t P l (h .measured) cs),
+                  opened,
+                  lt-ltb (column cs b - length (fused t P b)) (length (peeled t P b)) j,
+                );
+          }
+
+      pub then-ends : column (l .peeled) b ≤ column cs b - column (l .fused) b → (m : List Float) → stays cs m Finished ≡ turn t P b cs m
+      unfolding turn
+      then-ends k m =
+          let j : length (peeled t P b) ≤ column cs b - length (fused t P b) = omega (arith, fused-long, peeled-long) in
+          rw (
+            le-ltb (column cs b) (length (fused t P b)) past,
+            ← (closed-by t P l (h .measured) cs),
+            opened,
+            le-ltb (column cs b - length (fused t P b)) (length (peeled t P b)) j,
+          )
+
+-- A STEP of a planned table: 12, 15, then the turn
+module _ (t : Table) (P b : ℕ) (cs : List ℕ) (m : List Float) where
+  abbrev asked : Answer
+  asked = remembered (length m) (accepted t)
+
+  pub step-memory : (length m ≡ total t → ⊥) → stays cs m (Refused 12 0) ≡ stepped P b cs m asked
+  unfolding stepped
+  step-memory n = rw (remembered-unlike (length m) t n)
+
+  module _ (e : length m ≡ total t) where
+    step-state : wrongState t P cs ≡ true → stays cs m (Refused 15 0) ≡ stepped P b cs m asked
+    unfolding stepped
+    step-state w = rw (remembered-as-long (length m) t e, w)
+
+    step-turns : wrongState t P cs ≡ false → turn t P b cs m ≡ stepped P b cs m asked
+    unfolding stepped
+    step-turns w = rw (remembered-as-long (length m) t e, w)
+
+    -- by the code's own test
+    module _ (l : Lengths) (h : Measured t P l) {x : Bool} (tested : x ≡ some 64 (wrongIn P l (closedBy P (l .fused) cs) cs)) where
+      pub step-wrong : x ≡ true → stays cs m (Refused 15 0) ≡ stepped P b cs m asked
+      step-wrong q = step-state (sym (wrong-by t P l h cs) ∙ sym tested ∙ q)
+
+      pub step-right : x ≡ false → {a : After} → a ≡ turn t P b cs m → a ≡ stepped P b cs m asked
+      step-right q f = f ∙ step-turns (sym (wrong-by t P l h cs) ∙ sym tested ∙ q)
+
+  -- none of these is 9
+  turn-told : (a : After) → Turn t P b cs m a → (n place : ℕ) → a .report ≡ Refused n place → ⊥
+  turn-told a (early i) n place e = let z : _≡_ {A = ℕ} 0 1 = cc in absurd (omega arith)
+  turn-told a (waits i k) n place e = let z : _≡_ {A = ℕ} 0 1 = cc in absurd (omega arith)
+  turn-told a (late i k j) n place e = let z : _≡_ {A = ℕ} 0 1 = cc in absurd (omega arith)
+  turn-told a (ends i k j) n place e = let z : _≡_ {A = ℕ} 0 1 = cc in absurd (omega arith)
+
+  never-nine : (place : ℕ) → stepped P b cs m asked .report ≡ Refused 9 place → ⊥
+  never-nine place = go (ℕ-discrete (length m) (total t)) (wrongState t P cs) refl
+    where
+      go : Dec (length m ≡ total t) → (x : Bool) → wrongState t P cs ≡ x → stepped P b cs m asked .report ≡ Refused 9 place → ⊥
+      go (no n) x f q = let z : Refused 12 0 ≡ Refused 9 place = ap (λ (a : After). a .report) (step-memory n) ∙ q in let y : _≡_ {A = ℕ} 12 9 = cc in omega (arith, y)
+      go (yes e) true f q = let z : Refused 15 0 ≡ Refused 9 place = ap (λ (a : After). a .report) (step-state e f) ∙ q in let y : _≡_ {A = ℕ} 15 9 = cc in omega (arith, y)
+      go (yes e) false f q = turn-told (turn t P b cs m) (turn-is t P b cs m) 9 place (ap (λ (a : After). a .report) (step-turns e f) ∙ q)
+
+-- A STEP from a table's bytes, by what the code of its plan tells
+module _ (s : List ℕ) (P b : ℕ) (p : Plan) (c : Columns) (h : Plans s (plannedFor s P b) p c) (counts : Counts) (m : List Float) where
+  pub step-refused : (p .number ≡ 0 → ⊥) → Steps s P b (counts .done) m (refusing counts (p .number) (p .place) (p .read)) m
+  unfolding step stepped remembered
+  step-refused n = record { is = is; named = named; unnamed = λ u. h .tells .unnamed (λ e. u (p .place) (ap (λ (k : ℕ). Refused k (p .place)) e)) }
+    where
+      go : (a : Answer) → p .number ≡ numberOf a → p .place ≡ placeOf a
+          → stays (counts .done) m (Refused (p .number) (p .place)) ≡ stepped P b (counts .done) m (remembered (length m) a)
+      go (accepted t) e f = absurd (n e)
+      go (refused g q) e f = rw (e, f)
+
+      is : stays (counts .done) m (Refused (p .number) (p .place)) ≡ step s P b (counts .done) m
+      is = go (plannedFor s P b) (h .tells .number-is) (h .tells .place-is)
+
+      named : (t : Table) → reading s ≡ accepted t → (place : ℕ) → Refused (p .number) (p .place) ≡ Refused 9 place → Collides t place (p .read)
+      named t e place q =
+          let y : p .number ≡ 9 = cc in
+          let z : p .place ≡ place = cc in
+          rw z at (h .tells .named t e y)
+
+  module _ (zero-number : p .number ≡ 0) where
+    abbrev t : Table
+    t = tableAt c (p .arrays) (p .loops)
+
+    pub step-planned : (b < P) × Planned P p c
+    step-planned =
+        let made = h .made zero-number in
+        let (e, l) = named-fits s P b t (made .is) in
+        (l, (s, record { is = e; sized = made .sized; kept = made .kept; shifts-are = made .shifts-are; peels-are = made .peels-are; first-is = made .first-is; count-is = made .count-is }))
+
+    pub step-made : (r : Stepped) {left : List Float} → r .read ≡ 0
+        → stays (r .counts .done) left (r .report) ≡ stepped P b (counts .done) m (remembered (length m) (accepted t)) → Steps s P b (counts .done) m r left
+    unfolding step
+    step-made r e f = record {
+      is = f ∙ ap (λ (a : Answer). stepped P b (counts .done) m (remembered (length m) a)) (sym (h .made zero-number .is));
+      named = λ u g place q. absurd (never-nine t P b (counts .done) m place (sym (ap (λ (a : After). a .report) f) ∙ q));
+      unnamed = λ u. e;
+    }

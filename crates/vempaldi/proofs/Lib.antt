@@ -1,0 +1,2 @@
+-- what an exported step tells
+pub mod Laws

@@ -1,0 +1,70 @@
+use Rattle.vempaldi.specs.Answers.{reported, Small}
+use native.Mathlib.Omega.{arith}
+use mathlib.Core.Path.{subst}
+use Rattle.stepping.specs.declared.Report.{Report}
+use borrow.Author.Needs.{needs}
+use Rattle.vempaldi.proofs.tell_report.Statement.{statement}
+use Rattle.vempaldi.proofs.tell_report.Tie as tie
+
+enum-known-r : tie.Need-enum-known-r
+enum-known-r c = search needs
+
+enum-known-r-2 : tie.Need-enum-known-r-2
+enum-known-r-2 c = search needs
+
+cast-write-report : tie.Need-cast-write-report
+unfolding Small
+cast-write-report c = let z = subst (λ (x : Report). Small x) (c .before .before .r2 .given .1) (c .before .before .before .before .pre) in omega (arith, z .0)
+
+cast-write-report-2 : tie.Need-cast-write-report-2
+unfolding Small
+cast-write-report-2 c = let z = subst (λ (x : Report). Small x) (c .before .before .r2 .given .1) (c .before .before .before .before .pre) in omega (arith, z .1)
+
+write-report-requires : tie.Need-write-report-requires
+write-report-requires c κs = search needs
+
+enum-told : tie.Need-enum-told
+enum-told c = search needs
+
+write-report-requires-2 : tie.Need-write-report-requires-2
+write-report-requires-2 c κs = search needs
+
+enum-told-2 : tie.Need-enum-told-2
+enum-told-2 c = search needs
+
+write-report-requires-3 : tie.Need-write-report-requires-3
+write-report-requires-3 c κs = search needs
+
+returns : tie.Need-returns
+unfolding reported
+returns c = rw (c .before .r .given .1)
+
+returns-2 : tie.Need-returns-2
+unfolding reported
+returns-2 c = rw (c .before .before .before .r2 .given .1) (c .write-report .ensures)
+
+returns-3 : tie.Need-returns-3
+unfolding reported
+returns-3 c = rw (c .before .before .enum-told .given .1) (c .write-report2 .ensures)
+
+returns-4 : tie.Need-returns-4
+unfolding reported
+returns-4 c = rw (c .before .before .enum-told2 .given .1) (c .write-report3 .ensures)
+
+pub tell-report-spec : {M : Type 1} → statement M
+tell-report-spec =
+    tie.close
+    (tie.spec
+    enum-known-r
+    enum-known-r-2
+    cast-write-report
+    cast-write-report-2
+    write-report-requires
+    enum-told
+    write-report-requires-2
+    enum-told-2
+    write-report-requires-3
+    returns
+    returns-2
+    returns-3
+    returns-4)
