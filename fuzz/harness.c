@@ -5,7 +5,8 @@
  * - guard bytes on both sides of everything lent stay, and so do the inputs;
  * - a refused call leaves what it was lent as found, an accepted one the bytes past its output;
  * - an output that just fits is the same output, and one byte less is refused with 13;
- * - lists have every iteration once in all; runs and rows of steps leave the plain run's memory bit for bit.
+ * - lists have every iteration once in all; runs and rows of steps leave the plain run's memory bit for bit;
+ * - a stored result that is not a number is 7FF8000000000000.
  *
  * A breach prints the call and the table, and aborts. */
 #include <inttypes.h>
@@ -229,6 +230,17 @@ static void same_memory(struct call *call, const struct lent *one, const struct 
     if (memcmp(one->all, other->all, one->size + 2 * GUARD)) breach(call, "not the plain run's memory");
 }
 
+/* An element that changed and is not a number has the bits that the paper names. */
+static void stored_nans(struct call *call, const struct lent *memory) {
+    for (size_t at = GUARD; at < GUARD + memory->size; at += 8) {
+        uint64_t now, before;
+        memcpy(&now, memory->all + at, 8);
+        memcpy(&before, memory->before + at, 8);
+        if (now != before && (now & INT64_MAX) > 0x7ff0000000000000u && now != 0x7ff8000000000000u)
+            breach(call, "a result that is not a number has other bits than 7FF8000000000000");
+    }
+}
+
 static void plain_run(struct call *call, struct lent *plain, size_t numbers, uint64_t seed, const uint64_t verdict[3]) {
     double *lent = memory(plain, numbers, seed);
     call->entry = 9;
@@ -237,6 +249,7 @@ static void plain_run(struct call *call, struct lent *plain, size_t numbers, uin
     answered(call, call->length);
     like_check(call, verdict);
     unchanged_but(call, plain, 0, call->answer[0] ? 0 : plain->size, "bytes outside the memory changed, or any in a refused run");
+    stored_nans(call, plain);
 }
 
 static void run(struct call *call, struct cursor *bytes, const struct lent *plain, size_t numbers, uint64_t seed,
