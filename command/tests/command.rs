@@ -4,6 +4,10 @@
 use std::io::Write;
 use std::path::PathBuf;
 use std::process::{Command, Stdio};
+use vempaldi_checks::encoder::encode;
+use vempaldi_checks::processors;
+use vempaldi_checks::random::Random;
+use vempaldi_checks::tables::{self, LARGE, MIDDLE, SMALL};
 
 struct Told {
     status: i32,
@@ -186,6 +190,25 @@ fn a_picture_has_the_parts_and_the_barrier() {
     }
     assert!(told.out.starts_with("<svg ") && told.out.ends_with("</svg>\n") && !told.out.contains("<script"));
     assert_eq!(run(&["draw", EXAMPLE, "-p", "6"]).status, 1);
+}
+
+#[test]
+fn a_picture_has_every_part_of_the_listing_inside_its_frame() {
+    let mut random = Random::new(33);
+    for round in 0..60 {
+        let shape = [SMALL, MIDDLE, LARGE][round % 3];
+        let table = tables::aligned(&mut random, &shape);
+        let count = processors::most(&table).to_string();
+        let bytes = encode(&table);
+        let listing = fed(&["plan", "-", "-p", &count], &bytes).out;
+        let picture = fed(&["draw", "-", "-p", &count], &bytes).out;
+        for word in ["fused", "peeled"] {
+            let lines = listing.lines().filter(|line| line.starts_with(word)).count();
+            // One more stands in the legend.
+            assert_eq!(picture.matches(&format!("class='{word}'")).count(), lines + 1);
+        }
+        assert!(!picture.contains("NaN") && !picture.contains("inf'") && !picture.contains("='-"), "{picture}");
+    }
 }
 
 #[test]
