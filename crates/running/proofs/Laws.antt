@@ -5,29 +5,31 @@ use native.Mathlib.Decide.{decLt}
 use native.Mathlib.Numerals.{add-one}
 use mathlib.Core.Path.{_≡_, refl, sym, ap, subst, _∙_}
 use mathlib.Core.Bool.{Bool, true, false, cond}
-use mathlib.Core.List.{List, [], _∷_, _++_}
+use mathlib.Core.List.{List, [], _∷_}
 use lib.Dec.{ltb}
-use lib.ListN.{length, getD, drop, drop-of-length-le}
+use lib.ListN.{length, getD, take, drop, drop-of-length-le}
 use lib.Seq.{drop-cons}
 use lib.Ieee.{Float}
 use borrow.Author.Tests.{lt-ltb, le-ltb}
 use Rattle.model.specs.Table.{Table}
 use Rattle.reader.specs.Reading.{Answer, accepted, refused}
+use Rattle.reader.specs.Columns.{Columns, tableAt}
 use Rattle.tables.specs.Verdict.{numberOf, placeOf}
 use Rattle.blocks.specs.Sums.{column, total-same}
+use Rattle.bodies.specs.Workable.{Based}
 use Rattle.iterations.specs.Memory.{total, remembered, remembered-as-long, remembered-unlike}
+use Rattle.plans.specs.declared.Plan.{Plan}
 use Rattle.plans.specs.Plans.{planned, Tells}
 use Rattle.plans.specs.Fitting.{planned-fits}
 use Rattle.ranges.specs.declared.Lengths.{Lengths}
+use Rattle.ranges.specs.Laid.{Laid}
 use Rattle.stepping.specs.declared.Report.{Report}
-use Rattle.stepping.specs.declared.Report.the-variants.{Refused}
-use Rattle.stepping.specs.Step.{After, stays, fused, peeled, closed, turn, step}
-use Rattle.stepping.specs.Row.{noneDone, reports, countsAfter, memoryAfter, performing, idle, lowest, canStep, closing, listed, rowOf, runAnswer, memoryOf, idleOf, runMemory, runIdle, lowest-holds, memory-append, idle-append}
+use Rattle.stepping.specs.Step.{After, fused, peeled, closed, turn, step}
+use Rattle.stepping.specs.Row.{noneDone, reports, countsAfter, memoryAfter, performing, idle, lowest, canStep, closing, listed, rowOf, runAnswer, runMemory, runIdle, lowest-holds, memory-append, idle-append}
 use Rattle.stepping.specs.Reach.{Reachable, Turn, early, waits, late, ends, turn-is, turn-reachable, turn-length, none-reachable, step-turn, step-past}
-use Rattle.steps.specs.Ready.{Measured}
+use Rattle.steps.specs.Ready.{Small, Measured, Planned, made-total, made-ready}
 use Rattle.steps.specs.Code.{closedBy, closed-by}
-use Rattle.running.specs.declared.Ran.{Ran}
-use Rattle.running.specs.Code.{idling, called, Leaves, canBy, canIn, listedIn, Ordered}
+use Rattle.running.specs.Code.{idling, called, Leaves, canBy, canIn, listedIn, Given, Ordered}
 use Rattle.running.specs.Runs.{Runs}
 
 -- ONE CALL, by the tests of its code
@@ -42,15 +44,13 @@ module _ (t : Table) (P b : ℕ) (cs : List ℕ) (m : List Float) where
     idle-is = f ∙ ap (λ (x : After). idling (x .report)) e;
   })
 
-idling-small : (r : Report) → idling r ≤ 1
+-- no call adds more than 1 to the idle count
+pub idling-small : (r : Report) → idling r ≤ 1
 idling-small r = go (performing r)
   where
     go : (x : Bool) → cond {A = ℕ} x 0 1 ≤ 1
     go true = omega arith
     go false = omega arith
-
-pub leaves-small : {a : After} {cs : List ℕ} {m : List Float} {n : ℕ} → Leaves a cs m n → n ≤ 1
-leaves-small {a} h = omega (arith, h .idle-is, idling-small (a .report))
 
 -- of an accepted table, from counts that rows reach and a memory of the table's length
 module _ (s : List ℕ) (P : ℕ) (t : Table) (planned-is : planned s P ≡ accepted t) (b : ℕ) (cs : List ℕ) (m : List Float) (long : length m ≡ total t) (r : Reachable t P cs) where
@@ -105,7 +105,7 @@ module _ (s : List ℕ) (P : ℕ) (t : Table) (planned-is : planned s P ≡ acce
   pub going-next : (cs ds : List ℕ) (m w : List Float) (n x k : ℕ) → Going s t P order begun cs m n k → k < length order
       → Leaves (called t P (getD order k 0) cs m) ds w x → Going s t P order begun ds w (n + x) (k + 1)
   going-next cs ds m w n x k g i h = rw (add-one k) (record {
-    few = omega (arith, g .few, leaves-small h);
+    few = omega (arith, g .few, h .idle-is, idling-small (called t P b cs m .report));
     reachable = subst (λ (l : List ℕ). Reachable t P l) (sym (h .counts-are)) (keeps .0);
     long = ap length (h .memory-is) ∙ keeps .1;
     counts-left = sym (then-counts b (drop (suc k) order) cs ds m w x (g .long) (g .reachable) h) ∙ ap (λ (l : List ℕ). countsAfter s P l cs m) (sym cut) ∙ g .counts-left;
@@ -219,6 +219,27 @@ closing-busy s P (suc n) cs m = go (decLt b P) (closing-busy s P n (a .counts) (
         → idle (reports s P (cond (ltb b P) (b ∷ closing s P n (a .counts) (a .memory)) []) cs m) ≡ 0
     go (yes i) ih = rw (lt-ltb b P i, lowest-holds P (canStep s P cs m) i) (omega (arith, ih))
     go (no i) ih = rw (le-ltb b P (omega arith))
+
+-- WHAT THE CODE IS LENT, by the columns that the code of an accepted plan leaves
+module _ (P : ℕ) (p : Plan) (c : Columns) (planned-by : Planned P p c) (bases : List ℕ) (based : Based bases (take (p .arrays) (c .lens))) (l : Lengths)
+    (measured : Small l × ((u : Table) → Laid u P p (c .firsts) (c .lasts) → (b : ℕ) → b < P
+    → (column (l .fused) b ≡ length (fused u P b)) × (column (l .peeled) b ≡ length (peeled u P b)))) (m : List Float) (long : length m ≡ getD bases (p .arrays) 0) where
+  abbrev pub held : Table
+  held = tableAt c (p .arrays) (p .loops)
+
+  abbrev pub GivenTo : List ℕ → List Float → Type 0
+  GivenTo s w = Given s held P p l (c .firsts) (c .lasts) (c .starts) (c .kinds) (c .arrays) (c .values) bases w
+
+  pub given : (s : List ℕ) → planned s P ≡ accepted held → GivenTo s m
+  given s e = record {
+    planned-is = e;
+    ready = made-ready P p c planned-by bases based l (measured .0) (measured .1);
+    long = long ∙ made-total P p c planned-by bases based;
+  }
+
+  -- after the order's calls
+  pub given-on : (s order cs : List ℕ) (mid : List Float) (n : ℕ) → planned s P ≡ accepted held → Ordered s held P order m cs mid n → GivenTo s mid
+  given-on s order cs mid n e o = record { planned-is = e; ready = given s e .ready; long = o .long }
 
 -- THE RUN
 module _ (s : List ℕ) (P : ℕ) (order : List ℕ) (m : List Float) where

@@ -2,22 +2,16 @@ use borrow.Author.Tests.{lt-ltb, le-ltb}
 use borrow.Author.Needs.{needs}
 use Rattle.running.proofs.can_step.Statement.{statement}
 use Rattle.running.proofs.can_step.Tie as tie
-use Rattle.running.proofs.can_step.Reads as reads
-use Rattle.running.proofs.can_step.Lts as lts
 
--- src/lib.rt:151:9
 returns : tie.Need-returns
 returns c = rw (lt-ltb _ _ (c .if1 .taken))
 
--- src/lib.rt:154:9
 returns-2 : tie.Need-returns-2
 returns-2 c = rw (le-ltb _ _ (c .before .if1 .left), c .if2 .taken)
 
--- src/lib.rt:156:9
 add-result : tie.Need-add-result
 add-result c = search needs
 
--- src/lib.rt:146:1
 returns-3 : tie.Need-returns-3
 returns-3 c = rw (le-ltb _ _ (c .before .if1 .left), c .if2 .left)
 

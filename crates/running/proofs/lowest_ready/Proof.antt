@@ -1,4 +1,4 @@
-use mathlib.Core.Path.{_≡_, sym, _∙_}
+use mathlib.Core.Path.{sym, _∙_}
 use native.Mathlib.Omega.{arith}
 use Prim.Native.Nat.{_-_, _≤_}
 use Rattle.blocks.specs.Sums.{column}
@@ -7,10 +7,6 @@ use Rattle.steps.proofs.Laws.{Passed, passed-none, passed-next}
 use Rattle.running.specs.Code.{canBy}
 use Rattle.running.proofs.lowest_ready.Statement.{statement}
 use Rattle.running.proofs.lowest_ready.Tie as tie
-use Rattle.running.proofs.lowest_ready.Reads as reads
-use Rattle.running.proofs.lowest_ready.Lts as lts
-use Rattle.running.proofs.can_step.Reads as can-step-reads
-use Rattle.steps.proofs.is_closed.Reads as is-closed-reads
 
 abbrev Inv-loop : tie.InvT-loop
 Inv-loop processors shut done fused peeled b₀ b =
@@ -20,63 +16,48 @@ abbrev μ-loop : tie.MeasureT-loop
 μ-loop processors shut done fused peeled b₀ b =
     processors - b
 
--- src/lib.rt:164:9
 is-closed-requires : tie.Need-is-closed-requires Inv-loop μ-loop
 is-closed-requires c κs = c .pre .0
 
--- src/lib.rt:169:5
 loop-holds : tie.Need-loop-holds Inv-loop μ-loop
 loop-holds c = (passed-none _, omega arith)
 
--- src/lib.rt:170:18
 cast-at : tie.Need-cast-at Inv-loop μ-loop
 cast-at c = omega (arith, c .before .before .before .before .before .before .pre .0, c .loop-test .taken)
 
--- src/lib.rt:171:27
 mul-can-step : tie.Need-mul-can-step Inv-loop μ-loop
 mul-can-step c = omega (arith, c .before .before .before .before .before .before .pre .0, c .loop-test .taken)
 
--- src/lib.rt:171:27
 array-read-can-step : tie.Need-array-read-can-step Inv-loop μ-loop
 array-read-can-step c = omega (arith, c .before .before .before .before .before .before .pre .0, c .loop-test .taken)
 
--- src/lib.rt:171:38
 mul-can-step-2 : tie.Need-mul-can-step-2 Inv-loop μ-loop
 mul-can-step-2 c = omega (arith, c .before .before .before .before .before .before .pre .0, c .loop-test .taken)
 
--- src/lib.rt:171:38
 array-read-can-step-2 : tie.Need-array-read-can-step-2 Inv-loop μ-loop
 array-read-can-step-2 c = omega (arith, c .before .before .before .before .before .before .pre .0, c .loop-test .taken)
 
--- src/lib.rt:171:50
 mul-can-step-3 : tie.Need-mul-can-step-3 Inv-loop μ-loop
 mul-can-step-3 c = omega (arith, c .before .before .before .before .before .before .pre .0, c .loop-test .taken)
 
--- src/lib.rt:171:50
 array-read-can-step-3 : tie.Need-array-read-can-step-3 Inv-loop μ-loop
 array-read-can-step-3 c = omega (arith, c .before .before .before .before .before .before .pre .0, c .loop-test .taken)
 
--- src/lib.rt:171:12
 can-step-requires : tie.Need-can-step-requires Inv-loop μ-loop
 can-step-requires c κs = omega (arith, c .before .before .before .before .before .before .pre .1 (c .before .loop .b) .0, c .before .before .before .before .before .before .pre .1 (c .before .loop .b) .1)
 
--- src/lib.rt:172:13
 returns : tie.Need-returns Inv-loop μ-loop
 returns c = rw (← (c .before .before .before .before .before .before .before .is-closed .ensures)) (sym (lowest-is (c .before .before .before .before .before .before .before .before .args .processors) (c .before .before .before .loop .b) (λ k. canBy (c .before .before .before .before .before .before .before .is-closed .result) (column (c .before .before .before .before .before .before .before .before .args .l .fused) k) (column (c .before .before .before .before .before .before .before .before .args .l .peeled) k) (column (c .before .before .before .before .before .before .before .before .args .c .done) k)) (c .before .before .before .loop .inv .1) (c .before .before .before .loop .inv .0) (λ z. sym (c .before .can-step .ensures) ∙ c .if1 .taken)))
 
--- src/lib.rt:174:9
 add-b : tie.Need-add-b Inv-loop μ-loop
 add-b c = omega (arith, c .before .before .before .before .before .before .before .before .pre .0, c .before .before .loop-test .taken)
 
--- src/lib.rt:169:5
 loop-less : tie.Need-loop-less Inv-loop μ-loop
 loop-less c = omega (arith, c .before .before .loop-test .taken)
 
--- src/lib.rt:169:5
 loop-again : tie.Need-loop-again Inv-loop μ-loop
 loop-again c = (passed-next (λ k. canBy (c .before .before .before .before .before .before .before .is-closed .result) (column (c .before .before .before .before .before .before .before .before .args .l .fused) k) (column (c .before .before .before .before .before .before .before .before .args .l .peeled) k) (column (c .before .before .before .before .before .before .before .before .args .c .done) k)) (c .before .before .before .loop .b) (c .before .before .before .loop .inv .0) (sym (c .before .can-step .ensures) ∙ c .if1 .left), omega (arith, c .before .before .loop-test .taken))
 
--- src/lib.rt:160:1
 returns-2 : tie.Need-returns-2 Inv-loop μ-loop
 returns-2 c = rw (← (c .before .before .before .before .before .is-closed .ensures)) (sym (lowest-is (c .before .before .before .before .before .before .args .processors) (c .before .loop .b) (λ k. canBy (c .before .before .before .before .before .is-closed .result) (column (c .before .before .before .before .before .before .args .l .fused) k) (column (c .before .before .before .before .before .before .args .l .peeled) k) (column (c .before .before .before .before .before .before .args .c .done) k)) (c .before .loop .inv .1) (c .before .loop .inv .0) (λ z. absurd (omega (arith, z, c .loop-test .left)))))
 
