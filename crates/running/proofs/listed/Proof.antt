@@ -44,7 +44,8 @@ loop-again : tie.Need-loop-again Inv-loop μ-loop
 loop-again c = (total-next (c .before .loop .b) (λ k. column (c .before .before .before .before .args .l .fused) k + column (c .before .before .before .before .args .l .peeled) k) (c .before .loop .sum) _ (c .before .loop .inv .0) refl, omega (arith, c .before .before .before .before .pre .1 (c .before .loop .b) .0, c .before .before .before .before .pre .1 (c .before .loop .b) .1, c .before .loop .inv .1), omega (arith, c .loop-test .taken))
 
 returns : tie.Need-returns Inv-loop μ-loop
-returns c = let e : c .before .loop .b ≡ c .before .before .before .before .args .processors = omega (arith, c .loop-test .left, c .before .loop .inv .2) in c .before .loop .inv .0 ∙ ap (λ (n : ℕ). total n (λ k. column (c .before .before .before .before .args .l .fused) k + column (c .before .before .before .before .args .l .peeled) k)) e
+returns c = let e : c .before .loop .b ≡ c .before .before .before .before .args .processors = omega (arith, c .loop-test .left, c .before .loop .inv .2) in
+    c .before .loop .inv .0 ∙ ap (λ (n : ℕ). total n (λ k. column (c .before .before .before .before .args .l .fused) k + column (c .before .before .before .before .args .l .peeled) k)) e
 
 pub listed-spec : {M : Type 1} → statement M
 listed-spec =

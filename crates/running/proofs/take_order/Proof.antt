@@ -26,10 +26,14 @@ shared-slice-read-call : tie.Need-shared-slice-read-call Inv-loop μ-loop
 shared-slice-read-call c = c .before .loop-test .taken
 
 call-requires : tie.Need-call-requires Inv-loop μ-loop
-call-requires c κs = let (s, tg) = c .before .before .before .before .before .before .pre in let (t, g) = tg in (t, g .ready, c .before .before .before .loop .inv s t g .long)
+call-requires c κs = let (s, tg) = c .before .before .before .before .before .before .pre in
+    let (t, g) = tg in
+    (t, g .ready, c .before .before .before .loop .inv s t g .long)
 
 add-idle : tie.Need-add-idle Inv-loop μ-loop
-add-idle c = let (s, tg) = c .before .before .before .before .before .before .before .before .before .before .before .pre in let (t, g) = tg in omega (arith, c .before .before .before .before .before .before .before .loop-test .taken, c .before .before .before .before .before .before .before .before .loop .inv s t g .few, c .before .before .before .before .call .ensures t (g .ready) .idle-is, idling-small (called t (c .before .before .before .before .before .before .before .before .before .before .before .args .processors) (getD (now (c .before .before .before .before .before .before .before .before .before .before .before .args .order)) (c .before .before .before .before .before .before .before .before .loop .k) 0) (c .before .before .before .before .before .before .before .before .loop .counts .done) (c .before .before .before .before .before .before .before .before .loop .memory) .report))
+add-idle c = let (s, tg) = c .before .before .before .before .before .before .before .before .before .before .before .pre in
+    let (t, g) = tg in
+    omega (arith, c .before .before .before .before .before .before .before .loop-test .taken, c .before .before .before .before .before .before .before .before .loop .inv s t g .few, c .before .before .before .before .call .ensures t (g .ready) .idle-is, idling-small (called t (c .before .before .before .before .before .before .before .before .before .before .before .args .processors) (getD (now (c .before .before .before .before .before .before .before .before .before .before .before .args .order)) (c .before .before .before .before .before .before .before .before .loop .k) 0) (c .before .before .before .before .before .before .before .before .loop .counts .done) (c .before .before .before .before .before .before .before .before .loop .memory) .report))
 
 add-k : tie.Need-add-k Inv-loop μ-loop
 add-k c = omega (arith, c .before .before .before .before .before .before .before .loop-test .taken)
@@ -41,7 +45,9 @@ loop-again : tie.Need-loop-again Inv-loop μ-loop
 loop-again c = λ s t g. going-next s (c .before .before .before .before .before .before .before .before .before .before .before .args .processors) t (g .planned-is) (now (c .before .before .before .before .before .before .before .before .before .before .before .args .order)) (now (c .before .before .before .before .before .before .before .before .before .before .before .args .memory)) (c .before .before .before .before .before .before .before .before .loop .counts .done) (c .before .before .before .before .call .result .counts .done) (c .before .before .before .before .before .before .before .before .loop .memory) _ (c .before .before .before .before .before .before .before .before .loop .idle) (c .before .before .before .before .call .result .idle) (c .before .before .before .before .before .before .before .before .loop .k) (c .before .before .before .before .before .before .before .before .loop .inv s t g) (c .before .before .before .before .before .before .before .loop-test .taken) (c .before .before .before .before .call .ensures t (g .ready))
 
 same-length : tie.Need-same-length Inv-loop μ-loop
-same-length c = let (s, tg) = c .before .before .before .before .pre in let (t, g) = tg in c .before .loop .inv s t g .long ∙ sym (g .long)
+same-length c = let (s, tg) = c .before .before .before .before .pre in
+    let (t, g) = tg in
+    c .before .loop .inv s t g .long ∙ sym (g .long)
 
 returns : tie.Need-returns Inv-loop μ-loop
 returns c = λ s t g. going-end s (c .before .before .before .before .args .processors) t (g .planned-is) (now (c .before .before .before .before .args .order)) (now (c .before .before .before .before .args .memory)) (c .before .loop .counts .done) (c .before .loop .memory) (c .before .loop .idle) (c .before .loop .k) (c .before .loop .inv s t g) (c .loop-test .left)
