@@ -29,7 +29,7 @@ use Rattle.stepping.specs.Row.{noneDone, reports, countsAfter, memoryAfter, per
 use Rattle.stepping.specs.Reach.{Reachable, Turn, early, waits, late, ends, turn-is, turn-reachable, turn-length, none-reachable, step-turn, step-past}
 use Rattle.steps.specs.Ready.{Small, Measured, Planned, made-total, made-ready}
 use Rattle.steps.specs.Code.{closedBy, closed-by}
-use Rattle.running.specs.Code.{idling, called, Leaves, canBy, canIn, listedIn, Given, Ordered}
+use Rattle.running.specs.Code.{idling, called, Leaves, canBy, canIn, listedIn, Given, Ordered, Rowed}
 use Rattle.running.specs.Runs.{Runs}
 
 -- ONE CALL, by the tests of its code
@@ -224,22 +224,38 @@ closing-busy s P (suc n) cs m = go (decLt b P) (closing-busy s P n (a .counts) (
 module _ (P : ℕ) (p : Plan) (c : Columns) (planned-by : Planned P p c) (bases : List ℕ) (based : Based bases (take (p .arrays) (c .lens))) (l : Lengths)
     (measured : Small l × ((u : Table) → Laid u P p (c .firsts) (c .lasts) → (b : ℕ) → b < P
     → (column (l .fused) b ≡ length (fused u P b)) × (column (l .peeled) b ≡ length (peeled u P b)))) (m : List Float) (long : length m ≡ getD bases (p .arrays) 0) where
-  abbrev pub held : Table
+  abbrev held : Table
   held = tableAt c (p .arrays) (p .loops)
 
-  abbrev pub GivenTo : List ℕ → List Float → Type 0
-  GivenTo s w = Given s held P p l (c .firsts) (c .lasts) (c .starts) (c .kinds) (c .arrays) (c .values) bases w
-
-  pub given : (s : List ℕ) → planned s P ≡ accepted held → GivenTo s m
+  pub given : (s : List ℕ) → planned s P ≡ accepted held → Given s held P p l (c .firsts) (c .lasts) (c .starts) (c .kinds) (c .arrays) (c .values) bases m
   given s e = record {
     planned-is = e;
     ready = made-ready P p c planned-by bases based l (measured .0) (measured .1);
     long = long ∙ made-total P p c planned-by bases based;
   }
 
+module _ {s : List ℕ} {t : Table} {P : ℕ} {p : Plan} {l : Lengths} {firsts lasts starts kinds arrays values bases : List ℕ} {m : List Float}
+    (g : Given s t P p l firsts lasts starts kinds arrays values bases m) {order cs : List ℕ} {mid : List Float} {n : ℕ} (o : Ordered s t P order m cs mid n) where
   -- after the order's calls
-  pub given-on : (s order cs : List ℕ) (mid : List Float) (n : ℕ) → planned s P ≡ accepted held → Ordered s held P order m cs mid n → GivenTo s mid
-  given-on s order cs mid n e o = record { planned-is = e; ready = given s e .ready; long = o .long }
+  pub given-on : Given s t P p l firsts lasts starts kinds arrays values bases mid
+  given-on = record { planned-is = g .planned-is; ready = g .ready; long = o .long }
+
+  -- then the closing ones: the row
+  pub rowed : (most : ℕ) → most ≡ listedIn l P → {left : List Float} → left ≡ memoryAfter s P (closing s P most cs mid) cs mid → Rowed s t P order m left n
+  unfolding rowOf
+  rowed most e q = record {
+    memory-is = q ∙ rw (same, o .counts-are, o .memory-is) (sym (memory-append s P order (closing s P (listed s P t) counts memory) noneDone m));
+    idle-is = o .idle-is ∙ omega (arith, idle-append s P order (closing s P (listed s P t) counts memory) noneDone m, closing-busy s P (listed s P t) counts memory);
+  }
+    where
+      counts : List ℕ
+      counts = countsAfter s P order noneDone m
+
+      memory : List Float
+      memory = memoryAfter s P order noneDone m
+
+      same : most ≡ listed s P t
+      same = e ∙ total-same P (λ b. column (l .fused) b + column (l .peeled) b) (λ b. length (fused t P b) + length (peeled t P b)) (λ b i. rw (g .ready .measured .fused-is b i, g .ready .measured .peeled-is b i))
 
 -- THE RUN
 module _ (s : List ℕ) (P : ℕ) (order : List ℕ) (m : List Float) where
@@ -286,30 +302,19 @@ module _ (s : List ℕ) (P : ℕ) (order : List ℕ) (m : List Float) where
           idle-is = i;
         }
 
-    -- the order's calls, then the closing ones
-    pub runs-made : length m ≡ total t → (l : Lengths) → Measured t P l → (cs : List ℕ) (mid : List Float) (n : ℕ) → Ordered s t P order m cs mid n
-        → (most : ℕ) → most ≡ listedIn l P → (left : List Float) → left ≡ memoryAfter s P (closing s P most cs mid) cs mid
+    pub runs-made : length m ≡ total t → (left : List Float) (n : ℕ) → Rowed s t P order m left n
         → Runs s P order m (record { number = 0; place = 0; read = 0; idle = n }) left
-    unfolding runMemory runIdle rowOf
-    runs-made long l h cs mid n o most e left q = record {
+    unfolding runMemory runIdle
+    runs-made long left n h = record {
       tells = record {
         number-is = sym (ap numberOf f);
         place-is = sym (ap placeOf f);
         named = λ u g z. absurd (omega (arith, z));
         unnamed = λ z. refl;
       };
-      memory-is = rw f (q ∙ rw (same, o .counts-are, o .memory-is) (sym (memory-append s P order (closing s P (listed s P t) counts memory) noneDone m)));
-      idle-is = rw f (o .idle-is ∙ omega (arith, idle-append s P order (closing s P (listed s P t) counts memory) noneDone m, closing-busy s P (listed s P t) counts memory));
+      memory-is = rw f (h .memory-is);
+      idle-is = rw f (h .idle-is);
     }
       where
-        counts : List ℕ
-        counts = countsAfter s P order noneDone m
-
-        memory : List Float
-        memory = memoryAfter s P order noneDone m
-
         f : runAnswer s P (length m) ≡ accepted t
         f = ap (remembered (length m)) planned-is ∙ remembered-as-long (length m) t long
-
-        same : most ≡ listed s P t
-        same = e ∙ total-same P (λ b. column (l .fused) b + column (l .peeled) b) (λ b. length (fused t P b) + length (peeled t P b)) (λ b i. rw (h .fused-is b i, h .peeled-is b i))

@@ -16,7 +16,7 @@ use Rattle.ranges.specs.declared.Lengths.{Lengths}
 use Rattle.stepping.specs.declared.Report.{Report}
 use Rattle.stepping.specs.declared.Report.the-variants.{Refused}
 use Rattle.stepping.specs.Step.{After, stays, turn}
-use Rattle.stepping.specs.Row.{noneDone, reports, countsAfter, memoryAfter, performing, idle}
+use Rattle.stepping.specs.Row.{noneDone, reports, countsAfter, memoryAfter, performing, idle, rowOf}
 use Rattle.stepping.specs.Reach.{Reachable}
 use Rattle.steps.specs.Ready.{Ready}
 
@@ -58,3 +58,8 @@ pub record Ordered (s : List ℕ) (t : Table) (P : ℕ) (order : List ℕ) (m : 
   pub idle-is : n ≡ idle (reports s P order noneDone m)
   pub reachable : Reachable t P counts
   pub long : length left ≡ memories.total t
+
+-- what the row of a run leaves, and how many of its calls are idle
+pub record Rowed (s : List ℕ) (t : Table) (P : ℕ) (order : List ℕ) (m left : List Float) (n : ℕ) : Type 0 where
+  pub memory-is : left ≡ memoryAfter s P (rowOf s P t order m) noneDone m
+  pub idle-is : n ≡ idle (reports s P (rowOf s P t order m) noneDone m)

@@ -17,7 +17,7 @@ ghost use Rattle.stepping.specs.Row.{lowest, closing, memoryAfter};
 ghost use Rattle.stepping.specs.Reach.{Reachable};
 ghost use Rattle.steps.specs.Ready.{Small, Ready, Planned};
 ghost use Rattle.steps.specs.Code.{closedBy};
-ghost use Rattle.running.specs.Code.{idling, canBy, canIn, listedIn, called, Leaves, Given, Ordered};
+ghost use Rattle.running.specs.Code.{idling, canBy, canIn, listedIn, called, Leaves, Given, Ordered, Rowed};
 ghost use Rattle.running.specs.Runs.{Runs};
 
 // What a run answers: the refusal, 0 without one, with its place and the read that 9 names; and how many calls were idle.
@@ -238,6 +238,58 @@ fn close(
     }
 }
 
+// The calls of the order, then those that use up the lists; answers how many were idle.
+fn run_row(
+    order: &[u8],
+    p: Plan,
+    l: Lengths,
+    processors: u32,
+    firsts: &[u32; 16],
+    lasts: &[u32; 16],
+    starts: &[usize; 17],
+    kinds: &[u8; 528],
+    arrays: &[u32; 528],
+    values: &[u32; 528],
+    bases: &[u32; 17],
+    memory: &mut [f64],
+) -> usize
+    requires { ⌜ ((s : List ℕ) × ((t : Table) × Given s t processors p l (now firsts) (now lasts) (now starts) (now kinds) (now arrays) (now values) (now bases) (now memory))) ⌝ }
+    ensures { λ r. ⌜ ((s : List ℕ) (t : Table) → Given s t processors p l (now (firsts .entry)) (now (lasts .entry)) (now (starts .entry)) (now (kinds .entry)) (now (arrays .entry)) (now (values .entry)) (now (bases .entry)) (now (memory .entry)) → Rowed s t processors (now (order .entry)) (now (memory .entry)) (now (memory .exit)) r) ⌝ }
+{
+    let c = take_order(
+        order,
+        p,
+        l,
+        processors,
+        firsts,
+        lasts,
+        starts,
+        kinds,
+        arrays,
+        values,
+        bases,
+        memory,
+    );
+    let counts = c.counts;
+    let left = listed(l, processors);
+    close(
+        counts,
+        left,
+        p,
+        l,
+        processors,
+        firsts,
+        lasts,
+        starts,
+        kinds,
+        arrays,
+        values,
+        bases,
+        memory,
+    );
+    c.idle
+}
+
 // The run of a planned table: 12, then the calls.
 fn run_planned(
     p: Plan,
@@ -267,25 +319,8 @@ fn run_planned(
         };
     }
     let l = ranges::lengths_of(p, processors, firsts, lasts);
-    let c = take_order(
+    let idle = run_row(
         order,
-        p,
-        l,
-        processors,
-        firsts,
-        lasts,
-        starts,
-        kinds,
-        arrays,
-        values,
-        &bs,
-        memory,
-    );
-    let counts = c.counts;
-    let left = listed(l, processors);
-    close(
-        counts,
-        left,
         p,
         l,
         processors,
@@ -302,7 +337,7 @@ fn run_planned(
         number: 0,
         place: 0,
         read: 0,
-        idle: c.idle,
+        idle,
     }
 }
 
