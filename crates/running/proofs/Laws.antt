@@ -14,12 +14,12 @@ use borrow.Author.Tests.{lt-ltb, le-ltb}
 use Rattle.model.specs.Table.{Table}
 use Rattle.reader.specs.Reading.{Answer, accepted, refused}
 use Rattle.reader.specs.Columns.{Columns, tableAt}
-use Rattle.tables.specs.Verdict.{numberOf, placeOf}
+use Rattle.tables.specs.Verdict.{numberOf, placeOf, Tells}
 use Rattle.blocks.specs.Sums.{column, total-same}
 use Rattle.bodies.specs.Workable.{Based}
 use Rattle.iterations.specs.Memory.{total, remembered, remembered-as-long, remembered-unlike}
 use Rattle.plans.specs.declared.Plan.{Plan}
-use Rattle.plans.specs.Plans.{planned, Tells}
+use Rattle.plans.specs.Plans.{planned}
 use Rattle.plans.specs.Fitting.{planned-fits}
 use Rattle.ranges.specs.declared.Lengths.{Lengths}
 use Rattle.ranges.specs.Laid.{Laid}

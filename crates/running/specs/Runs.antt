@@ -4,7 +4,7 @@ use mathlib.Core.Path.{_≡_}
 use mathlib.Core.List.{List}
 use lib.ListN.{length}
 use lib.Ieee.{Float}
-use Rattle.plans.specs.Plans.{Tells}
+use Rattle.tables.specs.Verdict.{Tells}
 use Rattle.stepping.specs.Row.{runAnswer, runMemory, runIdle}
 use Rattle.running.specs.declared.Ran.{Ran}
 
