@@ -35,12 +35,32 @@ fn nanoseconds(units: usize, work: &mut impl FnMut()) -> f64 {
     start.elapsed().as_nanos() as f64 / units as f64
 }
 
+/// The head of the benchmark's table.
+pub fn print_head() {
+    println!("| what | library | second | factor |");
+    println!("|---|---|---|---|");
+}
+
 /// One line of the benchmark.
 pub fn print(name: &str, unit: &str, pair: &Pair) {
-    println!(
-        "{name}: library {:.0} ns, second {:.0} ns per {unit}, factor {:.2}",
-        pair.library,
-        pair.second,
-        pair.factor()
-    );
+    let (library, second) = (time(pair.library), time(pair.second));
+    println!("| {name}, per {unit} | {library} | {second} | {:.2} |", pair.factor());
+}
+
+/// One line for a row of growing sizes.
+pub fn print_growth(name: &str, unit: &str, pairs: &[Pair]) {
+    let row =
+        |each: fn(&Pair) -> String| pairs.iter().map(each).collect::<Vec<String>>().join(", ");
+    let library = row(|pair| time(pair.library));
+    let second = row(|pair| time(pair.second));
+    let factors = row(|pair| format!("{:.2}", pair.factor()));
+    println!("| {name}, per {unit} | {library} | {second} | {factors} |");
+}
+
+fn time(nanoseconds: f64) -> String {
+    if nanoseconds < 1_000.0 {
+        format!("{nanoseconds:.1} ns")
+    } else {
+        format!("{:.1} µs", nanoseconds / 1_000.0)
+    }
 }

@@ -2,6 +2,9 @@
 //! kind of work, the time of both and their factor. It asserts nothing.
 
 #[cfg(feature = "planning")]
+#[path = "bench/growth.rs"]
+mod growth;
+#[cfg(feature = "planning")]
 #[path = "bench/planning.rs"]
 mod planning;
 #[path = "bench/reading.rs"]
@@ -11,10 +14,15 @@ mod reading;
 mod running;
 
 fn main() {
-    println!("factor: the library's time divided by the second implementation's");
+    println!("factor: the library's time divided by the second implementation's\n");
+    vempaldi_checks::measure::print_head();
     reading::measure();
     #[cfg(feature = "planning")]
     planning::measure();
     #[cfg(feature = "running")]
     running::measure();
+    #[cfg(feature = "planning")]
+    growth::measure();
+    #[cfg(feature = "running")]
+    running::growth();
 }

@@ -7,7 +7,7 @@ use vempaldi_checks::bodies::{self, Setting};
 use vempaldi_checks::encoder::encode;
 use vempaldi_checks::library_planning as library;
 use vempaldi_checks::listing::listing;
-use vempaldi_checks::measure;
+use vempaldi_checks::measure::{self, Pair};
 use vempaldi_checks::outputs;
 use vempaldi_checks::random::Random;
 use vempaldi_checks::table::*;
@@ -30,7 +30,6 @@ pub fn measure() {
     compare_amounts("shifts and peels alone, 400 mixed tables", &mixed);
     compare_amounts("shifts and peels alone, full tables, each array stored once", &full);
     compare_amounts("shifts and peels alone, full tables, two arrays shared", &dense);
-    lengths(&mut random);
 }
 
 fn repeat(count: usize, mut make: impl FnMut() -> Table) -> Vec<Table> {
@@ -48,23 +47,27 @@ fn accepted(mut make: impl FnMut() -> Table) -> Table {
 }
 
 fn compare(name: &str, tables: &[Table]) {
+    measure::print(name, "table", &listings(tables, PROCESSORS));
+}
+
+/// The listings of tables by both.
+pub fn listings(tables: &[Table], processors: u32) -> Pair {
     let made: Vec<Vec<u8>> = tables.iter().map(encode).collect();
     let mut out = vec![0; ROOM];
-    let pair = measure::beside(
+    measure::beside(
         ROUNDS,
         made.len(),
         || {
             for table in &made {
-                black_box(library::listing(black_box(table), PROCESSORS, &mut out));
+                black_box(library::listing(black_box(table), processors, &mut out));
             }
         },
         || {
             for table in &made {
-                black_box(listing(black_box(table), PROCESSORS));
+                black_box(listing(black_box(table), processors));
             }
         },
-    );
-    measure::print(name, "table", &pair);
+    )
 }
 
 /// Reading the table and finding shifts and peels, without any text.
@@ -89,10 +92,10 @@ fn compare_amounts(name: &str, tables: &[Table]) {
 }
 
 /// The plan of each table and its blocks, without any text.
-fn compare_blocks(name: &str, tables: &[Table]) {
+fn plans(tables: &[Table]) -> Pair {
     let made: Vec<Vec<u8>> = tables.iter().map(encode).collect();
     let mut out = vec![0; ROOM];
-    let pair = measure::beside(
+    measure::beside(
         ROUNDS,
         made.len(),
         || {
@@ -105,23 +108,23 @@ fn compare_blocks(name: &str, tables: &[Table]) {
                 black_box(outputs::blocks(black_box(table), PROCESSORS, ROOM)).ok();
             }
         },
-    );
-    measure::print(name, "table", &pair);
+    )
 }
 
 /// The same tables with loops ten and a hundred times as long: the ranges
 /// are worked out without counting iterations, so the time stays. The listing
 /// has longer numbers to print; the plan and its blocks alone do not.
-fn lengths(random: &mut Random) {
-    let base = repeat(100, || accepted(|| near(random)));
-    for factor in [1, 10, 100] {
-        let longer: Vec<Table> = base.iter().map(|table| lengthen(table, factor)).collect();
-        compare(&format!("planning the same 100 tables, loops {factor} times as long"), &longer);
-    }
-    for factor in [1, 10, 100] {
-        let longer: Vec<Table> = base.iter().map(|table| lengthen(table, factor)).collect();
-        compare_blocks(&format!("plan and blocks alone, loops {factor} times as long"), &longer);
-    }
+pub fn lengths() {
+    let mut random = Random::new(4);
+    let base = repeat(100, || accepted(|| near(&mut random)));
+    let longer = [1, 10, 100]
+        .map(|factor| -> Vec<Table> { base.iter().map(|table| lengthen(table, factor)).collect() });
+    let listed = longer.each_ref().map(|tables| listings(tables, PROCESSORS));
+    let name = "planning, 640, 6,400, 64,000 iterations a loop";
+    measure::print_growth(name, "table", &listed);
+    let planned = longer.each_ref().map(|tables| plans(tables));
+    let name = "plan and blocks alone, 640, 6,400, 64,000 iterations a loop";
+    measure::print_growth(name, "table", &planned);
 }
 
 /// 2 to 16 loops of 1 to 32 items over 16 arrays.
@@ -182,7 +185,7 @@ fn dense(random: &mut Random) -> Table {
 }
 
 /// A loop from `margin` to `last` whose references lie within `margin`.
-fn a_loop(
+pub fn a_loop(
     random: &mut Random,
     arrays: &[u32],
     margin: u32,

@@ -6,35 +6,51 @@ use vempaldi_checks::encoder::{encode, Encoder};
 use vempaldi_checks::examples::EXAMPLE;
 use vempaldi_checks::interpreter::plain_run;
 use vempaldi_checks::library_running as library;
-use vempaldi_checks::measure;
+use vempaldi_checks::measure::{self, Pair};
 use vempaldi_checks::random::Random;
 use vempaldi_checks::reader::read;
 use vempaldi_checks::stepping::run;
+use vempaldi_checks::table::Loop;
 use vempaldi_checks::tables;
 
 const PROCESSORS: u32 = 16;
-const ITERATIONS: usize = 100_000;
 
 pub fn measure() {
-    let table = two_loops();
-    plain(&table);
-    caller_order(&table);
+    let table = two_loops(50_000);
+    measure::print("plain run, 7 items, 100,000 iterations", "iteration", &plain(&table));
+    let pair = caller_order(&table, PROCESSORS);
+    measure::print("run in a caller's order, 16 processors", "iteration", &pair);
     let full = encode(&tables::full(&mut Random::new(1), 4, 4));
     step("the example, 2 processors", &EXAMPLE, 2);
     step("two loops of 50,000, 16 processors", &table, PROCESSORS);
     step("a full table, 16 processors", &full, PROCESSORS);
 }
 
-/// An array has at most 65,536 elements, so the 100,000 iterations are two
-/// loops of 50,000, each with a body of seven items.
-fn two_loops() -> Vec<u8> {
+/// How the cost of an iteration grows with iterations and with processors.
+pub fn growth() {
+    let longer = [500, 5_000, 50_000];
+    let plain_runs = longer.map(|count| plain(&two_loops(count)));
+    let name = "plain run, 1,000, 10,000, 100,000 iterations";
+    measure::print_growth(name, "iteration", &plain_runs);
+    let runs = longer.map(|count| caller_order(&two_loops(count), PROCESSORS));
+    let name = "run in a caller's order, 1,000, 10,000, 100,000 iterations";
+    measure::print_growth(name, "iteration", &runs);
+    let table = two_loops(5_000);
+    let runs = [1, 4, 16, 64].map(|processors| caller_order(&table, processors));
+    let name = "run in a caller's order, 1, 4, 16, 64 processors";
+    measure::print_growth(name, "iteration", &runs);
+}
+
+/// Two loops, each with a body of seven items. An array has at most 65,536
+/// elements, so that two loops of 50,000 are needed for 100,000 iterations.
+fn two_loops(count: u32) -> Vec<u8> {
     let body = |encoder: Encoder, array: u8| {
         let encoder = encoder.read(array, -1).read(array, 1).operation(1);
         encoder.read(array, 0).operation(3).constant(2).operation(4)
     };
-    let encoder = Encoder::new().repeat(3, |e| e.array(50_002));
-    let encoder = body(encoder.a_loop(1, 50_000, 1, 0), 0);
-    body(encoder.a_loop(1, 50_000, 2, 0), 1).end().bytes
+    let encoder = Encoder::new().repeat(3, |e| e.array(count + 2));
+    let encoder = body(encoder.a_loop(1, count, 1, 0), 0);
+    body(encoder.a_loop(1, count, 2, 0), 1).end().bytes
 }
 
 /// Numbers between 1 and 2, so that no result grows beyond all bounds.
@@ -51,33 +67,36 @@ fn length(table: &[u8]) -> usize {
     read(table).expect("accepted").elements() as usize
 }
 
-fn plain(table: &[u8]) {
+fn iterations(table: &[u8]) -> usize {
+    let count = |one: &Loop| (one.last - one.first + 1) as usize;
+    read(table).expect("accepted").loops.iter().map(count).sum()
+}
+
+fn plain(table: &[u8]) -> Pair {
     let mut found = memory(length(table));
     let mut wanted = found.clone();
-    let pair = measure::beside(
+    measure::beside(
         20,
-        ITERATIONS,
+        iterations(table),
         || keep(library::plain_run(black_box(table), &mut found)),
         || keep(plain_run(black_box(table), &mut wanted)),
-    );
-    measure::print("plain run, 7 items, 100,000 iterations", "iteration", &pair);
+    )
 }
 
 /// Half of the iterations are named by the caller, the rest follow from the
 /// lowest processor on.
-fn caller_order(table: &[u8]) {
+fn caller_order(table: &[u8], processors: u32) -> Pair {
     let mut random = Random::new(2);
-    let order: Vec<u8> =
-        (0..ITERATIONS / 2).map(|_| random.below(PROCESSORS as usize) as u8).collect();
+    let count = iterations(table);
+    let order: Vec<u8> = (0..count / 2).map(|_| random.below(processors as usize) as u8).collect();
     let mut found = memory(length(table));
     let mut wanted = found.clone();
-    let pair = measure::beside(
+    measure::beside(
         3,
-        ITERATIONS,
-        || keep(library::run(black_box(table), PROCESSORS, &order, &mut found)),
-        || keep(run(black_box(table), PROCESSORS, &order, &mut wanted)),
-    );
-    measure::print("run in a caller's order, 16 processors", "iteration", &pair);
+        count,
+        || keep(library::run(black_box(table), processors, &order, &mut found)),
+        || keep(run(black_box(table), processors, &order, &mut wanted)),
+    )
 }
 
 /// The library's step reads and plans its table anew in each call. The second

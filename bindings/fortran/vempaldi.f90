@@ -1,0 +1,304 @@
+! Vempaldi for Fortran: each procedure calls the C function of the same name (include/vempaldi.h says what it writes and refuses).
+!
+! A table is an array of integer(c_int8_t), a memory one of real(c_double), the arrays of the table in order without gaps. Loops,
+! indices, processors and blocks are numbered from 0, as in the table. The answer holds number, place and read: number 0 is accepted.
+! Numbers that C takes as unsigned are given here as integer(c_int32_t); none that a caller needs is above 1048576.
+module vempaldi
+  use, intrinsic :: iso_c_binding
+  implicit none
+  private
+
+  integer, parameter, public :: vempaldi_iteration = 0, vempaldi_waiting = 1, vempaldi_finished = 2
+  integer, parameter, public :: vempaldi_table_bytes = 2065, vempaldi_listing_bytes = 48400
+
+  public :: vempaldi_check, vempaldi_join, vempaldi_shifts_and_peels, vempaldi_threshold, vempaldi_sweeps
+  public :: vempaldi_blocks, vempaldi_fused_list, vempaldi_peeled_list, vempaldi_listing
+  public :: vempaldi_plain_run, vempaldi_step, vempaldi_run, vempaldi_word
+
+  character(10), parameter :: words(0:15) = [character(10) :: 'accepted', 'torn', 'kind', 'field', 'crowd', 'array', 'body', &
+    'edge', 'tail', 'serial', 'processors', 'short', 'memory', 'buffer', 'unlike', 'state']
+
+  interface
+    subroutine c_check(table, n, answer) bind(c, name='vempaldi_check')
+      import :: c_int8_t, c_size_t, c_int64_t
+      integer(c_int8_t), intent(in) :: table(*)
+      integer(c_size_t), value :: n
+      integer(c_int64_t), intent(out) :: answer(3)
+    end subroutine
+    function c_join(left, n, right, m, out, room, answer) result(written) bind(c, name='vempaldi_join')
+      import :: c_int8_t, c_size_t, c_int64_t
+      integer(c_int8_t), intent(in) :: left(*), right(*)
+      integer(c_int8_t), intent(inout) :: out(*)
+      integer(c_size_t), value :: n, m, room
+      integer(c_int64_t), intent(out) :: answer(3)
+      integer(c_int64_t) :: written
+    end function
+    function c_shifts_and_peels(table, n, out, room, answer) result(written) bind(c, name='vempaldi_shifts_and_peels')
+      import :: c_int8_t, c_size_t, c_int64_t
+      integer(c_int8_t), intent(in) :: table(*)
+      integer(c_int8_t), intent(inout) :: out(*)
+      integer(c_size_t), value :: n, room
+      integer(c_int64_t), intent(out) :: answer(3)
+      integer(c_int64_t) :: written
+    end function
+    function c_threshold(table, n, out, room, answer) result(written) bind(c, name='vempaldi_threshold')
+      import :: c_int8_t, c_size_t, c_int64_t
+      integer(c_int8_t), intent(in) :: table(*)
+      integer(c_int8_t), intent(inout) :: out(*)
+      integer(c_size_t), value :: n, room
+      integer(c_int64_t), intent(out) :: answer(3)
+      integer(c_int64_t) :: written
+    end function
+    function c_sweeps(table, n, out, room, answer) result(written) bind(c, name='vempaldi_sweeps')
+      import :: c_int8_t, c_size_t, c_int64_t
+      integer(c_int8_t), intent(in) :: table(*)
+      integer(c_int8_t), intent(inout) :: out(*)
+      integer(c_size_t), value :: n, room
+      integer(c_int64_t), intent(out) :: answer(3)
+      integer(c_int64_t) :: written
+    end function
+    function c_blocks(table, n, processors, out, room, answer) result(written) bind(c, name='vempaldi_blocks')
+      import :: c_int8_t, c_int32_t, c_size_t, c_int64_t
+      integer(c_int8_t), intent(in) :: table(*)
+      integer(c_int8_t), intent(inout) :: out(*)
+      integer(c_int32_t), value :: processors
+      integer(c_size_t), value :: n, room
+      integer(c_int64_t), intent(out) :: answer(3)
+      integer(c_int64_t) :: written
+    end function
+    function c_listing(table, n, processors, out, room, answer) result(written) bind(c, name='vempaldi_listing')
+      import :: c_int8_t, c_int32_t, c_size_t, c_int64_t
+      integer(c_int8_t), intent(in) :: table(*)
+      integer(c_int8_t), intent(inout) :: out(*)
+      integer(c_int32_t), value :: processors
+      integer(c_size_t), value :: n, room
+      integer(c_int64_t), intent(out) :: answer(3)
+      integer(c_int64_t) :: written
+    end function
+    function c_fused_list(table, n, processors, processor, out, room, answer) result(written) &
+        bind(c, name='vempaldi_fused_list')
+      import :: c_int8_t, c_int32_t, c_size_t, c_int64_t
+      integer(c_int8_t), intent(in) :: table(*)
+      integer(c_int8_t), intent(inout) :: out(*)
+      integer(c_int32_t), value :: processors, processor
+      integer(c_size_t), value :: n, room
+      integer(c_int64_t), intent(out) :: answer(3)
+      integer(c_int64_t) :: written
+    end function
+    function c_peeled_list(table, n, processors, processor, out, room, answer) result(written) &
+        bind(c, name='vempaldi_peeled_list')
+      import :: c_int8_t, c_int32_t, c_size_t, c_int64_t
+      integer(c_int8_t), intent(in) :: table(*)
+      integer(c_int8_t), intent(inout) :: out(*)
+      integer(c_int32_t), value :: processors, processor
+      integer(c_size_t), value :: n, room
+      integer(c_int64_t), intent(out) :: answer(3)
+      integer(c_int64_t) :: written
+    end function
+    subroutine c_plain_run(table, n, memory, numbers, answer) bind(c, name='vempaldi_plain_run')
+      import :: c_int8_t, c_double, c_size_t, c_int64_t
+      integer(c_int8_t), intent(in) :: table(*)
+      real(c_double), intent(inout) :: memory(*)
+      integer(c_size_t), value :: n, numbers
+      integer(c_int64_t), intent(out) :: answer(3)
+    end subroutine
+    subroutine c_step(table, n, processors, processor, counts, memory, numbers, report, answer) bind(c, name='vempaldi_step')
+      import :: c_int8_t, c_int32_t, c_double, c_size_t, c_int64_t
+      integer(c_int8_t), intent(in) :: table(*)
+      integer(c_int32_t), value :: processors, processor
+      integer(c_int32_t), intent(inout) :: counts(64), report(3)
+      real(c_double), intent(inout) :: memory(*)
+      integer(c_size_t), value :: n, numbers
+      integer(c_int64_t), intent(out) :: answer(3)
+    end subroutine
+    function c_run(table, n, processors, order, m, memory, numbers, answer) result(idle) bind(c, name='vempaldi_run')
+      import :: c_int8_t, c_int32_t, c_double, c_size_t, c_int64_t
+      integer(c_int8_t), intent(in) :: table(*), order(*)
+      integer(c_int32_t), value :: processors
+      real(c_double), intent(inout) :: memory(*)
+      integer(c_size_t), value :: n, m, numbers
+      integer(c_int64_t), intent(out) :: answer(3)
+      integer(c_int64_t) :: idle
+    end function
+  end interface
+
+contains
+
+  ! The word of a ground, 'accepted' for 0.
+  pure function vempaldi_word(number) result(word)
+    integer(c_int64_t), intent(in) :: number
+    character(:), allocatable :: word
+    word = 'unknown'
+    if (number >= 0 .and. number <= 15) word = trim(words(int(number)))
+  end function
+
+  subroutine vempaldi_check(table, answer)
+    integer(c_int8_t), contiguous, intent(in) :: table(:)
+    integer(c_int64_t), intent(out) :: answer(3)
+    call c_check(table, size(table, kind=c_size_t), answer)
+  end subroutine
+
+  ! The joined table; empty where refused.
+  subroutine vempaldi_join(left, right, joined, answer)
+    integer(c_int8_t), contiguous, intent(in) :: left(:), right(:)
+    integer(c_int8_t), allocatable, intent(out) :: joined(:)
+    integer(c_int64_t), intent(out) :: answer(3)
+    integer(c_int8_t) :: out(vempaldi_table_bytes)
+    integer(c_int64_t) :: written
+    out = 0
+    written = c_join(left, size(left, kind=c_size_t), right, size(right, kind=c_size_t), out, size(out, kind=c_size_t), answer)
+    joined = out(1:written)
+  end subroutine
+
+  ! amounts(1, k) is the shift of loop k - 1, amounts(2, k) its peel.
+  subroutine vempaldi_shifts_and_peels(table, amounts, answer)
+    integer(c_int8_t), contiguous, intent(in) :: table(:)
+    integer(c_int32_t), allocatable, intent(out) :: amounts(:, :)
+    integer(c_int64_t), intent(out) :: answer(3)
+    integer(c_int8_t) :: out(128)
+    integer(c_int64_t) :: written
+    out = 0
+    written = c_shifts_and_peels(table, size(table, kind=c_size_t), out, size(out, kind=c_size_t), answer)
+    amounts = pairs(out(1:written))
+  end subroutine
+
+  subroutine vempaldi_threshold(table, threshold, answer)
+    integer(c_int8_t), contiguous, intent(in) :: table(:)
+    integer(c_int32_t), intent(inout) :: threshold
+    integer(c_int64_t), intent(out) :: answer(3)
+    integer(c_int8_t) :: out(4)
+    out = 0
+    if (c_threshold(table, size(table, kind=c_size_t), out, 4_c_size_t, answer) > 0) threshold = number(out)
+  end subroutine
+
+  subroutine vempaldi_sweeps(table, before, after, answer)
+    integer(c_int8_t), contiguous, intent(in) :: table(:)
+    integer(c_int32_t), intent(inout) :: before, after
+    integer(c_int64_t), intent(out) :: answer(3)
+    integer(c_int8_t) :: out(8)
+    out = 0
+    if (c_sweeps(table, size(table, kind=c_size_t), out, 8_c_size_t, answer) == 0) return
+    before = number(out(1:4))
+    after = number(out(5:8))
+  end subroutine
+
+  ! blocks(1, b) is the first index of block b - 1, blocks(2, b) its last.
+  subroutine vempaldi_blocks(table, processors, blocks, answer)
+    integer(c_int8_t), contiguous, intent(in) :: table(:)
+    integer(c_int32_t), intent(in) :: processors
+    integer(c_int32_t), allocatable, intent(out) :: blocks(:, :)
+    integer(c_int64_t), intent(out) :: answer(3)
+    integer(c_int8_t) :: out(512)
+    integer(c_int64_t) :: written
+    out = 0
+    written = c_blocks(table, size(table, kind=c_size_t), processors, out, size(out, kind=c_size_t), answer)
+    blocks = pairs(out(1:written))
+  end subroutine
+
+  ! list(1, n) is the loop of the n-th iteration before the barrier, list(2, n) its index.
+  subroutine vempaldi_fused_list(table, processors, processor, list, answer)
+    integer(c_int8_t), contiguous, intent(in) :: table(:)
+    integer(c_int32_t), intent(in) :: processors, processor
+    integer(c_int32_t), allocatable, intent(out) :: list(:, :)
+    integer(c_int64_t), intent(out) :: answer(3)
+    integer(c_int32_t), allocatable :: amounts(:, :), blocks(:, :)
+    integer(c_int8_t), allocatable :: out(:)
+    integer(c_size_t) :: room
+    integer(c_int64_t) :: written
+    ! No list is longer than each loop once for each index of the block.
+    call vempaldi_shifts_and_peels(table, amounts, answer)
+    call vempaldi_blocks(table, processors, blocks, answer)
+    room = 0
+    if (processor >= 0 .and. processor < size(blocks, 2)) &
+      room = 8_c_size_t * size(amounts, 2) * (blocks(2, processor + 1) - blocks(1, processor + 1) + 1)
+    allocate (out(room), source=0_c_int8_t)
+    written = c_fused_list(table, size(table, kind=c_size_t), processors, processor, out, room, answer)
+    list = pairs(out(1:written))
+  end subroutine
+
+  ! The same past the barrier.
+  subroutine vempaldi_peeled_list(table, processors, processor, list, answer)
+    integer(c_int8_t), contiguous, intent(in) :: table(:)
+    integer(c_int32_t), intent(in) :: processors, processor
+    integer(c_int32_t), allocatable, intent(out) :: list(:, :)
+    integer(c_int64_t), intent(out) :: answer(3)
+    integer(c_int32_t), allocatable :: amounts(:, :)
+    integer(c_int32_t) :: threshold
+    integer(c_int8_t), allocatable :: out(:)
+    integer(c_size_t) :: room
+    integer(c_int64_t) :: written
+    ! No list is longer than each loop once for each index of the threshold.
+    threshold = 0
+    call vempaldi_shifts_and_peels(table, amounts, answer)
+    call vempaldi_threshold(table, threshold, answer)
+    room = 8_c_size_t * size(amounts, 2) * threshold
+    allocate (out(room), source=0_c_int8_t)
+    written = c_peeled_list(table, size(table, kind=c_size_t), processors, processor, out, room, answer)
+    list = pairs(out(1:written))
+  end subroutine
+
+  ! The plan as text with line feeds, or the line of its refusal.
+  subroutine vempaldi_listing(table, processors, text, answer)
+    integer(c_int8_t), contiguous, intent(in) :: table(:)
+    integer(c_int32_t), intent(in) :: processors
+    character(:), allocatable, intent(out) :: text
+    integer(c_int64_t), intent(out) :: answer(3)
+    integer(c_int8_t), allocatable :: out(:)
+    integer(c_int64_t) :: written, at
+    allocate (out(vempaldi_listing_bytes), source=0_c_int8_t)
+    written = c_listing(table, size(table, kind=c_size_t), processors, out, size(out, kind=c_size_t), answer)
+    allocate (character(written) :: text)
+    do at = 1, written
+      text(at:at) = achar(out(at))
+    end do
+  end subroutine
+
+  subroutine vempaldi_plain_run(table, memory, answer)
+    integer(c_int8_t), contiguous, intent(in) :: table(:)
+    real(c_double), contiguous, intent(inout) :: memory(:)
+    integer(c_int64_t), intent(out) :: answer(3)
+    call c_plain_run(table, size(table, kind=c_size_t), memory, size(memory, kind=c_size_t), answer)
+  end subroutine
+
+  ! counts: 64 numbers, 0 before the first step. report: kind (vempaldi_iteration, _waiting, _finished), loop, index.
+  subroutine vempaldi_step(table, processors, processor, counts, memory, report, answer)
+    integer(c_int8_t), contiguous, intent(in) :: table(:)
+    integer(c_int32_t), intent(in) :: processors, processor
+    integer(c_int32_t), intent(inout) :: counts(64), report(3)
+    real(c_double), contiguous, intent(inout) :: memory(:)
+    integer(c_int64_t), intent(out) :: answer(3)
+    call c_step(table, size(table, kind=c_size_t), processors, processor, counts, memory, size(memory, kind=c_size_t), &
+      report, answer)
+  end subroutine
+
+  subroutine vempaldi_run(table, processors, order, memory, idle, answer)
+    integer(c_int8_t), contiguous, intent(in) :: table(:), order(:)
+    integer(c_int32_t), intent(in) :: processors
+    real(c_double), contiguous, intent(inout) :: memory(:)
+    integer(c_int64_t), intent(out) :: idle, answer(3)
+    idle = c_run(table, size(table, kind=c_size_t), processors, order, size(order, kind=c_size_t), memory, &
+      size(memory, kind=c_size_t), answer)
+  end subroutine
+
+  ! Four little-endian bytes, on a machine of either byte order.
+  pure function number(bytes) result(value)
+    integer(c_int8_t), intent(in) :: bytes(4)
+    integer(c_int32_t) :: value, at
+    value = 0
+    do at = 4, 1, -1
+      value = ior(ishft(value, 8), iand(int(bytes(at), c_int32_t), 255_c_int32_t))
+    end do
+  end function
+
+  pure function pairs(bytes) result(rows)
+    integer(c_int8_t), intent(in) :: bytes(:)
+    integer(c_int32_t), allocatable :: rows(:, :)
+    integer :: at
+    allocate (rows(2, size(bytes) / 8))
+    do at = 1, size(rows, 2)
+      rows(1, at) = number(bytes(8 * at - 7:8 * at - 4))
+      rows(2, at) = number(bytes(8 * at - 3:8 * at))
+    end do
+  end function
+
+end module

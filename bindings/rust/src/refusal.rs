@@ -1,0 +1,110 @@
+//! Refusals: one number, its word and ground, and where it was met.
+
+use crate::foreign::Answer;
+use std::error::Error;
+use std::fmt;
+
+#[derive(Clone, Copy, Debug, PartialEq, Eq, Hash)]
+pub enum Ground {
+    Torn,
+    Kind,
+    Field,
+    Crowd,
+    Array,
+    Body,
+    Edge,
+    Tail,
+    Serial,
+    Processors,
+    Short,
+    Memory,
+    Buffer,
+    Unlike,
+    State,
+    /// A number that this wrapper does not know: the library is newer.
+    Other(u64),
+}
+
+/// Each ground in the order of its number, with its word and its text.
+const GROUNDS: [(Ground, &str, &str); 15] = [
+    (Ground::Torn, "torn", "the bytes end inside a record or before the end record"),
+    (Ground::Kind, "kind", "a kind is unknown or out of its order, or there is no array or loop before the end"),
+    (Ground::Field, "field", "a field is outside its range, or first is above last"),
+    (Ground::Crowd, "crowd", "one array, loop, item or element too many"),
+    (Ground::Array, "array", "there is no array of that number"),
+    (Ground::Body, "body", "too few waiting numbers, a ninth, or not one left"),
+    (Ground::Edge, "edge", "some iteration reaches outside the array"),
+    (Ground::Tail, "tail", "bytes follow the end record"),
+    (Ground::Serial, "serial", "two different iterations of one loop meet at an element, one storing"),
+    (Ground::Processors, "processors", "P is outside 1 to 64, or a processor's number is not below P"),
+    (Ground::Short, "short", "fewer indices than processors, or a block below the threshold"),
+    (Ground::Memory, "memory", "the memory's length is not the table's element total"),
+    (Ground::Buffer, "buffer", "the output does not fit the lent bytes"),
+    (Ground::Unlike, "unlike", "the joined tables differ in arrays"),
+    (Ground::State, "state", "the counts are none that steps from 0 can leave"),
+];
+
+impl Ground {
+    pub fn of_number(number: u64) -> Ground {
+        let known = number.checked_sub(1).and_then(|at| GROUNDS.get(at as usize));
+        known.map_or(Ground::Other(number), |row| row.0)
+    }
+
+    pub fn number(self) -> u64 {
+        match self {
+            Ground::Other(number) => number,
+            known => 1 + GROUNDS.iter().position(|row| row.0 == known).unwrap_or(0) as u64,
+        }
+    }
+
+    pub fn word(self) -> &'static str {
+        self.row().map_or("unknown", |row| row.1)
+    }
+
+    pub fn text(self) -> &'static str {
+        self.row().map_or("a ground that this wrapper does not know", |row| row.2)
+    }
+
+    fn row(self) -> Option<&'static (Ground, &'static str, &'static str)> {
+        GROUNDS.iter().find(|row| row.0 == self)
+    }
+
+    /// Whether the place counts bytes of the table.
+    pub fn has_byte(self) -> bool {
+        (1..=8).contains(&self.number())
+    }
+}
+
+/// Why a call was refused.
+#[derive(Clone, Copy, Debug, PartialEq, Eq)]
+pub struct Refusal {
+    pub ground: Ground,
+    /// For torn to tail a byte of the table, for serial a loop, else 0.
+    pub place: u64,
+    /// For serial a read of that loop, numbered from 0 among its reads; else 0.
+    pub read: u64,
+}
+
+impl Refusal {
+    /// The answer of a call: nothing where it was accepted.
+    pub(crate) fn of_answer(answer: &Answer) -> Result<(), Refusal> {
+        match *answer {
+            [0, _, _] => Ok(()),
+            [number, place, read] => Err(Refusal { ground: Ground::of_number(number), place, read }),
+        }
+    }
+}
+
+impl fmt::Display for Refusal {
+    fn fmt(&self, out: &mut fmt::Formatter<'_>) -> fmt::Result {
+        write!(out, "refused {} {}", self.ground.number(), self.ground.word())?;
+        if self.ground == Ground::Serial {
+            write!(out, " at loop {}, read {}", self.place, self.read)?;
+        } else if self.ground.has_byte() {
+            write!(out, " at byte {}", self.place)?;
+        }
+        write!(out, ": {}", self.ground.text())
+    }
+}
+
+impl Error for Refusal {}

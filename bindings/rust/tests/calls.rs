@@ -1,0 +1,89 @@
+//! Every call of the wrapper on the paper's example, and every ground that a caller can meet with it. What is expected is typed from
+//! the paper.
+
+use vempaldi::*;
+
+const EXAMPLE: &[u8] = include_bytes!("../../../examples/example.table");
+
+fn own_index() -> Vec<f64> {
+    (0..36).map(|at| f64::from(at % 12)).collect()
+}
+
+fn ground<T: std::fmt::Debug>(result: Result<T, Refusal>) -> u64 {
+    result.expect_err("refused").ground.number()
+}
+
+#[test]
+fn the_example_is_planned_as_the_paper_says() {
+    assert_eq!(check(EXAMPLE), Ok(()));
+    assert_eq!(shifts_and_peels(EXAMPLE), Ok(vec![Amounts { shift: 0, peel: 0 }, Amounts { shift: 1, peel: 1 }]));
+    assert_eq!(threshold(EXAMPLE), Ok(2));
+    assert_eq!(sweeps(EXAMPLE), Ok(Sweeps { before: 6, after: 5 }));
+    assert_eq!(blocks(EXAMPLE, 2), Ok(vec![Block { first: 1, last: 5 }, Block { first: 6, last: 10 }]));
+    assert!(listing(EXAMPLE, 2).expect("fits").starts_with("loop 0 0 0\nloop 1 1 1\nblock 0 1 5\n"));
+    assert_eq!(listing(EXAMPLE, 6).expect("fits"), "refused 11 0\n");
+}
+
+#[test]
+fn the_lists_hold_what_the_listing_says() {
+    let pair = |one: &Iteration| (one.loop_number, one.index);
+    let fused: Vec<_> = fused_list(EXAMPLE, 2, 0).expect("accepted").iter().map(pair).collect();
+    assert_eq!(fused, [(0, 1), (0, 2), (1, 1), (0, 3), (1, 2), (0, 4), (1, 3), (0, 5), (1, 4)]);
+    let peeled: Vec<_> = peeled_list(EXAMPLE, 2, 0).expect("accepted").iter().map(pair).collect();
+    assert_eq!(peeled, [(1, 5), (1, 6)]);
+    assert_eq!(peeled_list(EXAMPLE, 2, 1), Ok(vec![]));
+    assert_eq!(fused_list(EXAMPLE, 1, 0).expect("accepted").len(), 20);
+}
+
+#[test]
+fn runs_leave_3_12_and_21() {
+    let mut memory = own_index();
+    assert_eq!(plain_run(EXAMPLE, &mut memory), Ok(()));
+    assert_eq!((memory[25], memory[29], memory[34]), (3.0, 12.0, 21.0));
+    let mut other = own_index();
+    assert_eq!(run(EXAMPLE, 2, &[1; 12], &mut other), Ok(3));
+    assert_eq!(memory, other);
+}
+
+#[test]
+fn a_step_reports_its_iteration_then_waits() {
+    let (mut state, mut memory) = (State::new(), own_index());
+    let first = step(EXAMPLE, 2, 1, &mut state, &mut memory);
+    assert_eq!(first, Ok(Report::Iteration { loop_number: 0, index: 6 }));
+    for _ in 1..9 {
+        step(EXAMPLE, 2, 1, &mut state, &mut memory).expect("accepted");
+    }
+    assert_eq!(step(EXAMPLE, 2, 1, &mut state, &mut memory), Ok(Report::Waiting));
+    assert_eq!(state.counts[..3], [0, 9, 0]);
+}
+
+#[test]
+fn refusals_carry_their_grounds() {
+    assert_eq!(ground(check(&EXAMPLE[..60])), 1);
+    assert_eq!(ground(blocks(EXAMPLE, 0)), 10);
+    assert_eq!(ground(fused_list(EXAMPLE, 2, 2)), 10);
+    assert_eq!(ground(peeled_list(EXAMPLE, 2, 7)), 10);
+    assert_eq!(ground(blocks(EXAMPLE, 6)), 11);
+    assert_eq!(ground(plain_run(EXAMPLE, &mut [0.0; 35])), 12);
+    assert_eq!(ground(join_into(EXAMPLE, EXAMPLE, &mut [0; 105])), 13);
+    let mut state = State { counts: [10; 64] };
+    assert_eq!(ground(step(EXAMPLE, 2, 0, &mut state, &mut own_index())), 15);
+    assert_eq!(state.counts, [10; 64]);
+}
+
+#[test]
+fn a_refusal_prints_its_word_and_ground() {
+    let torn = check(&EXAMPLE[..60]).expect_err("refused");
+    let text = "refused 1 torn at byte 60: the bytes end inside a record or before the end record";
+    assert_eq!(torn.to_string(), text);
+    assert_eq!(Ground::of_number(99).number(), 99);
+    for number in 1..=15 {
+        assert_eq!(Ground::of_number(number).number(), number);
+    }
+}
+
+#[test]
+fn a_joined_table_has_both_loops() {
+    let joined = join(EXAMPLE, EXAMPLE).expect("joined");
+    assert_eq!(joined, [&EXAMPLE[..60], &EXAMPLE[15..]].concat());
+}

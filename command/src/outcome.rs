@@ -1,0 +1,43 @@
+//! What a command came to, and the exit status that says it.
+
+use std::fmt;
+use std::io;
+
+/// The exit status of a usage or input/output error.
+pub const TROUBLE: i32 = 2;
+
+#[derive(Clone, Copy, Debug, PartialEq, Eq)]
+pub enum Outcome {
+    /// Accepted; for a run, the memories agree.
+    Good,
+    /// Refused, or the memories differ.
+    Bad,
+}
+
+impl Outcome {
+    pub fn status(self) -> i32 {
+        match self {
+            Outcome::Good => 0,
+            Outcome::Bad => 1,
+        }
+    }
+}
+
+#[derive(Debug)]
+pub enum Failure {
+    Usage(String),
+    Io(String, io::Error),
+    /// Some of several files could not be read; each was named when it was met.
+    Some(usize),
+}
+
+impl fmt::Display for Failure {
+    fn fmt(&self, out: &mut fmt::Formatter<'_>) -> fmt::Result {
+        match self {
+            Failure::Usage(what) => write!(out, "{what} (vempaldi --help says how)"),
+            Failure::Io(name, error) => write!(out, "{name}: {error}"),
+            Failure::Some(1) => write!(out, "one file could not be read"),
+            Failure::Some(count) => write!(out, "{count} files could not be read"),
+        }
+    }
+}

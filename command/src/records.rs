@@ -1,0 +1,115 @@
+//! The records of a table, and the table that an accepted row of them is.
+
+/// A whole record: where its kind byte stands, the kind, and the bytes behind it.
+pub struct Record<'a> {
+    pub at: usize,
+    pub kind: u8,
+    pub body: &'a [u8],
+}
+
+#[derive(Clone, Debug, Default, PartialEq, Eq)]
+pub struct Table {
+    pub arrays: Vec<u32>,
+    pub loops: Vec<Loop>,
+}
+
+#[derive(Clone, Debug, PartialEq, Eq)]
+pub struct Loop {
+    pub first: u32,
+    pub last: u32,
+    pub array: u8,
+    pub offset: i16,
+    pub items: Vec<Item>,
+}
+
+#[derive(Clone, Copy, Debug, PartialEq, Eq)]
+pub enum Item {
+    Read(u8, i16),
+    Constant(u32),
+    /// The code, 1 to 5.
+    Operation(u8),
+}
+
+/// How operations are written in the text, by code from 1 on.
+pub const OPERATIONS: [&str; 5] = ["+", "-", "*", "/", "neg"];
+
+impl Table {
+    pub fn elements(&self) -> usize {
+        self.arrays.iter().map(|&length| length as usize).sum()
+    }
+
+    pub fn iterations(&self) -> usize {
+        self.loops.iter().map(|one| (one.last - one.first + 1) as usize).sum()
+    }
+}
+
+/// How many bytes follow the kind byte.
+pub fn body_length(kind: u8) -> Option<usize> {
+    [4, 11, 3, 4, 1, 0].get(usize::from(kind).checked_sub(1)?).copied()
+}
+
+pub fn kind_name(kind: u8) -> &'static str {
+    match kind {
+        1 => "array",
+        2 => "loop",
+        3 => "read",
+        4 => "constant",
+        5 => "operation",
+        6 => "end",
+        _ => "unknown kind",
+    }
+}
+
+/// The whole records in order, up to the end record or the first that is not whole or not known.
+pub fn records(bytes: &[u8]) -> Vec<Record<'_>> {
+    let mut rows = Vec::new();
+    let mut at = 0;
+    while let Some(&kind) = bytes.get(at) {
+        let Some(body) = body_length(kind).and_then(|length| bytes.get(at + 1..at + 1 + length)) else { break };
+        rows.push(Record { at, kind, body });
+        at += 1 + body.len();
+        if kind == 6 {
+            break;
+        }
+    }
+    rows
+}
+
+/// As much of a table as its records say: all of an accepted one. The flag says whether the end record was met.
+pub fn decode(bytes: &[u8]) -> (Table, bool) {
+    let mut table = Table::default();
+    for record in records(bytes) {
+        match (record.kind, table.loops.last_mut()) {
+            (1, None) => table.arrays.push(number(record.body)),
+            (2, _) => table.loops.push(a_loop(record.body)),
+            (3..=5, Some(open)) => match item(&record) {
+                Some(item) => open.items.push(item),
+                None => return (table, false),
+            },
+            (6, _) => return (table, true),
+            _ => return (table, false),
+        }
+    }
+    (table, false)
+}
+
+fn a_loop(body: &[u8]) -> Loop {
+    let (first, last) = (number(&body[..4]), number(&body[4..8]));
+    Loop { first, last, array: body[8], offset: offset(&body[9..]), items: Vec::new() }
+}
+
+fn item(record: &Record) -> Option<Item> {
+    match record.kind {
+        3 => Some(Item::Read(record.body[0], offset(&record.body[1..]))),
+        4 => Some(Item::Constant(number(record.body))),
+        _ => (1..=5).contains(&record.body[0]).then_some(Item::Operation(record.body[0])),
+    }
+}
+
+fn number(bytes: &[u8]) -> u32 {
+    u32::from_le_bytes([bytes[0], bytes[1], bytes[2], bytes[3]])
+}
+
+fn offset(bytes: &[u8]) -> i16 {
+    i16::from_le_bytes([bytes[0], bytes[1]])
+}

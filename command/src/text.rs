@@ -1,0 +1,56 @@
+//! `dump`: a table as text that `make` turns into the same bytes.
+
+use crate::batch::{self, Words};
+use crate::infix::{assignment, reference};
+use crate::options::Options;
+use crate::outcome::{Failure, Outcome};
+use crate::records::{decode, Item, Loop, OPERATIONS};
+use crate::refusals::describe;
+
+const WORDS: Words = Words { good: "accepted", bad: "refused" };
+
+pub fn dump_files(options: &Options) -> Result<Outcome, Failure> {
+    let files = options.some_files()?;
+    batch::each(files, &WORDS, |name, table| {
+        let head = if files.len() > 1 { format!("# {name}\n") } else { String::new() };
+        batch::print((head + &dump(table)).as_bytes())?;
+        match vempaldi::check(table) {
+            Ok(()) => Ok(Outcome::Good),
+            Err(refusal) => {
+                batch::say(&format!("{name}: {}", describe(table, &refusal)));
+                Ok(Outcome::Bad)
+            }
+        }
+    })
+}
+
+/// The lines of a table; of a damaged one those before the damage.
+pub fn dump(table: &[u8]) -> String {
+    let (decoded, ended) = decode(table);
+    let mut text = String::new();
+    for (number, length) in decoded.arrays.iter().enumerate() {
+        text += &format!("array A{number} {length}\n");
+    }
+    for (number, one) in decoded.loops.iter().enumerate() {
+        text += &a_loop(number, one);
+    }
+    if !ended {
+        text += "# the table is damaged from here on\n";
+    }
+    text
+}
+
+fn a_loop(number: usize, one: &Loop) -> String {
+    let said = assignment(one).map_or(String::new(), |infix| format!(": {infix}"));
+    let items: Vec<String> = one.items.iter().map(item).collect();
+    let store = reference(one.array, one.offset);
+    format!("# loop {number}{said}\nloop {} {} -> {store}: {}\n", one.first, one.last, items.join(" "))
+}
+
+fn item(item: &Item) -> String {
+    match *item {
+        Item::Read(array, offset) => reference(array, offset),
+        Item::Constant(value) => value.to_string(),
+        Item::Operation(code) => OPERATIONS[usize::from(code) - 1].to_string(),
+    }
+}

@@ -1,0 +1,224 @@
+//! Runs the command as a user does. What is expected is typed from the paper, and for LL18 and Jacobi from the thesis that gives
+//! their shifts, peels and sweeps.
+
+use std::io::Write;
+use std::path::PathBuf;
+use std::process::{Command, Stdio};
+use vempaldi_checks::encoder::encode;
+use vempaldi_checks::processors;
+use vempaldi_checks::random::Random;
+use vempaldi_checks::tables::{self, LARGE, MIDDLE, SMALL};
+
+struct Told {
+    status: i32,
+    out: String,
+    err: String,
+}
+
+fn root() -> PathBuf {
+    PathBuf::from(env!("CARGO_MANIFEST_DIR")).join("..")
+}
+
+/// Runs in the repository's directory with these bytes as the standard input.
+fn fed(words: &[&str], input: &[u8]) -> Told {
+    let mut command = Command::new(env!("CARGO_BIN_EXE_vempaldi"));
+    let command = command.args(words).current_dir(root());
+    let piped = command.stdin(Stdio::piped()).stdout(Stdio::piped()).stderr(Stdio::piped());
+    let mut child = piped.spawn().expect("started");
+    // A command that does not read its input closes it early.
+    child.stdin.take().expect("piped").write_all(input).ok();
+    let output = child.wait_with_output().expect("ended");
+    Told {
+        status: output.status.code().expect("a status"),
+        out: String::from_utf8_lossy(&output.stdout).into_owned(),
+        err: String::from_utf8_lossy(&output.stderr).into_owned(),
+    }
+}
+
+fn run(words: &[&str]) -> Told {
+    fed(words, &[])
+}
+
+fn bytes(name: &str) -> Vec<u8> {
+    std::fs::read(root().join(name)).expect("an example")
+}
+
+/// A fresh name for an output.
+fn out_name(name: &str) -> String {
+    std::env::temp_dir().join(format!("vempaldi-{}-{name}", std::process::id())).display().to_string()
+}
+
+const EXAMPLE: &str = "examples/example.table";
+
+#[test]
+fn plan_prints_the_papers_listing() {
+    let told = run(&["plan", EXAMPLE, "-p", "2"]);
+    let listing = "loop 0 0 0\nloop 1 1 1\nblock 0 1 5\nblock 1 6 10\nfused 0 0 1 5\nfused 0 1 1 4\n\
+                   fused 1 0 6 10\nfused 1 1 7 10\npeeled 0 1 5 6\nsweeps 6 5\n";
+    assert_eq!((told.status, told.out.as_str(), told.err.as_str()), (0, listing, ""));
+}
+
+#[test]
+fn a_table_may_come_from_the_standard_input() {
+    let told = fed(&["check", "-"], &bytes(EXAMPLE));
+    assert_eq!((told.status, told.out.as_str()), (0, "-: accepted\n"));
+}
+
+#[test]
+fn six_processors_are_refused_in_words() {
+    let told = run(&["plan", EXAMPLE, "-p", "6"]);
+    assert_eq!((told.status, told.out.as_str()), (1, ""));
+    assert!(told.err.contains("refused 11 short"), "{}", told.err);
+    assert!(told.err.contains("5 processors at most"), "{}", told.err);
+    assert_eq!(run(&["plan", EXAMPLE, "-p", "5"]).status, 0);
+    assert!(run(&["plan", EXAMPLE, "-p", "65"]).err.contains("refused 10 processors"));
+}
+
+#[test]
+fn a_refusal_names_file_record_and_byte() {
+    let table = bytes(EXAMPLE);
+    let told = fed(&["check", "-"], &table[..60]);
+    assert_eq!(told.status, 1);
+    assert!(told.out.starts_with("-: refused 1 torn at record 11 (absent), byte 60"), "{}", told.out);
+    // The read A0[i-1] made into A9[i-1]: records are 3 arrays, a loop, 3 items, a loop, then this one.
+    let mut no_array = table.clone();
+    no_array[51] = 9;
+    let told = fed(&["check", "-"], &no_array);
+    assert!(told.out.starts_with("-: refused 5 array at record 8 (read), byte 50"), "{}", told.out);
+    let told = fed(&["check", "-"], &[&table[..], &[0]].concat());
+    assert!(told.out.starts_with("-: refused 8 tail at byte 61"), "{}", told.out);
+}
+
+#[test]
+fn meeting_iterations_are_named_by_loop_and_read() {
+    // 1 to 10, A0 of 21 elements, A0[i] = A0[i+9].
+    let text = b"array A 21\nloop 1 10 -> A[i]: A[i+9]\n";
+    let told = fed(&["make", "-"], text);
+    assert_eq!(told.status, 1);
+    let said = "-:2: refused 9 serial at loop 0 (record 1, byte 5), its read 0 (record 2, byte 17)";
+    assert!(told.err.starts_with(said), "{}", told.err);
+    assert_eq!(fed(&["make", "-"], b"array A 21\nloop 1 10 -> A[i]: A[i+10]\n").status, 0);
+}
+
+#[test]
+fn make_gives_the_examples_bytes_and_names_wrong_lines() {
+    for name in ["example", "jacobi", "ll18", "river"] {
+        let out = out_name(name);
+        assert_eq!(run(&["make", &format!("examples/{name}.txt"), "-o", &out]).status, 0);
+        assert_eq!(std::fs::read(&out).expect("written"), bytes(&format!("examples/{name}.table")));
+        std::fs::remove_file(&out).expect("removed");
+    }
+    let told = fed(&["make", "-"], b"array A 12\n\nloop 1 10 -> A[i]: B[i]\n");
+    assert_eq!((told.status, told.err.as_str()), (1, "-:3: no array B\n"));
+    let told = fed(&["make", "-"], b"array A 12\nloop 1 10 -> A[i]:\n  1\n  +\n");
+    assert!(told.err.starts_with("-:4: refused 6 body"), "{}", told.err);
+}
+
+#[test]
+fn kernels_have_the_shifts_and_peels_of_the_thesis() {
+    // Its loop nests have two statements each, here a loop each: 0/0, 1/0, 2/1; afterwards 9 arrays read and 6 written.
+    let out = run(&["plan", "examples/ll18.table", "-p", "4"]).out;
+    let loops = "loop 0 0 0\nloop 1 0 0\nloop 2 1 0\nloop 3 1 0\nloop 4 2 1\nloop 5 2 1\n";
+    assert!(out.starts_with(loops) && out.ends_with(" 15\n"), "{out}");
+    // 1/1; 4 read and 2 written before, 2 and 2 after.
+    let out = run(&["plan", "examples/jacobi.table", "-p", "4"]).out;
+    assert!(out.starts_with("loop 0 0 0\nloop 1 1 1\n") && out.ends_with("sweeps 6 4\n"), "{out}");
+}
+
+#[test]
+fn run_agrees_with_the_plain_run_in_every_order() {
+    let all = [EXAMPLE, "examples/jacobi.table", "examples/ll18.table", "examples/river.table"];
+    for order in ["turns", "falling", "none", "random:1", "3,3,3,3,0,255", "@examples/river.txt"] {
+        for memory in ["index", "zero", "random:5"] {
+            let words = [&["run", "-p", "4", "--order", order, "--memory", memory], &all[..]].concat();
+            let told = run(&words);
+            assert_eq!(told.status, 0, "{}", told.out);
+            assert_eq!(told.out.matches("bit for bit").count(), 4);
+            assert_eq!(told.err, "4 files: 4 agree, 0 refused or different\n");
+        }
+    }
+}
+
+#[test]
+fn run_leaves_the_papers_values_and_counts_idle_bytes() {
+    let words = ["run", EXAMPLE, "-p", "2", "--values", "--order", "1,1,1,1,1,1,1,1,1,1,1,1"];
+    let told = run(&words);
+    for line in ["A2[1] 3", "A2[5] 12", "A2[10] 21"] {
+        assert!(told.out.lines().any(|found| found == line), "{}", told.out);
+    }
+    // Processor 1 has nine fused iterations and then waits.
+    assert!(told.out.contains("20 iterations on 2 processors, idle 3:"), "{}", told.out);
+}
+
+#[test]
+fn a_memory_of_the_wrong_length_is_refused() {
+    let told = run(&["run", EXAMPLE, "-p", "2", "--memory", "@examples/river.txt"]);
+    assert_eq!(told.status, 1);
+    assert!(told.err.contains("refused 12 memory"), "{}", told.err);
+}
+
+#[test]
+fn join_puts_the_loops_behind_each_other() {
+    let out = out_name("joined");
+    assert_eq!(run(&["join", EXAMPLE, EXAMPLE, "-o", &out]).status, 0);
+    let table = bytes(EXAMPLE);
+    assert_eq!(std::fs::read(&out).expect("written"), [&table[..60], &table[15..]].concat());
+    std::fs::remove_file(&out).expect("removed");
+    let told = run(&["join", EXAMPLE, "examples/river.table"]);
+    assert_eq!(told.status, 1);
+    assert!(told.err.contains("refused 14 unlike"), "{}", told.err);
+    let told = run(&["join", EXAMPLE, "README.md"]);
+    assert!(told.err.starts_with("README.md: refused"), "{}", told.err);
+}
+
+#[test]
+fn several_files_are_counted_and_the_worst_decides() {
+    let told = run(&["check", EXAMPLE, "README.md"]);
+    assert_eq!((told.status, told.err.as_str()), (1, "2 files: 1 accepted, 1 refused\n"));
+    let told = run(&["check", "-q", EXAMPLE, "examples/no-such-file", "README.md"]);
+    assert_eq!(told.status, 2);
+    assert_eq!(told.out.lines().count(), 1);
+    assert!(told.err.contains("examples/no-such-file: ") && told.err.contains("1 not read"), "{}", told.err);
+}
+
+#[test]
+fn a_picture_has_the_parts_and_the_barrier() {
+    let told = run(&["draw", EXAMPLE, "-p", "2"]);
+    assert_eq!(told.status, 0);
+    for said in ["P0: 1-5", "P0: 1-4", "P1: 6-10", "P1: 7-10", "P0: 5-6", "barrier", "shift", "peel"] {
+        assert!(told.out.contains(said), "{said}");
+    }
+    assert!(told.out.starts_with("<svg ") && told.out.ends_with("</svg>\n") && !told.out.contains("<script"));
+    assert_eq!(run(&["draw", EXAMPLE, "-p", "6"]).status, 1);
+}
+
+#[test]
+fn a_picture_has_every_part_of_the_listing_inside_its_frame() {
+    let mut random = Random::new(33);
+    for round in 0..60 {
+        let shape = [SMALL, MIDDLE, LARGE][round % 3];
+        let table = tables::aligned(&mut random, &shape);
+        let count = processors::most(&table).to_string();
+        let bytes = encode(&table);
+        let listing = fed(&["plan", "-", "-p", &count], &bytes).out;
+        let picture = fed(&["draw", "-", "-p", &count], &bytes).out;
+        for word in ["fused", "peeled"] {
+            let lines = listing.lines().filter(|line| line.starts_with(word)).count();
+            // One more stands in the legend.
+            assert_eq!(picture.matches(&format!("class='{word}'")).count(), lines + 1);
+        }
+        assert!(!picture.contains("NaN") && !picture.contains("inf'") && !picture.contains("='-"), "{picture}");
+    }
+}
+
+#[test]
+fn help_names_every_command_and_wrong_words_end_with_2() {
+    let told = run(&["--help"]);
+    assert_eq!(told.status, 0);
+    for command in ["check", "plan", "join", "run", "dump", "make", "draw"] {
+        assert!(told.out.contains(&format!("vempaldi {command} ")), "{command}");
+    }
+    for words in [&[][..], &["plan", EXAMPLE], &["plan", EXAMPLE, "-p", "x"], &["fly"], &["check", "--loud", EXAMPLE]] {
+        assert_eq!(run(words).status, 2, "{words:?}");
+    }
+}

@@ -1,0 +1,49 @@
+//! A table made into text and back is the same bytes, for tables of every shape; the text of a damaged table ends nothing.
+
+use vempaldi_checks::damage;
+use vempaldi_checks::encoder::encode;
+use vempaldi_checks::limits;
+use vempaldi_checks::random::Random;
+use vempaldi_checks::tables::{self, LARGE, MIDDLE, SMALL};
+use vempaldi_command::{dump, make};
+
+fn same(table: &[u8]) {
+    let text = dump(table);
+    match make(&text) {
+        Ok(made) => assert_eq!(made.bytes, table, "{text}"),
+        Err(error) => panic!("line {error}\n{text}"),
+    }
+}
+
+#[test]
+fn accepted_tables_come_back_as_the_same_bytes() {
+    let mut random = Random::new(31);
+    for shape in [SMALL, MIDDLE, LARGE] {
+        for _ in 0..2_000 {
+            same(&encode(&tables::any(&mut random, &shape)));
+            same(&encode(&tables::aligned(&mut random, &shape)));
+        }
+    }
+    for reads in 0..=4 {
+        same(&encode(&tables::full(&mut random, reads, 4)));
+    }
+}
+
+#[test]
+fn the_limits_that_are_accepted_come_back_too() {
+    for case in limits::cases().iter().filter(|case| case.number == 0) {
+        same(&case.bytes);
+    }
+}
+
+#[test]
+fn damaged_tables_have_a_text() {
+    let mut random = Random::new(32);
+    for _ in 0..2_000 {
+        let good = encode(&tables::any(&mut random, &SMALL));
+        dump(&damage::change_byte(&mut random, &good));
+        dump(&damage::remove_byte(&mut random, &good));
+        dump(&damage::random_bytes(&mut random, 80));
+        dump(&good[..random.below(good.len())]);
+    }
+}

@@ -1,0 +1,159 @@
+/* Tables made from an input's bytes: near enough to right that deep code is reached, with every kind of flaw now and then. */
+#include "maker.h"
+
+#include <string.h>
+
+uint64_t mixed(uint64_t number) {
+    number += 0x9e3779b97f4a7c15u;
+    number = (number ^ number >> 30) * 0xbf58476d1ce4e5b9u;
+    number = (number ^ number >> 27) * 0x94d049bb133111ebu;
+    return number ^ number >> 31;
+}
+
+uint32_t take(struct cursor *bytes, int count) {
+    uint32_t value = 0;
+    for (int i = 0; i < count; i++) {
+        uint8_t byte;
+        if (bytes->left) {
+            byte = *bytes->data++;
+            bytes->left--;
+            bytes->drawn = mixed(bytes->drawn ^ byte);
+        } else {
+            byte = (uint8_t)(bytes->drawn = mixed(bytes->drawn));
+        }
+        value |= (uint32_t)byte << 8 * i;
+    }
+    return value;
+}
+
+/* A number from low to high; now and then the byte is a flaw and gives one just outside. */
+static int64_t between(struct cursor *bytes, int64_t low, int64_t high, int flaws) {
+    if (flaws && take(bytes, 1) == 255) return take(bytes, 1) % 2 ? low - 1 : high + 1;
+    return high <= low ? low : low + (int64_t)(take(bytes, 2) % (uint32_t)(high - low + 1));
+}
+
+struct making {
+    struct cursor *bytes;
+    uint8_t *out;
+    size_t length;
+    int flaws, arrays;
+    int64_t lengths[17];
+};
+
+static void put(struct making *made, uint32_t value, int count) {
+    for (int i = 0; i < count && made->length < MOST_MADE - 64; i++) made->out[made->length++] = (uint8_t)(value >> 8 * i);
+}
+
+static void make_arrays(struct making *made) {
+    struct cursor *bytes = made->bytes;
+    uint32_t shape = take(bytes, 1);
+    made->arrays = (int)between(bytes, 1, shape % 8 ? 4 : 16, made->flaws);
+    if (made->arrays < 0) made->arrays = 0;
+    int64_t longest = shape >= 240 ? 65536 : shape >= 200 ? 600 : 40;
+    /* One length for all makes plans for several processors likely. */
+    int64_t common = between(bytes, 1, longest, 0);
+    for (int q = 0; q < made->arrays; q++) {
+        made->lengths[q] = shape % 2 ? common : between(bytes, 1, longest, made->flaws);
+        put(made, 1, 1);
+        put(made, (uint32_t)made->lengths[q], 4);
+    }
+}
+
+/* An array and an offset that keep the indices inside it; where none does, offset 0. */
+static void reference(struct making *made, int64_t first, int64_t last, int near) {
+    int64_t q = between(made->bytes, 0, made->arrays - 1, made->flaws);
+    int64_t length = q >= 0 && q < made->arrays ? made->lengths[q] : 1;
+    int64_t low = -first < -near ? -near : -first, high = length - 1 - last > near ? near : length - 1 - last;
+    put(made, (uint32_t)q, 1);
+    put(made, (uint32_t)(low <= high ? between(made->bytes, low, high, made->flaws) : 0), 2);
+}
+
+static void make_item(struct making *made, int64_t first, int64_t last, int near, int *waiting, int left) {
+    struct cursor *bytes = made->bytes;
+    int push = *waiting < 8 && *waiting <= left && (*waiting < 2 || take(bytes, 1) % 2);
+    if (made->flaws && take(bytes, 1) == 254) push = !push;
+    if (!push) {
+        int negate = *waiting == 1 || (*waiting - 1 <= left && take(bytes, 1) % 6 == 0);
+        put(made, 5, 1);
+        put(made, negate ? 5 : (uint32_t)between(bytes, 1, 4, made->flaws), 1);
+        *waiting -= !negate;
+    } else if (take(bytes, 1) % 3) {
+        put(made, 3, 1);
+        reference(made, first, last, near);
+        ++*waiting;
+    } else {
+        put(made, 4, 1);
+        put(made, take(bytes, 4), 4);
+        ++*waiting;
+    }
+}
+
+static void make_loop(struct making *made, int near) {
+    struct cursor *bytes = made->bytes;
+    int64_t q = made->arrays ? (int64_t)(take(bytes, 1) % (uint32_t)made->arrays) : 0, length = made->arrays ? made->lengths[q] : 1;
+    int64_t margin = near < length / 3 ? near : length / 3, first = margin, last = length - 1 - margin;
+    if (take(bytes, 1) % 4 == 0) first = between(bytes, first, last, made->flaws);
+    if (take(bytes, 1) % 4 == 0) last = between(bytes, first, last, made->flaws);
+    put(made, 2, 1);
+    put(made, (uint32_t)first, 4);
+    put(made, (uint32_t)last, 4);
+    put(made, (uint32_t)q, 1);
+    put(made, (uint32_t)between(bytes, -margin, margin, made->flaws), 2);
+    int items = (int)between(bytes, 1, take(bytes, 1) % 8 ? 7 : 32, made->flaws), waiting = 0;
+    for (int i = 0; i < items; i++) make_item(made, first, last, near, &waiting, items - i - 1);
+}
+
+size_t make_table(struct cursor *bytes, uint8_t *out) {
+    struct making made = {bytes, out, 0, take(bytes, 1) % 4 == 0, 0, {0}};
+    make_arrays(&made);
+    int near = take(bytes, 1) % 8 ? (int)(take(bytes, 1) % 4) : 255;
+    int loops = (int)between(bytes, 1, take(bytes, 1) % 8 ? 4 : 16, made.flaws);
+    for (int k = 0; k < loops; k++) make_loop(&made, near);
+    put(&made, 6, 1);
+    return made.length;
+}
+
+static size_t damaged(struct cursor *bytes, uint8_t *out, size_t length) {
+    size_t at = length ? take(bytes, 2) % length : 0;
+    switch (take(bytes, 1) % 4) {
+    case 0: return at;
+    case 1:
+        if (length) out[at] = (uint8_t)(take(bytes, 1) % 2 ? take(bytes, 1) % 8 : take(bytes, 1));
+        return length;
+    case 2:
+        memmove(out + at + 1, out + at, length - at);
+        out[at] = (uint8_t)(take(bytes, 1) % 8);
+        return length + 1;
+    default:
+        out[length] = (uint8_t)take(bytes, 1);
+        return length + 1;
+    }
+}
+
+size_t any_table(struct cursor *bytes, uint8_t *out) {
+    uint32_t way = take(bytes, 1);
+    if (way % 8 == 0) {
+        size_t length = bytes->left < MOST_MADE ? bytes->left : MOST_MADE;
+        for (size_t i = 0; i < length; i++) out[i] = (uint8_t)take(bytes, 1);
+        return length;
+    }
+    size_t length = make_table(bytes, out);
+    return way % 8 == 1 ? damaged(bytes, out, length) : length;
+}
+
+static uint64_t number(const uint8_t *at) {
+    return at[0] | (uint64_t)at[1] << 8 | (uint64_t)at[2] << 16 | (uint64_t)at[3] << 24;
+}
+
+struct sizes sizes_of(const uint8_t *table, size_t length) {
+    static const size_t bodies[] = {0, 4, 11, 3, 4, 1, 0};
+    struct sizes sizes = {0, 0, 0};
+    for (size_t at = 0; at < length; at += 1 + bodies[table[at]]) {
+        if (table[at] == 1) sizes.elements += number(table + at + 1);
+        if (table[at] == 2) {
+            sizes.loops++;
+            sizes.iterations += number(table + at + 5) - number(table + at + 1) + 1;
+        }
+    }
+    return sizes;
+}

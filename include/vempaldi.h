@@ -1,0 +1,158 @@
+/* Vempaldi: plans for a run of parallel loops made into one (shift-and-peel).
+ *
+ * Every function takes a loop table as its bytes. None needs set-up, none keeps anything between calls, none allocates, and every
+ * call ends. Whatever the bytes and numbers are, a call either does its work or is refused with one number.
+ *
+ * What holds of every function:
+ * - `answer` is written by every call, all three numbers. See the table of grounds below.
+ * - A refused call leaves everything else that it was lent as found: output, memory, counts and report.
+ * - An accepted call leaves the bytes of `out` past those that it wrote as found. Tables and orders are only read.
+ * - The result of a function with an output is the count of bytes written, 0 where it is refused.
+ * - Numbers in an output are unsigned, four bytes each, little-endian.
+ * - What is lent to one call must not overlap: the answer, the output, the memory, the counts, the report and the inputs are separate.
+ * - A pointer may be anything where its length is 0.
+ * - Calls in different threads need no lock if they share nothing that either of them writes.
+ */
+#ifndef VEMPALDI_H
+#define VEMPALDI_H
+
+#include <stddef.h>
+#include <stdint.h>
+
+#ifdef __cplusplus
+extern "C" {
+#endif
+
+/* The grounds of refusal, answer[0]. An accepted call answers 0, 0, 0.
+ *
+ *  number  word        ground                                                                        place, answer[1]
+ *    1     torn        the bytes end inside a record or before the end record                        byte
+ *    2     kind        a kind is unknown or out of its order, or no array or loop before the end     byte
+ *    3     field       a field is outside its range, or first is above last                          byte
+ *    4     crowd       one array, loop, item or element too many                                     byte; 0 in joining
+ *    5     array       there is no array of that number                                              byte
+ *    6     body        too few waiting numbers, a ninth, or not one left                             byte
+ *    7     edge        some iteration reaches outside the array                                      byte
+ *    8     tail        bytes follow the end record                                                   byte
+ *    9     serial      two different iterations of one loop meet at an element, one storing          loop
+ *   10     processors  P is outside 1 to 64, or a processor's number is not below P                  0
+ *   11     short       fewer indices than processors, or P >= 2 and some block below the threshold   0
+ *   12     memory      the memory's length is not the table's element total                          0
+ *   13     buffer      the output does not fit the lent bytes                                        0
+ *   14     unlike      the joined tables differ in arrays                                            0
+ *   15     state       a count above its lists, a peeled step before the barrier, or a count above 0
+ *                      for a processor not below P                                                   0
+ *
+ * 'byte' is the place of the record's kind byte, counted from 0 (the table's length if that byte is absent); for 8 it is the first
+ * byte too many. answer[2] is 0 but for 9: there it is a read of that loop, numbered from 0 among the loop's reads in byte order,
+ * that meets the destination in another iteration. Where several grounds hold, the first byte decides, then the order
+ * 8, 9, 10, 11, 12, 15, 13; in joining 8, 9 (left's before right's), 14, 4, 13. */
+enum vempaldi_ground {
+    VEMPALDI_ACCEPTED = 0,
+    VEMPALDI_TORN = 1,
+    VEMPALDI_KIND = 2,
+    VEMPALDI_FIELD = 3,
+    VEMPALDI_CROWD = 4,
+    VEMPALDI_ARRAY = 5,
+    VEMPALDI_BODY = 6,
+    VEMPALDI_EDGE = 7,
+    VEMPALDI_TAIL = 8,
+    VEMPALDI_SERIAL = 9,
+    VEMPALDI_PROCESSORS = 10,
+    VEMPALDI_SHORT = 11,
+    VEMPALDI_MEMORY = 12,
+    VEMPALDI_BUFFER = 13,
+    VEMPALDI_UNLIKE = 14,
+    VEMPALDI_STATE = 15
+};
+
+/* Sizes that always suffice. */
+enum vempaldi_size {
+    VEMPALDI_MOST_PROCESSORS = 64,
+    VEMPALDI_TABLE_BYTES = 2065,    /* the longest accepted table, so also of a joined one */
+    VEMPALDI_AMOUNT_BYTES = 128,    /* shifts and peels of 16 loops */
+    VEMPALDI_BLOCK_BYTES = 512,     /* first and last index of 64 blocks */
+    VEMPALDI_LISTING_BYTES = 48400  /* the longest listing */
+};
+
+/* The first number of a step's report. */
+enum vempaldi_report {
+    VEMPALDI_ITERATION = 0, /* an iteration was performed: report[1] is its loop, report[2] its index */
+    VEMPALDI_WAITING = 1,   /* the processor's fused list is used up, another's is not */
+    VEMPALDI_FINISHED = 2   /* both lists are used up and the barrier is open */
+};
+
+/* Whether a table is accepted.
+ * Writes the answer alone. Refuses with 1 to 9. */
+void vempaldi_check(const uint8_t *table, size_t table_length, uint64_t answer[3]);
+
+/* Joins two tables over the same arrays.
+ * Writes left's arrays, left's loops, right's loops and one end record.
+ * Refuses with 1 to 9 of the left table, 1 to 9 of the right one, 14, 4 (more than 16 loops in all, place 0), 13. A place counts in
+ * the table that meets the ground; the answer does not say which of the two that is (ask vempaldi_check). */
+uint64_t vempaldi_join(const uint8_t *left, size_t left_length, const uint8_t *right, size_t right_length,
+                       uint8_t *out, size_t out_length, uint64_t answer[3]);
+
+/* Shift and peel of each loop.
+ * Writes for each loop, in table order, its shift and its peel: 8 bytes a loop. Refuses with 1 to 9, 13. */
+uint64_t vempaldi_shifts_and_peels(const uint8_t *table, size_t table_length,
+                                   uint8_t *out, size_t out_length, uint64_t answer[3]);
+
+/* The largest sum of shift and peel of one loop: with two processors or more, no block may have fewer indices.
+ * Writes one number, 4 bytes. Refuses with 1 to 9, 13. */
+uint64_t vempaldi_threshold(const uint8_t *table, size_t table_length, uint8_t *out, size_t out_length, uint64_t answer[3]);
+
+/* Sweeps over the arrays: loop by loop, and with all loops made into one.
+ * Writes two numbers, before and after fusion, 8 bytes. Refuses with 1 to 9, 13. */
+uint64_t vempaldi_sweeps(const uint8_t *table, size_t table_length, uint8_t *out, size_t out_length, uint64_t answer[3]);
+
+/* The blocks of a plan for `processors` processors.
+ * Writes for each block its first and its last index: 8 bytes a block. Refuses with 1 to 9, 10, 11, 13. */
+uint64_t vempaldi_blocks(const uint8_t *table, size_t table_length, uint32_t processors,
+                         uint8_t *out, size_t out_length, uint64_t answer[3]);
+
+/* What one processor runs before the barrier, in its order.
+ * Writes for each iteration its loop and its index: 8 bytes an iteration. A list has at most (count of loops) times (indices of the
+ * processor's block) iterations. Refuses with 1 to 9, 10 (of `processors`, then of `processor`), 11, 13. */
+uint64_t vempaldi_fused_list(const uint8_t *table, size_t table_length, uint32_t processors, uint32_t processor,
+                             uint8_t *out, size_t out_length, uint64_t answer[3]);
+
+/* What one processor runs past the barrier, in its order.
+ * Writes for each iteration its loop and its index: 8 bytes an iteration. A list has at most (count of loops) times (threshold)
+ * iterations, and the last processor's has none. Refuses with 1 to 9, 10 (of `processors`, then of `processor`), 11, 13. */
+uint64_t vempaldi_peeled_list(const uint8_t *table, size_t table_length, uint32_t processors, uint32_t processor,
+                              uint8_t *out, size_t out_length, uint64_t answer[3]);
+
+/* The plan as text: lines `loop` k shift peel, `block` b first last, `fused` b k from to, `peeled` b k from to, `sweeps` before after;
+ * or the one line `refused` number place (for 9 the loop).
+ * Writes the text, each line with its line feed and no zero byte behind. Refuses with 13 alone: 1 to 11 are the text's to say, and
+ * the answer is 0, 0, 0 then. */
+uint64_t vempaldi_listing(const uint8_t *table, size_t table_length, uint32_t processors,
+                          uint8_t *out, size_t out_length, uint64_t answer[3]);
+
+/* The loops in table order, each from first to last, with no plan.
+ * Writes the memory: binary64 numbers, the arrays in order without gaps; `memory_length` counts numbers. A result that is not a
+ * number is stored as 7FF8000000000000. Refuses with 1 to 9, 12. */
+void vempaldi_plain_run(const uint8_t *table, size_t table_length, double *memory, size_t memory_length, uint64_t answer[3]);
+
+/* One step of one processor. The first step of a row gets 64 counts of 0; each later one the counts and the memory as the step before
+ * left them. Once every iteration has been reported, in whatever order the processors were named, the memory is bit for bit what
+ * vempaldi_plain_run leaves from the same start.
+ * An iteration writes the memory (one element), this processor's count (one more) and the report. Waiting and finished write the
+ * report alone: its kind, 0, 0. Refuses with 1 to 9, 10 (of `processors`, then of `processor`), 11, 12, 15.
+ * Two threads must not step the same memory at the same time. */
+void vempaldi_step(const uint8_t *table, size_t table_length, uint32_t processors, uint32_t processor,
+                   uint32_t counts[64], double *memory, size_t memory_length, uint32_t report[3], uint64_t answer[3]);
+
+/* A whole run: one step for each byte of `order`, which names a processor; then the lowest-numbered processor that can step does,
+ * until all are finished.
+ * Writes the memory. The result is the idle count: how many bytes named a processor that waited or was finished, or a number not
+ * below `processors`; 0 where refused. Refuses with 1 to 9, 10, 11, 12. */
+uint64_t vempaldi_run(const uint8_t *table, size_t table_length, uint32_t processors, const uint8_t *order, size_t order_length,
+                      double *memory, size_t memory_length, uint64_t answer[3]);
+
+#ifdef __cplusplus
+}
+#endif
+
+#endif

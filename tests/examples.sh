@@ -1,0 +1,64 @@
+#!/usr/bin/env bash
+# tests/examples.sh c|rust|fortran: compiles that example against the library of build/ and runs it on the paper's example for two
+# processors. What it must print is typed from the paper.
+set -eu
+cd "$(dirname "$0")/.."
+library=${VEMPALDI_LIB:-build}
+export CARGO_TARGET_DIR="$PWD/build/cargo"
+made=build/examples
+mkdir -p "$made"
+
+listing='loop 0 0 0
+loop 1 1 1
+block 0 1 5
+block 1 6 10
+fused 0 0 1 5
+fused 0 1 1 4
+fused 1 0 6 10
+fused 1 1 7 10
+peeled 0 1 5 6
+sweeps 6 5'
+
+run_c() {
+    gcc -std=c11 -Wall -Wextra -Werror -pedantic examples/c/example.c $(pkg-config --cflags --libs "$library/vempaldi.pc") -o "$made/c"
+    "$made/c" examples/example.table 2 12 12 12
+}
+c_says="$listing
+threshold 2
+20 steps, same bits as the plain run
+last array: 0 3 6 8 10 12 14 16 18 20 21 11"
+
+run_rust() {
+    cargo run --quiet --release --offline --manifest-path bindings/rust/Cargo.toml --example example -- examples/example.table 2
+}
+rust_says='loop 0: shift 0, peel 0
+loop 1: shift 1, peel 1
+processor 0: indices 1 to 5, 9 fused and 2 peeled iterations
+processor 1: indices 6 to 10, 9 fused and 0 peeled iterations
+20 steps, same bits as the plain run: true
+A2[1] = 3, A2[5] = 12, A2[10] = 21'
+
+run_fortran() {
+    gfortran -std=f2018 -Wall -Wextra -Werror -fcheck=all -J"$made" bindings/fortran/vempaldi.f90 examples/fortran/example.f90 \
+        -L"$library" -lvempaldi -o "$made/fortran"
+    "$made/fortran" examples/example.table
+}
+fortran_says="$listing
+processor 0: 9 fused and 2 peeled iterations
+processor 1: 9 fused and 0 peeled iterations
+idle 3
+A2(1) = 3, A2(5) = 12, A2(10) = 21
+same bits as the plain run"
+
+case ${1:-} in
+c | rust | fortran) ;;
+*) echo "usage: tests/examples.sh c|rust|fortran" >&2; exit 2 ;;
+esac
+says=${1}_says
+told=$("run_$1")
+if [ "$told" != "${!says}" ]; then
+    echo "the $1 example says:"
+    diff <(printf '%s\n' "${!says}") <(printf '%s\n' "$told") || true
+    exit 1
+fi
+echo "the $1 example says what the paper says"
