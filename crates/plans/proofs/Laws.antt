@@ -46,14 +46,11 @@ module _ (s : List ℕ) (c : Columns) (o : Outline) (a : Amounts) (outlined : Ou
     peels-are = λ z. f ∙ ap peels (sym (table-refs c (o .arrays) (o .loops)));
   }
 
--- the tests after the reading
+-- a table that was refused
 module _ (s : List ℕ) (wrong : Bool) (P : ℕ) (c : Columns) (m : Measured) (h : Measures s m c) where
-  open Measures h using (outlined, shifts-are, peels-are)
+  open Measures h using (outlined)
 
-  abbrev pub o : Outline
-  o = m .outline
-
-  pub plans-refused : (o .number ≡ 0 → ⊥) → Plans s (fitting wrong P (table s)) (refusing (o .number) (o .place) (o .read) (m .amounts)) c
+  pub plans-refused : (m .outline .number ≡ 0 → ⊥) → Plans s (fitting wrong P (table s)) (refusing (m .outline .number) (m .outline .place) (m .outline .read) (m .amounts)) c
   plans-refused n = record {
     tells = record {
       number-is = outlined .told .number-is ∙ same .0;
@@ -67,19 +64,36 @@ module _ (s : List ℕ) (wrong : Bool) (P : ℕ) (c : Columns) (m : Measured) (h
       same : (numberOf (table s) ≡ numberOf (fitting wrong P (table s))) × (placeOf (table s) ≡ placeOf (fitting wrong P (table s)))
       same = refused-stays wrong P (table s) (λ z. n (outlined .told .number-is ∙ z))
 
-  module _ (zero-number : o .number ≡ 0) where
-    abbrev pub t : Table
-    t = tableAt c (o .arrays) (o .loops)
+-- a table that was read through 9
+module _ (s : List ℕ) (c : Columns) (m : Measured) (h : Measures s m c) (zero-number : m .outline .number ≡ 0) where
+  open Measures h using (outlined, shifts-are, peels-are)
 
-    pub read : table s ≡ accepted t
-    read = outlined .held zero-number .0
+  abbrev pub o : Outline
+  o = m .outline
 
-    pub sized : Sized c
-    sized = outlined .held zero-number .1
+  abbrev pub t : Table
+  t = tableAt c (o .arrays) (o .loops)
 
-    pub kept : Kept c (o .arrays) (o .loops) (o .rows)
-    kept = outlined .held zero-number .2
+  pub read : table s ≡ accepted t
+  read = outlined .held zero-number .0
 
+  pub sized : Sized c
+  sized = outlined .held zero-number .1
+
+  pub kept : Kept c (o .arrays) (o .loops) (o .rows)
+  kept = outlined .held zero-number .2
+
+  pub ready : Valid t
+  ready = valid s t read
+
+  pub threshold-is : threshold (m .amounts .shifts) (m .amounts .peels) ≡ thresholdOf t
+  threshold-is = rw (shifts-are zero-number, peels-are zero-number)
+
+  pub threshold-fits : (u : ℕ) → u ≡ threshold (m .amounts .shifts) (m .amounts .peels) → u ≤ 15300
+  threshold-fits u e = omega (arith, e, threshold-is, threshold-small t ready)
+
+  -- the tests after the reading
+  module _ (wrong : Bool) (P : ℕ) where
     found : fitting wrong P (table s) ≡ choose wrong (refused 10 0) (choose (isShort (tableSpan t .count) P (thresholdOf t)) (refused 11 0) (accepted t))
     unfolding fitting
     found = ap (fitting wrong P) read
@@ -87,15 +101,6 @@ module _ (s : List ℕ) (wrong : Bool) (P : ℕ) (c : Columns) (m : Measured) (h
     chosen : {b : Bool} → wrong ≡ false → isShort (tableSpan t .count) P (thresholdOf t) ≡ b
         → choose wrong (refused 10 0) (choose (isShort (tableSpan t .count) P (thresholdOf t)) (refused 11 0) (accepted t)) ≡ choose b (refused 11 0) (accepted t)
     chosen e f = rw (e, f)
-
-    pub ready : Valid t
-    ready = valid s t read
-
-    pub threshold-is : threshold (m .amounts .shifts) (m .amounts .peels) ≡ thresholdOf t
-    threshold-is = rw (shifts-are zero-number, peels-are zero-number)
-
-    pub threshold-fits : (u : ℕ) → u ≡ threshold (m .amounts .shifts) (m .amounts .peels) → u ≤ 15300
-    threshold-fits u e = omega (arith, e, threshold-is, threshold-small t ready)
 
     -- the span's code found the table's span, and ground 11 was asked of it
     pub asked : (x : Span) (u : ℕ) (b : Bool) → x ≡ spanOf (length (take (o .loops) (c .firsts))) (column (take (o .loops) (c .firsts))) (column (take (o .loops) (c .lasts)))

@@ -6,19 +6,13 @@ use mathlib.Core.Bool.{Bool, cond, _&&_, _||_}
 use mathlib.Core.List.{List}
 use lib.Dec.{ltb, leb}
 use lib.ListN.{length}
-use lib.Ieee.{Float}
 use borrow.Author.Tests.{lt-ltb, le-ltb, lt-leb, le-leb}
 use native.Mathlib.Decide.{decLt}
 use Rattle.model.specs.Table.{Table}
 use Rattle.blocks.specs.Sums.{column, some}
 use Rattle.ranges.specs.declared.Lengths.{Lengths}
-use Rattle.stepping.specs.declared.Report.{Report}
-use Rattle.stepping.specs.Step.{After, fused, peeled, closed, wrongCount, wrongState}
+use Rattle.stepping.specs.Step.{fused, peeled, closed, wrongCount, wrongState}
 use Rattle.steps.specs.Ready.{Measured}
-
--- what a call leaves
-abbrev pub after : List ℕ → List Float → Report → After
-after counts m report = record { counts = counts; memory = m; report = report }
 
 -- the barrier is closed, where processor b's fused list has `column fused b` iterations
 abbrev pub closedBy : ℕ → List ℕ → List ℕ → Bool

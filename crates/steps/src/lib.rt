@@ -14,7 +14,7 @@ ghost use Rattle.iterations.specs.Memory.{total, remembered};
 ghost use Rattle.iterations.specs.Loaded.{Loaded};
 ghost use Rattle.stepping.specs.Step.{performs, turn, stepped};
 ghost use Rattle.steps.specs.Ready.{Small, Ready, Planned};
-ghost use Rattle.steps.specs.Code.{closedBy, wrongBy, wrongIn, after};
+ghost use Rattle.steps.specs.Code.{closedBy, wrongBy, wrongIn};
 ghost use Rattle.steps.specs.Steps.{refusing, Steps};
 
 // How many iterations each processor has done.
@@ -114,7 +114,7 @@ impl Counts {
     ) -> Turned
         requires { ⌜ (b < 64) × (column (self .done) b < 2 ^ 31) ⌝ }
         requires { ⌜ ((t : Table) × Loaded t (now starts) (now kinds) (now arrays) (now values) (now bases) × Inside t x × (length (now memory) ≡ total t)) ⌝ }
-        ensures { λ r. ⌜ ((t : Table) (P : ℕ) → Loaded t (now (starts .entry)) (now (kinds .entry)) (now (arrays .entry)) (now (values .entry)) (now (bases .entry)) → Inside t x → after (r .counts .done) (now (memory .exit)) (r .report) ≡ performs t P b (self .done) (now (memory .entry)) x) ⌝ }
+        ensures { λ r. ⌜ ((t : Table) (P : ℕ) → Loaded t (now (starts .entry)) (now (kinds .entry)) (now (arrays .entry)) (now (values .entry)) (now (bases .entry)) → Inside t x → record { counts = r .counts .done; memory = now (memory .exit); report = r .report } ≡ performs t P b (self .done) (now (memory .entry)) x) ⌝ }
     {
         iterations::iterate(
             starts,
@@ -154,7 +154,7 @@ impl Counts {
     ) -> Turned
         requires { ⌜ b < processors ⌝ }
         requires { ⌜ ((t : Table) × Ready t processors p l (now firsts) (now lasts) (now starts) (now kinds) (now arrays) (now values) (now bases) × (length (now memory) ≡ total t)) ⌝ }
-        ensures { λ r. ⌜ ((t : Table) → Ready t processors p l (now (firsts .entry)) (now (lasts .entry)) (now (starts .entry)) (now (kinds .entry)) (now (arrays .entry)) (now (values .entry)) (now (bases .entry)) → after (r .counts .done) (now (memory .exit)) (r .report) ≡ turn t processors b (self .done) (now (memory .entry))) ⌝ }
+        ensures { λ r. ⌜ ((t : Table) → Ready t processors p l (now (firsts .entry)) (now (lasts .entry)) (now (starts .entry)) (now (kinds .entry)) (now (arrays .entry)) (now (values .entry)) (now (bases .entry)) → record { counts = r .counts .done; memory = now (memory .exit); report = r .report } ≡ turn t processors b (self .done) (now (memory .entry))) ⌝ }
     {
         let at = b as usize;
         let done = self.done;
@@ -211,7 +211,7 @@ impl Counts {
     ) -> Stepped
         requires { ⌜ (b < processors) × Planned processors p (columns (now lens) (now firsts) (now lasts) (now starts) (now kinds) (now arrays) (now values)) ⌝ }
         ensures { λ r. ⌜ r .read ≡ 0 ⌝ }
-        ensures { λ r. ⌜ after (r .counts .done) (now (memory .exit)) (r .report) ≡ stepped processors b (self .done) (now (memory .entry)) (remembered (length (now (memory .entry))) (accepted (tableAt (columns (now (lens .entry)) (now (firsts .entry)) (now (lasts .entry)) (now (starts .entry)) (now (kinds .entry)) (now (arrays .entry)) (now (values .entry))) (p .arrays) (p .loops)))) ⌝ }
+        ensures { λ r. ⌜ record { counts = r .counts .done; memory = now (memory .exit); report = r .report } ≡ stepped processors b (self .done) (now (memory .entry)) (remembered (length (now (memory .entry))) (accepted (tableAt (columns (now (lens .entry)) (now (firsts .entry)) (now (lasts .entry)) (now (starts .entry)) (now (kinds .entry)) (now (arrays .entry)) (now (values .entry))) (p .arrays) (p .loops)))) ⌝ }
     {
         let a = p.arrays;
         let bases = iterations::bases_of(lens, a);

@@ -9,6 +9,7 @@ ghost use Rattle.printing.specs.Printing.{text};
 use stepping::Report;
 use steps::Counts;
 ghost use Rattle.plain.specs.Plain.{plainAnswer, plainMemory};
+ghost use Rattle.stepping.specs.Row.{runAnswer, runMemory, runIdle};
 ghost use Rattle.vempaldi.specs.Answers.{AnswerTold, written, reported, refusal, Small, StepTold, answered, JoinTold, EntryTold, ListingTold};
 
 fn write_answer(answer: &mut [u64; 3], number: usize, place: usize, read: usize)
@@ -212,4 +213,22 @@ pub extern "C" fn vempaldi_step(
     let told = r.report;
     tell_report(report, told);
     tell_answer(answer, told, r.read);
+}
+
+// A run in a caller's order, whose bytes name processors; answers how many of its calls were idle. A refused run leaves the memory as found.
+#[no_mangle]
+pub extern "C" fn vempaldi_run(
+    table: &[u8],
+    processors: u32,
+    order: &[u8],
+    memory: &mut [f64],
+    answer: &mut [u64; 3],
+) -> u64
+    ensures { λ r. ⌜ AnswerTold (now (table .entry)) (runAnswer (now (table .entry)) processors (length (now (memory .entry)))) (now (answer .entry)) (now (answer .exit)) ⌝ }
+    ensures { λ r. ⌜ now (memory .exit) ≡ runMemory (now (table .entry)) processors (now (order .entry)) (now (memory .entry)) ⌝ }
+    ensures { λ r. ⌜ r ≡ runIdle (now (table .entry)) processors (now (order .entry)) (now (memory .entry)) ⌝ }
+{
+    let v = running::run(table, processors, order, memory);
+    write_answer(answer, v.number, v.place, v.read);
+    v.idle as u64
 }

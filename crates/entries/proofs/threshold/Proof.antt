@@ -1,4 +1,3 @@
-use mathlib.Core.Bool.{false}
 use Rattle.serial.specs.Serial.{table}
 use native.Mathlib.Omega.{arith}
 use mathlib.Core.Path.{_∙_}
@@ -60,7 +59,7 @@ cast-x c = let z = c .before .before .before .before .before .before .measure .l
     let h = c .before .before .before .before .before .before .measure .ensures in
     let o = m .outline in
     let g = h .outlined in
-    omega (arith, threshold-fits s false 0 d m h (c .before .before .before .if1 .left) (c .threshold-of .result) (c .threshold-of .ensures))
+    omega (arith, threshold-fits s d m h (c .before .before .before .if1 .left) (c .threshold-of .result) (c .threshold-of .ensures))
 
 put-number-requires : tie.Need-put-number-requires
 put-number-requires c κs = search needs
@@ -78,7 +77,7 @@ returns-3 c = let z = c .before .before .before .before .before .before .before 
     let h = c .before .before .before .before .before .before .before .before .before .before .measure .ensures in
     let o = m .outline in
     let g = h .outlined in
-    let e = c .before .before .before .before .threshold-of .ensures ∙ threshold-is s false 0 d m h (c .before .before .before .before .before .before .before .if1 .left) in
+    let e = c .before .before .before .before .threshold-of .ensures ∙ threshold-is s d m h (c .before .before .before .before .before .before .before .if1 .left) in
     entry-written s (table s) (λ t. thresholdOf t ∷ []) out (tableAt d (o .arrays) (o .loops)) (g .held (c .before .before .before .before .before .before .before .if1 .left) .0) (rw (one-size _) (c .before .before .before .before .before .before .if2 .left)) _ _ _ (one-put _ _ out _ _ e (c .before .before .put-number .ensures))
 
 pub threshold-spec : {M : Type 1} → statement M

@@ -36,7 +36,7 @@ returns-2 c = let z = c .before .before .before .before .before .before .measure
     let h = c .before .before .before .before .before .before .measure .ensures in
     let w = c .before .before .before .before .before .before .before .before .before .before .before .before .before .before .before .args .wrong in
     let P = c .before .before .before .before .before .before .before .before .before .before .before .before .before .before .before .args .processors in
-    rw (c .refusal2 .ensures) (plans-ten s w P d m h (c .before .before .if1 .left) (c .before .if2 .taken))
+    rw (c .refusal2 .ensures) (plans-ten s d m h (c .before .before .if1 .left) w P (c .before .if2 .taken))
 
 array-share-prefix-from : tie.Need-array-share-prefix-from
 array-share-prefix-from c = let z = c .before .before .before .before .before .before .before .measure .last in
@@ -46,7 +46,7 @@ array-share-prefix-from c = let z = c .before .before .before .before .before .b
     let h = c .before .before .before .before .before .before .before .measure .ensures in
     let w = c .before .before .before .before .before .before .before .before .before .before .before .before .before .before .before .before .args .wrong in
     let P = c .before .before .before .before .before .before .before .before .before .before .before .before .before .before .before .before .args .processors in
-    omega (arith, (kept s w P d m h (c .before .before .before .if1 .left)) .few-loops, (sized s w P d m h (c .before .before .before .if1 .left)) .firsts)
+    omega (arith, (kept s d m h (c .before .before .before .if1 .left)) .few-loops, (sized s d m h (c .before .before .before .if1 .left)) .firsts)
 
 slice-aggregate-span-of : tie.Need-slice-aggregate-span-of
 slice-aggregate-span-of c = let z = c .before .before .before .before .before .before .before .before .measure .last in
@@ -57,7 +57,7 @@ slice-aggregate-span-of c = let z = c .before .before .before .before .before .b
     let w = c .before .before .before .before .before .before .before .before .before .before .before .before .before .before .before .before .before .args .wrong in
     let P = c .before .before .before .before .before .before .before .before .before .before .before .before .before .before .before .before .before .args .processors in
     let o = m .outline in
-    sym (cut-long d (o .arrays) (o .loops) (o .rows) (sized s w P d m h (c .before .before .before .before .if1 .left)) (kept s w P d m h (c .before .before .before .before .if1 .left)) (d .firsts) ((sized s w P d m h (c .before .before .before .before .if1 .left)) .firsts))
+    sym (cut-long d (o .arrays) (o .loops) (o .rows) (sized s d m h (c .before .before .before .before .if1 .left)) (kept s d m h (c .before .before .before .before .if1 .left)) (d .firsts) ((sized s d m h (c .before .before .before .before .if1 .left)) .firsts))
 
 array-share-prefix-to : tie.Need-array-share-prefix-to
 array-share-prefix-to c = let z = c .before .before .before .before .before .before .before .before .measure .last in
@@ -67,7 +67,7 @@ array-share-prefix-to c = let z = c .before .before .before .before .before .bef
     let h = c .before .before .before .before .before .before .before .before .measure .ensures in
     let w = c .before .before .before .before .before .before .before .before .before .before .before .before .before .before .before .before .before .args .wrong in
     let P = c .before .before .before .before .before .before .before .before .before .before .before .before .before .before .before .before .before .args .processors in
-    omega (arith, (kept s w P d m h (c .before .before .before .before .if1 .left)) .few-loops, (sized s w P d m h (c .before .before .before .before .if1 .left)) .lasts)
+    omega (arith, (kept s d m h (c .before .before .before .before .if1 .left)) .few-loops, (sized s d m h (c .before .before .before .before .if1 .left)) .lasts)
 
 slice-aggregate-span-of-2 : tie.Need-slice-aggregate-span-of-2
 slice-aggregate-span-of-2 c = let z = c .before .before .before .before .before .before .before .before .before .measure .last in
@@ -78,7 +78,7 @@ slice-aggregate-span-of-2 c = let z = c .before .before .before .before .before 
     let w = c .before .before .before .before .before .before .before .before .before .before .before .before .before .before .before .before .before .before .args .wrong in
     let P = c .before .before .before .before .before .before .before .before .before .before .before .before .before .before .before .before .before .before .args .processors in
     let o = m .outline in
-    sym (cut-long d (o .arrays) (o .loops) (o .rows) (sized s w P d m h (c .before .before .before .before .before .if1 .left)) (kept s w P d m h (c .before .before .before .before .before .if1 .left)) (d .lasts) ((sized s w P d m h (c .before .before .before .before .before .if1 .left)) .lasts))
+    sym (cut-long d (o .arrays) (o .loops) (o .rows) (sized s d m h (c .before .before .before .before .before .if1 .left)) (kept s d m h (c .before .before .before .before .before .if1 .left)) (d .lasts) ((sized s d m h (c .before .before .before .before .before .if1 .left)) .lasts))
 
 span-of-requires : tie.Need-span-of-requires
 span-of-requires c κs = let z = c .before .before .before .before .before .before .before .before .before .measure .last in
@@ -89,7 +89,7 @@ span-of-requires c κs = let z = c .before .before .before .before .before .befo
     let w = c .before .before .before .before .before .before .before .before .before .before .before .before .before .before .before .before .before .before .args .wrong in
     let P = c .before .before .before .before .before .before .before .before .before .before .before .before .before .before .before .before .before .before .args .processors in
     let o = m .outline in
-    span-asks d (o .arrays) (o .loops) (o .rows) (sized s w P d m h (c .before .before .before .before .before .if1 .left)) (kept s w P d m h (c .before .before .before .before .before .if1 .left)) (ready s w P d m h (c .before .before .before .before .before .if1 .left))
+    span-asks d (o .arrays) (o .loops) (o .rows) (sized s d m h (c .before .before .before .before .before .if1 .left)) (kept s d m h (c .before .before .before .before .before .if1 .left)) (ready s d m h (c .before .before .before .before .before .if1 .left))
 
 threshold-of-requires : tie.Need-threshold-of-requires
 threshold-of-requires c κs = search needs
@@ -102,7 +102,7 @@ cast-threshold c = let z = c .before .before .before .before .before .before .be
     let h = c .before .before .before .before .before .before .before .before .before .before .before .measure .ensures in
     let w = c .before .before .before .before .before .before .before .before .before .before .before .before .before .before .before .before .before .before .before .before .args .wrong in
     let P = c .before .before .before .before .before .before .before .before .before .before .before .before .before .before .before .before .before .before .before .before .args .processors in
-    omega (arith, threshold-fits s w P d m h (c .before .before .before .before .before .before .before .if1 .left) (c .threshold-of .result) (c .threshold-of .ensures))
+    omega (arith, threshold-fits s d m h (c .before .before .before .before .before .before .before .if1 .left) (c .threshold-of .result) (c .threshold-of .ensures))
 
 short-requires : tie.Need-short-requires
 short-requires c κs = search needs
@@ -118,8 +118,8 @@ returns-3 c = let z = c .before .before .before .before .before .before .before 
     let h = c .before .before .before .before .before .before .before .before .before .before .before .before .before .before .measure .ensures in
     let w = c .before .before .before .before .before .before .before .before .before .before .before .before .before .before .before .before .before .before .before .before .before .before .before .args .wrong in
     let P = c .before .before .before .before .before .before .before .before .before .before .before .before .before .before .before .before .before .before .before .before .before .before .before .args .processors in
-    let (x, q) = asked s w P d m h (c .before .before .before .before .before .before .before .before .before .before .if1 .left) (c .before .before .before .before .span-of .result) (c .before .before .before .threshold-of .result) (c .before .before .short .result) (c .before .before .before .before .span-of .ensures) (c .before .before .before .threshold-of .ensures) (c .before .before .short .ensures) in
-    rw (c .refusal3 .ensures) (plans-eleven s w P d m h (c .before .before .before .before .before .before .before .before .before .before .if1 .left) (c .before .before .before .before .before .before .before .before .before .if2 .left) (q ∙ c .before .if3 .taken))
+    let (x, q) = asked s d m h (c .before .before .before .before .before .before .before .before .before .before .if1 .left) w P (c .before .before .before .before .span-of .result) (c .before .before .before .threshold-of .result) (c .before .before .short .result) (c .before .before .before .before .span-of .ensures) (c .before .before .before .threshold-of .ensures) (c .before .before .short .ensures) in
+    rw (c .refusal3 .ensures) (plans-eleven s d m h (c .before .before .before .before .before .before .before .before .before .before .if1 .left) w P (c .before .before .before .before .before .before .before .before .before .if2 .left) (q ∙ c .before .if3 .taken))
 
 returns-4 : tie.Need-returns-4
 returns-4 c = let z = c .before .before .before .before .before .before .before .before .before .before .before .before .before .measure .last in
@@ -129,8 +129,8 @@ returns-4 c = let z = c .before .before .before .before .before .before .before 
     let h = c .before .before .before .before .before .before .before .before .before .before .before .before .before .measure .ensures in
     let w = c .before .before .before .before .before .before .before .before .before .before .before .before .before .before .before .before .before .before .before .before .before .before .args .wrong in
     let P = c .before .before .before .before .before .before .before .before .before .before .before .before .before .before .before .before .before .before .before .before .before .before .args .processors in
-    let (x, q) = asked s w P d m h (c .before .before .before .before .before .before .before .before .before .if1 .left) (c .before .before .before .span-of .result) (c .before .before .threshold-of .result) (c .before .short .result) (c .before .before .before .span-of .ensures) (c .before .before .threshold-of .ensures) (c .before .short .ensures) in
-    plans-made s w P d m h (c .before .before .before .before .before .before .before .before .before .if1 .left) (c .before .before .before .before .before .before .before .before .if2 .left) (q ∙ c .if3 .left) _ _ (ap (λ (y : Span). y .first) x) (ap (λ (y : Span). y .count) x)
+    let (x, q) = asked s d m h (c .before .before .before .before .before .before .before .before .before .if1 .left) w P (c .before .before .before .span-of .result) (c .before .before .threshold-of .result) (c .before .short .result) (c .before .before .before .span-of .ensures) (c .before .before .threshold-of .ensures) (c .before .short .ensures) in
+    plans-made s d m h (c .before .before .before .before .before .before .before .before .before .if1 .left) w P (c .before .before .before .before .before .before .before .before .if2 .left) (q ∙ c .if3 .left) _ _ (ap (λ (y : Span). y .first) x) (ap (λ (y : Span). y .count) x)
 
 pub plan-unless-spec : {M : Type 1} → statement M
 plan-unless-spec =

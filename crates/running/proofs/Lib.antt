@@ -1,0 +1,2 @@
+-- calls one after the other, and what they leave
+pub mod Laws
