@@ -29,9 +29,9 @@ pub struct Ran {
 }
 
 // The counts after some calls, and how many of those were idle.
-pub struct Called {
-    pub counts: Counts,
-    pub idle: usize,
+struct Called {
+    counts: Counts,
+    idle: usize,
 }
 
 // 1 for a call that waits, is finished or is refused.
