@@ -119,3 +119,7 @@ some-each n b f e l = go (f b) refl
     go : (x : Bool) → f b ≡ x → f b ≡ false
     go true q = absurd (false≢true (let z : false ≡ true = cc (some-here n b f l q) in z))
     go false q = q
+
+pub some-same : (n : ℕ) (f g : ℕ → Bool) → ((b : ℕ) → b < n → f b ≡ g b) → some n f ≡ some n g
+some-same zero f g e = refl
+some-same (suc n) f g e = rw (some-same n f g (λ b l. e b (omega arith)), e n (omega arith))

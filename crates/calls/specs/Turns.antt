@@ -7,11 +7,11 @@ use mathlib.Core.Path.{_≡_, refl, sym, ap, _∙_, fun-ext}
 use mathlib.Core.Logic.{inl, inr, ⊎-elim}
 use mathlib.Core.Bool.{true}
 use mathlib.Core.List.{List, [], _∷_, _++_}
-use mathlib.Core.List.{List·Memᴰ as Mem, List·Memᴰ·head as mhere, List·Memᴰ·tail as mthere}
+use mathlib.Core.List.{List·Memᴰ as Mem, List·Memᴰ·head as mhere}
 use lib.ListN.{length, getD, drop}
 use lib.Seq.{drop-cons, drop-append-le, drop-append-add}
 use lib.Ieee.{Float}
-use Rattle.order.specs.Lists.{put-same, put-other, Tested, mem-joined}
+use Rattle.order.specs.Lists.{drop-mem, put-same, put-other, Tested, mem-joined}
 use Rattle.order.specs.Reorder.{runAll}
 use Rattle.order.specs.Machine.{Plan, left, rest, left-rest, open?, next, bump}
 use Rattle.order.specs.Machine.{count as machine-count}
@@ -34,11 +34,6 @@ done (Refused number place) = []
 done (Performed number index) = iteration number index ∷ []
 done Waiting = []
 done Finished = []
-
-drop-mem : {A : Type 0} {x : A} (n : ℕ) (l : List A) → Mem x (drop n l) → Mem x l
-drop-mem zero l h = h
-drop-mem (suc n) [] h = h
-drop-mem (suc n) (y ∷ l) h = mthere (drop-mem n l h)
 
 drop-past : {A : Type 0} (n : ℕ) (f g : List A) → length f ≤ n → drop n (f ++ g) ≡ drop (n - length f) g
 drop-past n f g l = let e : n ≡ length f + (n - length f) = omega arith in ap (λ (k : ℕ). drop k (f ++ g)) e ∙ drop-append-add f g (n - length f)

@@ -3,13 +3,13 @@ use Prim.Native.Nat.{ℕ, suc, _+_, _-_, _≤_, _<_}
 use native.Mathlib.Omega.{arith}
 use native.Mathlib.Decide.{ℕ-discrete}
 use native.Mathlib.Numerals.{add-one}
-use mathlib.Core.Path.{_≡_, refl, sym, ap, ap₂, subst, _∙_}
+use mathlib.Core.Path.{_≡_, refl, sym, ap, ap₂, _∙_}
 use mathlib.Core.List.{List}
 use lib.ListN.{length, getD, take}
 use lib.Ieee.{Float}
 use Rattle.model.specs.Table.{Table, Loop, count, first, last, iteration, Inside}
 use Rattle.model.specs.Bodies.{run}
-use Rattle.model.specs.PlainRun.{upward, looped, plainRun}
+use Rattle.model.specs.PlainRun.{upward, looped, plainRun, upward-turn, upward-ended}
 use Rattle.reader.specs.Reading.{Answer, accepted, refused}
 use Rattle.reader.specs.Columns.{Columns, tableAt, count-table, loop-table}
 use Rattle.reader.specs.Stored.{Sized, Kept}
@@ -43,13 +43,11 @@ module _ (P : Table → Type 0) (g : Table → ℕ → List Float → List Float
         (record {
           low = omega (arith, l .low);
           long = ap length (f u q) ∙ e m ∙ l .long;
-          rest = λ t p.
-              let z : past - i ≡ suc (past - suc i) = omega arith in
-              ap (upward (g t) (suc i) (past - suc i)) (f t p) ∙ subst (λ (k : ℕ). upward (g t) i k m ≡ upward (g t) from (past - from) m₀) z (l .rest t p);
+          rest = λ t p. upward-turn (g t) i past m (upward (g t) from (past - from) m₀) (l .rest t p) h n (f t p);
         })
 
     pub left-end : past ≤ i → (t : Table) → P t → m ≡ upward (g t) from (past - from) m₀
-    left-end h t p = let z : past - i ≡ 0 = omega arith in subst (λ (k : ℕ). upward (g t) i k m ≡ upward (g t) from (past - from) m₀) z (l .rest t p)
+    left-end h t p = upward-ended (g t) i past m (upward (g t) from (past - from) m₀) (l .rest t p) h
 
 -- THE LOOPS OF A TABLE IN COLUMNS
 module _ (fs ls ss ks qs vs bs : List ℕ) where

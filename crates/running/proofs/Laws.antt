@@ -25,7 +25,7 @@ use Rattle.ranges.specs.declared.Lengths.{Lengths}
 use Rattle.ranges.specs.Laid.{Laid}
 use Rattle.stepping.specs.declared.Report.{Report}
 use Rattle.stepping.specs.Step.{After, fused, peeled, closed, turn, step}
-use Rattle.stepping.specs.Row.{noneDone, reports, countsAfter, memoryAfter, performing, idle, lowest, canStep, closing, listed, rowOf, runAnswer, runMemory, runIdle, lowest-holds, memory-append, idle-append}
+use Rattle.stepping.specs.Row.{noneDone, reports, countsAfter, memoryAfter, performing, idle, lowest, canStep, closing, listed, rowOf, runAnswer, runMemory, runIdle, lowest-same, lowest-holds, memory-append, idle-append}
 use Rattle.stepping.specs.Reach.{Reachable, Turn, early, waits, late, ends, turn-is, turn-reachable, turn-length, none-reachable, step-turn, step-past}
 use Rattle.steps.specs.Ready.{Small, Measured, Planned, made-total, made-ready}
 use Rattle.steps.specs.Code.{closedBy, closed-by}
@@ -135,10 +135,6 @@ module _ (s : List ℕ) (P : ℕ) (t : Table) (planned-is : planned s P ≡ acce
       }
 
 -- THE LOWEST that can step
-lowest-same : (n : ℕ) (f g : ℕ → Bool) → ((b : ℕ) → b < n → f b ≡ g b) → lowest n f ≡ lowest n g
-lowest-same zero f g e = refl
-lowest-same (suc n) f g e = rw (lowest-same n f g (λ b l. e b (omega arith)), e n (omega arith))
-
 module _ (s : List ℕ) (P : ℕ) (t : Table) (planned-is : planned s P ≡ accepted t) (l : Lengths) (h : Measured t P l)
     (cs : List ℕ) (m : List Float) (long : length m ≡ total t) (r : Reachable t P cs) where
   can-same : (b : ℕ) → b < P → canIn l (closedBy P (l .fused) cs) cs b ≡ canStep s P cs m b

@@ -1,14 +1,14 @@
 -- What a step's report says.
-use Prim.Native.Nat.{ℕ, zero, suc, _+_, _-_, _≤_, _<_}
+use Prim.Native.Nat.{ℕ, _+_, _-_, _≤_, _<_}
 use native.Mathlib.Omega.{arith}
 use mathlib.Core.Path.{_≡_, refl, sym, ap, _∙_, subst}
 use mathlib.Core.Logic.{_⊎_, inl, inr, ⊎-elim}
 use mathlib.Core.Bool.{Bool, true, false}
-use mathlib.Core.List.{List, [], _∷_, _++_, List·Memᴰ·append-cases}
-use mathlib.Core.List.{List·Memᴰ as Mem, List·Memᴰ·head as mhere, List·Memᴰ·tail as mthere}
+use mathlib.Core.List.{List, _++_, List·Memᴰ·append-cases}
 use lib.ListN.{length, getD, length-append, List·getD-append}
 use lib.Seq.{getD-append-add}
 use lib.Ieee.{Float}
+use Rattle.order.specs.Lists.{nth-mem}
 use Rattle.model.specs.declared.Iteration.{Iteration}
 use Rattle.model.specs.Table.{Table, iteration, Inside}
 use Rattle.reader.specs.Reading.{Answer, accepted, refused}
@@ -73,16 +73,11 @@ turned {B} s P b cs m r n e f = go (step-is s P b cs m)
     go (inr (t, a)) = (t, a, f t (turn t P b cs m) (turn-is t P b cs m) (sym (ap (λ (a : After). a .report) (a .turns)) ∙ e))
 
 -- what stands in a processor's lists are iterations of the table
-nth-mem : (n : ℕ) (l : List Iteration) → n < length l → Mem (getD l n (iteration 0 0)) l
-nth-mem n [] h = absurd (omega arith)
-nth-mem zero (x ∷ l) h = mhere refl
-nth-mem (suc n) (x ∷ l) h = mthere (nth-mem n l (omega arith))
-
 listed-inside : (t : Table) (P b : ℕ) → b < P → (n : ℕ) → n < length (fused t P b ++ peeled t P b)
     → Inside t (getD (fused t P b ++ peeled t P b) n (iteration 0 0))
 listed-inside t P b proper n l =
     ⊎-elim (λ h. fused-list t (planOf t P) b _ proper .0 h .0) (λ h. peeled-list t (planOf t P) b _ proper .0 h .0)
-    (List·Memᴰ·append-cases (fused t P b) (nth-mem n (fused t P b ++ peeled t P b) l))
+    (List·Memᴰ·append-cases (fused t P b) (nth-mem (fused t P b ++ peeled t P b) (iteration 0 0) n l))
 
 module _ (s : List ℕ) (P b : ℕ) (cs : List ℕ) (m : List Float) where
   -- the reported iteration is the count-th of that processor's lists

@@ -104,6 +104,10 @@ unfoldable pub runIdle : List ℕ → ℕ → List ℕ → List Float → ℕ
 runIdle s P order m = idleOf s P order m (runAnswer s P (length m))
 
 -- LAWS
+pub lowest-same : (n : ℕ) (f g : ℕ → Bool) → ((b : ℕ) → b < n → f b ≡ g b) → lowest n f ≡ lowest n g
+lowest-same zero f g e = refl
+lowest-same (suc n) f g e = rw (lowest-same n f g (λ b l. e b (omega arith)), e n (omega arith))
+
 -- it is the b that passes, none below it passing; or n, if none passes
 pub lowest-is : (n b : ℕ) (f : ℕ → Bool) → b ≤ n → ((k : ℕ) → k < b → f k ≡ false) → (b < n → f b ≡ true) → lowest n f ≡ b
 lowest-is zero b f l none here = omega arith

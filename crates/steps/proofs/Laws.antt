@@ -1,14 +1,14 @@
 -- Tests that no processor has passed so far, and what a turn's code makes of its tests.
-use Prim.Native.Nat.{ℕ, zero, suc, _+_, _-_, _≤_, _<_, _^_}
+use Prim.Native.Nat.{ℕ, _+_, _-_, _≤_, _<_, _^_}
 use native.Mathlib.Omega.{arith}
 use native.Mathlib.Decide.{ℕ-discrete}
 use mathlib.Core.Path.{_≡_, refl, sym, ap, _∙_}
 use mathlib.Core.Bool.{Bool, true, false}
-use mathlib.Core.List.{List, [], _∷_}
-use mathlib.Core.List.{List·Memᴰ as Mem, List·Memᴰ·head as mhere, List·Memᴰ·tail as mthere}
+use mathlib.Core.List.{List}
 use lib.ListN.{length, getD}
 use lib.Ieee.{Float}
 use borrow.Author.Tests.{lt-ltb, le-ltb}
+use Rattle.order.specs.Lists.{nth-mem}
 use Rattle.model.specs.declared.Iteration.{Iteration}
 use Rattle.model.specs.Table.{Table, iteration, Inside}
 use Rattle.reader.specs.Reading.{Answer, accepted, refused, reading}
@@ -46,11 +46,6 @@ passed-next f b h e k l = go (ℕ-discrete k b)
     go (no q) = h k (omega arith)
 
 -- a numbered member of a list is one of its members
-pub numbered-mem : {A : Type 0} (xs : List A) (d : A) (n : ℕ) → n < length xs → Mem (getD xs n d) xs
-numbered-mem [] d n l = absurd (omega arith)
-numbered-mem (x ∷ xs) d zero l = mhere refl
-numbered-mem (x ∷ xs) d (suc n) l = mthere (numbered-mem xs d n (omega arith))
-
 -- A TURN of processor b, by the tests of its code
 module _ {t : Table} {P : ℕ} {p : Plan} {l : Lengths} {firsts lasts starts kinds arrays values bases : List ℕ}
     (h : Ready t P p l firsts lasts starts kinds arrays values bases) {b : ℕ} (below : b < P) (cs : List ℕ) where
@@ -74,7 +69,7 @@ module _ {t : Table} {P : ℕ} {p : Plan} {l : Lengths} {firsts lasts starts kin
   fused-next i x e =
       let j : column cs b < length (fused t P b) = omega (arith, fused-long) in
       record {
-        inside = rw e (fused-list t (planOf t P) b _ below .0 (numbered-mem (fused t P b) (iteration 0 0) (column cs b) j) .0);
+        inside = rw e (fused-list t (planOf t P) b _ below .0 (nth-mem (fused t P b) (iteration 0 0) (column cs b) j) .0);
         small = omega (arith, h .measured .small b .0);
         turns = λ m q. q ∙ rw (e, lt-ltb (column cs b) (length (fused t P b)) j);
       }
@@ -95,7 +90,7 @@ module _ {t : Table} {P : ℕ} {p : Plan} {l : Lengths} {firsts lasts starts kin
           let j : column cs b - length (fused t P b) < length (peeled t P b) = omega (arith, fused-long, peeled-long) in
           let z : x ≡ getD (peeled t P b) (column cs b - length (fused t P b)) (iteration 0 0) = e ∙ ap (λ (n : ℕ). getD (peeled t P b) (column cs b - n) (iteration 0 0)) fused-long in
           record {
-            inside = rw z (peeled-list t (planOf t P) b _ below .0 (numbered-mem (peeled t P b) (iteration 0 0) (column cs b - length (fused t P b)) j) .0);
+            inside = rw z (peeled-list t (planOf t P) b _ below .0 (nth-mem (peeled t P b) (iteration 0 0) (column cs b - length (fused t P b)) j) .0);
             small = omega (arith, h .measured .small b .0, h .measured .small b .1);
             turns = λ m q.
                 q ∙ rw (

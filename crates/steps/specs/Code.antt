@@ -1,7 +1,7 @@
 -- What the code's contracts cite: the barrier and ground 15 by the lengths that the code keeps. Assumes nothing.
-use Prim.Native.Nat.{ℕ, zero, suc, _+_, _<_}
+use Prim.Native.Nat.{ℕ, _+_, _<_}
 use native.Mathlib.Omega.{arith}
-use mathlib.Core.Path.{_≡_, refl}
+use mathlib.Core.Path.{_≡_}
 use mathlib.Core.Bool.{Bool, cond, _&&_, _||_}
 use mathlib.Core.List.{List}
 use lib.Dec.{ltb, leb}
@@ -9,7 +9,7 @@ use lib.ListN.{length}
 use borrow.Author.Tests.{lt-ltb, le-ltb, lt-leb, le-leb}
 use native.Mathlib.Decide.{decLt}
 use Rattle.model.specs.Table.{Table}
-use Rattle.blocks.specs.Sums.{column, some}
+use Rattle.blocks.specs.Sums.{column, some, some-same}
 use Rattle.ranges.specs.declared.Lengths.{Lengths}
 use Rattle.stepping.specs.Step.{fused, peeled, closed, wrongCount, wrongState}
 use Rattle.steps.specs.Ready.{Measured}
@@ -26,10 +26,6 @@ abbrev pub wrongIn : ℕ → Lengths → Bool → List ℕ → ℕ → Bool
 wrongIn P l shut counts b = wrongBy (leb P b) shut (column (l .fused) b) (column (l .peeled) b) (column counts b)
 
 -- LAWS: they are those of the table's plan
-some-same : (n : ℕ) (f g : ℕ → Bool) → ((b : ℕ) → b < n → f b ≡ g b) → some n f ≡ some n g
-some-same zero f g e = refl
-some-same (suc n) f g e = rw (some-same n f g (λ b l. e b (omega arith)), e n (omega arith))
-
 module _ (t : Table) (P : ℕ) (l : Lengths) (h : Measured t P l) (counts : List ℕ) where
   pub closed-by : closedBy P (l .fused) counts ≡ closed t P counts
   unfolding closed

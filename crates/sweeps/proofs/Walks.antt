@@ -9,7 +9,7 @@ use lib.ListN.{getD}
 use lib.Dec.{eqb}
 use Rattle.marks.specs.Marks.{marked, size, size-most, size-same, none-marked}
 use Rattle.model.specs.Table.{Table}
-use Rattle.model.specs.PlainRun.{upward}
+use Rattle.model.specs.PlainRun.{upward-turn, upward-ended}
 use Rattle.reader.specs.Columns.{Columns, columns, tableAt, count-table}
 use Rattle.sweeps.specs.declared.Totals.{Totals}
 use Rattle.sweeps.specs.Sweeps.{touched, written, sumOver, unionOver, sweeps}
@@ -62,16 +62,6 @@ module _ (ks qs : List ℕ) (from past : ℕ) where
   }
 
 -- LOOPS
--- what is left of a walk upward: one turn of it, and its end
-module _ {S : Type 0} (g : ℕ → S → S) (k n : ℕ) (s w : S) (e : upward g k (n - k) s ≡ w) where
-  turn : k < n → (r : S) → r ≡ g k s → upward g (suc k) (n - suc k) r ≡ w
-  turn h r f =
-      let l : n - k ≡ suc (n - suc k) = omega arith in
-      ap (upward g (suc k) (n - suc k)) f ∙ subst (λ (m : ℕ). upward g k m s ≡ w) l e
-
-  ended : n ≤ k → s ≡ w
-  ended h = let l : n - k ≡ 0 = omega arith in subst (λ (m : ℕ). upward g k m s ≡ w) l e
-
 abbrev sizes : Table → ℕ → ℕ
 sizes t k = size (touched t k) + size (written t k)
 
@@ -123,10 +113,10 @@ module _ (ss ks qs : List ℕ) (loops : ℕ) where
             → Added s r (c .kinds) (c .arrays) (getD (c .starts) k 0) (getD (c .starts) (suc k) 0) → Rest (tableAt c a loops) loops (suc k) r
         further c a i b = record {
           before =
-              turn _ k loops _ _ (i .before) h (r .before)
+              upward-turn _ k loops _ _ (i .before) h (r .before)
               (b .before ∙ ap₂ (λ (x y : ℕ). s .before + (x + y)) (size-same _ _ (λ q. sym (touches q))) (size-same _ _ (λ q. sym (writes q))));
-          touches = turn _ k loops _ _ (i .touches) h (marked (r .touched)) (fun-ext λ q. b .touched q ∙ ap (λ (x : Bool). marked (s .touched) q || x) (sym (touches q)));
-          writes = turn _ k loops _ _ (i .writes) h (marked (r .written)) (fun-ext λ q. b .written q ∙ ap (λ (x : Bool). marked (s .written) q || x) (sym (writes q)));
+          touches = upward-turn _ k loops _ _ (i .touches) h (marked (r .touched)) (fun-ext λ q. b .touched q ∙ ap (λ (x : Bool). marked (s .touched) q || x) (sym (touches q)));
+          writes = upward-turn _ k loops _ _ (i .writes) h (marked (r .written)) (fun-ext λ q. b .written q ∙ ap (λ (x : Bool). marked (s .written) q || x) (sym (writes q)));
         }
           where
             touches : (q : ℕ) → touched (tableAt c a loops) k q ≡ touchedRows (c .kinds) (c .arrays) (getD (c .starts) k 0) (getD (c .starts) (suc k) 0) q
@@ -143,8 +133,8 @@ module _ (ss ks qs : List ℕ) (loops : ℕ) where
         rw (
           e,
           f,
-          ended _ k loops _ _ (i .before) h,
-          ended _ k loops _ _ (i .touches) h,
-          ended _ k loops _ _ (i .writes) h,
+          upward-ended _ k loops _ _ (i .before) h,
+          upward-ended _ k loops _ _ (i .touches) h,
+          upward-ended _ k loops _ _ (i .writes) h,
           count-table (columns ns fs ls ss ks qs vs) a loops,
         )

@@ -4,8 +4,9 @@ use native.Mathlib.Omega.{arith}
 use native.Mathlib.Decide.{ℕ-discrete}
 use mathlib.Core.Path.{_≡_, refl, sym, ap, subst, _∙_}
 use mathlib.Core.List.{List, [], _∷_, _++_}
-use mathlib.Core.List.{List·Memᴰ as Mem, List·Memᴰ·head as mhere, List·Memᴰ·tail as mthere}
+use mathlib.Core.List.{List·Memᴰ as Mem, List·Memᴰ·tail as mthere}
 use lib.ListN.{length, getD}
+use Rattle.order.specs.Lists.{nth-mem}
 use Rattle.model.specs.declared.Reference.{Reference}
 use Rattle.model.specs.References.{reads, refs}
 use Rattle.model.specs.Table.{Table, Statement, loop, count}
@@ -65,15 +66,10 @@ module _ (t : Table) where
           (sym z, record { low = omega arith; high = omega arith; read = r; hits = rw (← y) f; earlier = λ j l h. absurd (omega arith) })
 
 -- a numbered read is one of the loop's references
-read-mem : (qs : List Reference) (d : Reference) (n : ℕ) → n < length qs → Mem (getD qs n d) qs
-read-mem [] d n l = absurd (omega arith)
-read-mem (q ∷ qs) d zero l = mhere refl
-read-mem (q ∷ qs) d (suc n) l = mthere (read-mem qs d n (omega arith))
-
 read-in : (t : Table) (k n : ℕ) (d : Reference) (st : Statement) → loop t k .body ≡ st ∷ [] → n < length (allReads k (loop t k .body))
     → Mem (getD (allReads k (loop t k .body)) n d) (refs t k)
 read-in t k n d st body l =
-    rw body (mthere (read-mem (reads k (st .items) ++ []) d n (rw body at l)))
+    rw body (mthere (nth-mem (reads k (st .items) ++ []) d n (rw body at l)))
 
 -- THE THEOREMS
 -- each ground of 1 to 9 where it is told: 1 to 8 at a place of the bytes, 9 at a loop of the table, which is the lowest such
