@@ -8,3 +8,5 @@ pub mod AnyRow
 pub mod CallersOrder
 -- each processor keeps its own list's order
 pub mod Own
+-- every state that ground 15 lets in is reached
+pub mod Reached
