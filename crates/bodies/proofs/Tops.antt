@@ -5,10 +5,10 @@ use Prim.Native.Nat.{ℕ, zero, suc, _+_, _-_, _≤_, _<_}
 use native.Mathlib.Nat.{ne-of-lt}
 use native.Mathlib.Numerals.{add-one}
 use native.Mathlib.Omega.{arith}
-use lib.ListN.{length, getD, set}
+use lib.ListN.{length, getD, set, length-set}
 use lib.Seq.{getD-set-same, getD-set-other}
 use lib.Ieee.{Float, nan, neg}
-use Rattle.bodies.specs.Stack.{tops}
+use Rattle.bodies.specs.Stack.{tops, Holds}
 use Rattle.model.specs.Bodies.{negated, combined, binary}
 
 -- a store above the first n is not seen
@@ -36,17 +36,24 @@ stored vs n x h l =
     let e : n ≡ (n - 1) + 1 = omega arith in
     ap (tops (set vs (n - 1) x)) e ∙ more vs (n - 1) x l
 
-pub negated-top : (vs : List Float) (n : ℕ) → 1 ≤ n → n - 1 < length vs
-    → tops (set vs (n - 1) (neg (getD vs (n - 1) nan))) n ≡ negated (tops vs n)
-unfolding negated
-negated-top vs n h l = rw (stored vs n _ h l, top vs n h)
+-- WHAT THE ARRAY THEN HOLDS
+module _ (vs : List Float) (n : ℕ) (long : length vs ≡ 8) where
+  pub pushed : (x : Float) → n < 8 → Holds (set vs n x) (n + 1) (x ∷ tops vs n) (n + 1)
+  pushed x h = (length-set vs n x ∙ long, more vs n x (omega arith), refl)
 
-pub combined-tops : (vs : List Float) (n op : ℕ) → 2 ≤ n → n - 2 < length vs
-    → tops (set vs (n - 2) (binary op (getD vs (n - 2) nan) (getD vs (n - 1) nan))) (n - 1) ≡ combined op (tops vs n)
-unfolding combined
-combined-tops vs n op h l =
-    let e : n - 1 ≡ (n - 2) + 1 = omega arith in
-    let g : n - 1 - 1 ≡ n - 2 = omega arith in
-    let h1 : 1 ≤ n = omega arith in
-    let h2 : 1 ≤ n - 1 = omega arith in
-    rw (top vs n h1, top vs (n - 1) h2, g, e, more vs (n - 2) _ l)
+  pub negated-top : 1 ≤ n → n ≤ 8 → Holds (set vs (n - 1) (neg (getD vs (n - 1) nan))) n (negated (tops vs n)) n
+  unfolding negated
+  negated-top h m =
+      let inside : n - 1 < length vs = omega arith in
+      (length-set vs (n - 1) _ ∙ long, rw (stored vs n _ h inside, top vs n h), refl)
+
+  pub combined-tops : (op : ℕ) (x : Float) → 2 ≤ n → n ≤ 8 → x ≡ binary op (getD vs (n - 2) nan) (getD vs (n - 1) nan)
+      → Holds (set vs (n - 2) x) (n - 1) (combined op (tops vs n)) (n - 1)
+  unfolding combined
+  combined-tops op x h m f =
+      let e : n - 1 ≡ (n - 2) + 1 = omega arith in
+      let g : n - 1 - 1 ≡ n - 2 = omega arith in
+      let h1 : 1 ≤ n = omega arith in
+      let h2 : 1 ≤ n - 1 = omega arith in
+      let inside : n - 2 < length vs = omega arith in
+      (length-set vs (n - 2) x ∙ long, rw (f, top vs n h1, top vs (n - 1) h2, g, e, more vs (n - 2) _ inside), refl)

@@ -2,7 +2,7 @@
 use Prim.Native.Nat.{ℕ, suc, _+_, _-_, _≤_, _<_}
 use native.Mathlib.Numerals.{add-one}
 use native.Mathlib.Omega.{arith}
-use mathlib.Core.Path.{_≡_, refl, subst}
+use mathlib.Core.Path.{_≡_, refl, sym, ap, subst, _∙_}
 use mathlib.Core.Bool.{Bool, true, false, cond}
 use mathlib.Core.List.{List, [], _∷_}
 use lib.Dec.{eqb}
@@ -16,7 +16,7 @@ use Rattle.model.specs.Bodies.{negated, combined, applied, worked, workedAll, v
 use Rattle.reader.specs.Columns.{itemOf, itemAt, itemsFrom}
 use Rattle.grounds.specs.Accepted.{Works}
 use Rattle.bodies.specs.declared.Waiting.{Waiting}
-use Rattle.bodies.specs.Stack.{tops, waiting}
+use Rattle.bodies.specs.Stack.{tops, waiting, Holds}
 use Rattle.bodies.specs.Workable.{Based, Element, ReadsWithin, Ready, next}
 
 -- WHICH ITEM IT IS
@@ -41,13 +41,14 @@ pub other : (op d : ℕ) → (op ≡ 5 → ⊥) → operands op ≤ d → (2 ≤
 unfolding operands
 other op d e h = let z = rw (ne-eqb op 5 e) at h in (z, rw (ne-eqb op 5 e) (omega arith))
 
-pub applied-five : (op : ℕ) (w : List Float) → op ≡ 5 → applied op w ≡ negated w
-unfolding applied
-applied-five op w e = rw e
+module _ (vs : List Float) (r op d : ℕ) (w : List Float) (enough : operands op ≤ d) where
+  pub applied-five : op ≡ 5 → Holds vs r (negated w) d → Holds vs r (applied op w) (d - operands op + 1)
+  unfolding applied
+  applied-five e h = (h .0, rw e (h .1), h .2 ∙ sym (five op d e enough .1))
 
-pub applied-other : (op : ℕ) (w : List Float) → (op ≡ 5 → ⊥) → applied op w ≡ combined op w
-unfolding applied
-applied-other op w e = rw (ne-eqb op 5 e)
+  pub applied-other : (op ≡ 5 → ⊥) → Holds vs r (combined op w) (d - 1) → Holds vs r (applied op w) (d - operands op + 1)
+  unfolding applied
+  applied-other e h = (h .0, rw (ne-eqb op 5 e) (h .1), h .2 ∙ sym (other op d e enough .1))
 
 -- ONE ITEM
 module _ (bs : List ℕ) (i m : ℕ) where
@@ -83,49 +84,46 @@ module _ (bs : List ℕ) (i m : ℕ) where
   rest-few (operation op) d r = omega (arith, some op, r .3)
 
 -- WHAT IS LEFT
--- d numbers wait before the items xs; whatever the arrays' lengths, if they begin at bs, the rest gives the value of the whole
-pub record Left (bs : List ℕ) (i : ℕ) (m : List Float) (len : ℕ) (whole xs : List Item) (w : List Float) (d : ℕ) : Type 0 where
+-- d numbers wait before the items xs; whatever the arrays' lengths, if they begin at bs, the rest gives what the whole gives from s
+pub record Left (bs : List ℕ) (i : ℕ) (m : List Float) (whole : List Item) (s : List Float) (xs : List Item) (w : List Float) (d : ℕ) : Type 0 where
   pub few : d ≤ 8
   pub works : Works xs d
-  pub reads : ReadsWithin bs i len xs
-  pub gives : (ns : List ℕ) → Based bs ns → getD (workedAll ns i m xs w) 0 nan ≡ value ns i whole m
+  pub reads : ReadsWithin bs i (length m) xs
+  pub gives : (ns : List ℕ) → Based bs ns → workedAll ns i m xs w ≡ workedAll ns i m whole s
 
-module _ (bs : List ℕ) (i : ℕ) (m : List Float) (len : ℕ) (whole : List Item) where
-  left-start : (vs : List Float) (d : ℕ) → d ≡ 0 → Works whole 0 → ReadsWithin bs i len whole → Left bs i m len whole whole (tops vs d) d
-  unfolding tops value
-  left-start vs d e w r = rw e (record { few = omega arith; works = w; reads = r; gives = λ ns b. refl })
+module _ (bs : List ℕ) (i : ℕ) (m : List Float) (whole : List Item) (s : List Float) where
+  left-start : (d : ℕ) → d ≤ 8 → Works whole d → ReadsWithin bs i (length m) whole → Left bs i m whole s whole s d
+  left-start d h w r = record { few = h; works = w; reads = r; gives = λ ns b. refl }
 
-  module _ (x : Item) (xs : List Item) (w : List Float) (d : ℕ) (l : Left bs i m len whole (x ∷ xs) w d) where
-    left-ready : Ready bs i len x d
-    left-ready = first-ready bs i len x xs d (l .few) (l .works) (l .reads)
+  module _ (x : Item) (xs : List Item) (w : List Float) (d : ℕ) (l : Left bs i m whole s (x ∷ xs) w d) where
+    left-ready : Ready bs i (length m) x d
+    left-ready = first-ready bs i (length m) x xs d (l .few) (l .works) (l .reads)
 
     -- after x there are more, e of them
-    left-next : (v : List Float) (e : ℕ) → e ≡ next x d → ((ns : List ℕ) → Based bs ns → v ≡ worked ns i m x w) → Left bs i m len whole xs v e
+    left-next : (v : List Float) (e : ℕ) → e ≡ next x d → ((ns : List ℕ) → Based bs ns → v ≡ worked ns i m x w) → Left bs i m whole s xs v e
     unfolding workedAll
     left-next v e f g = record {
-      few = rw f (rest-few bs i len x d left-ready);
-      works = rw f (rest-works bs i len x xs d (l .works));
-      reads = rest-reads bs i len x xs (l .reads);
+      few = rw f (rest-few bs i (length m) x d left-ready);
+      works = rw f (rest-works bs i (length m) x xs d (l .works));
+      reads = rest-reads bs i (length m) x xs (l .reads);
       gives = λ ns b. rw (g ns b) (l .gives ns b);
     }
 
-  -- where no item is left one value waits, at the bottom
-  left-end : (vs : List Float) (d : ℕ) → Left bs i m len whole [] (tops vs d) d → (ns : List ℕ) → Based bs ns → getD vs 0 nan ≡ value ns i whole m
-  unfolding tops workedAll
-  left-end vs d l ns b =
-      let e : d ≡ 1 = l .works in
-      rw e at (l .gives ns b)
+  -- where no item is left one value waits, and it is what the whole gives
+  left-end : (w : List Float) (d : ℕ) → Left bs i m whole s [] w d → (d ≡ 1) × ((ns : List ℕ) → Based bs ns → w ≡ workedAll ns i m whole s)
+  unfolding workedAll
+  left-end w d l = (l .works, l .gives)
 
--- the items in the rows from `from` up to `past`, those before `row` worked
-module _ (bs : List ℕ) (i : ℕ) (m : List Float) (ks qs vs : List ℕ) (from past : ℕ) where
+-- the items in the rows from `from` up to `past`, worked from where s waits: those before `row` are worked
+module _ (bs : List ℕ) (i : ℕ) (m : List Float) (ks qs vs : List ℕ) (from past : ℕ) (s : Waiting) where
   abbrev all : List Item
   all = itemsFrom ks qs vs from (past - from)
 
   abbrev pub RowsLeft : ℕ → Waiting → Type 0
-  RowsLeft row w = Left bs i m (length m) all (itemsFrom ks qs vs row (past - row)) (waiting w) (w .count)
+  RowsLeft row w = Left bs i m all (waiting s) (itemsFrom ks qs vs row (past - row)) (waiting w) (w .count)
 
-  pub rows-start : (w : Waiting) → w .count ≡ 0 → Works all 0 → ReadsWithin bs i (length m) all → RowsLeft from w
-  rows-start w = left-start bs i m (length m) all (w .values) (w .count)
+  pub rows-start : s .count ≤ 8 → Works all (s .count) → ReadsWithin bs i (length m) all → RowsLeft from s
+  rows-start = left-start bs i m all (waiting s) (s .count)
 
   module _ (row : ℕ) (w : Waiting) (l : RowsLeft row w) where
     module _ (h : row < past) where
@@ -136,53 +134,59 @@ module _ (bs : List ℕ) (i : ℕ) (m : List Float) (ks qs vs : List ℕ) (from 
       unfolding itemsFrom
       split = let e : past - row ≡ suc (past - (row + 1)) = omega arith in rw (e, add-one row)
 
-      here : Left bs i m (length m) all (itemAt ks qs vs row ∷ rest) (waiting w) (w .count)
-      here = subst (λ (xs : List Item). Left bs i m (length m) all xs (waiting w) (w .count)) split l
+      here : Left bs i m all (waiting s) (itemAt ks qs vs row ∷ rest) (waiting w) (w .count)
+      here = subst (λ (xs : List Item). Left bs i m all (waiting s) xs (waiting w) (w .count)) split l
 
       pub rows-ready : Ready bs i (length m) (itemAt ks qs vs row) (w .count)
-      rows-ready = left-ready bs i m (length m) all (itemAt ks qs vs row) rest (waiting w) (w .count) here
+      rows-ready = left-ready bs i m all (waiting s) (itemAt ks qs vs row) rest (waiting w) (w .count) here
 
-      pub rows-next : (v : Waiting) → (v .count ≡ next (itemAt ks qs vs row) (w .count))
-          × ((ns : List ℕ) → Based bs ns → waiting v ≡ worked ns i m (itemAt ks qs vs row) (waiting w)) → RowsLeft (row + 1) v
-      rows-next v g = left-next bs i m (length m) all (itemAt ks qs vs row) rest (waiting w) (w .count) here (waiting v) (v .count) (g .0) (g .1)
+      pub rows-next : (v : Waiting) → v .count ≡ next (itemAt ks qs vs row) (w .count)
+          → ((ns : List ℕ) → Based bs ns → waiting v ≡ worked ns i m (itemAt ks qs vs row) (waiting w)) → RowsLeft (row + 1) v
+      rows-next v = left-next bs i m all (waiting s) (itemAt ks qs vs row) rest (waiting w) (w .count) here (waiting v) (v .count)
 
     none : past ≤ row → itemsFrom ks qs vs row (past - row) ≡ []
     unfolding itemsFrom
     none h = let e : past - row ≡ 0 = omega arith in rw e
 
-    pub rows-end : past ≤ row → (ns : List ℕ) → Based bs ns → getD (w .values) 0 nan ≡ value ns i all m
+    pub rows-end : past ≤ row → (w .count ≡ 1) × ((ns : List ℕ) → Based bs ns → waiting w ≡ workedAll ns i m all (waiting s))
     rows-end h =
-        left-end bs i m (length m) all (w .values) (w .count)
-        (subst (λ (xs : List Item). Left bs i m (length m) all xs (waiting w) (w .count)) (none h) l)
+        left-end bs i m all (waiting s) (waiting w) (w .count)
+        (subst (λ (xs : List Item). Left bs i m all (waiting s) xs (waiting w) (w .count)) (none h) l)
 
--- THE ITEM OF A ROW, OF KIND k, ARRAY q AND VALUE v, IN ITERATION i: r waits after it, e numbers
+-- from where nothing waits to where one value does: it is at the bottom
+pub at-bottom : (xs : List Item) (ns : List ℕ) (i : ℕ) (m : List Float) (s w : Waiting) → s .count ≡ 0 → w .count ≡ 1
+    → waiting w ≡ workedAll ns i m xs (waiting s) → getD (w .values) 0 nan ≡ value ns i xs m
+unfolding tops value
+at-bottom xs ns i m s w e f g = let z = rw (e, f) at g in ap (λ (l : List Float). getD l 0 nan) z
+
+-- THE ITEM OF A ROW, OF KIND k, ARRAY q AND VALUE v, IN ITERATION i: the array then holds vs, e numbers of it
 module _ (bs : List ℕ) (i : ℕ) (m : List Float) (k q v : ℕ) (w : List Float) (d : ℕ) (ready : Ready bs i (length m) (itemOf k q v) d) where
   abbrev Worked : List Float → ℕ → Type 0
-  Worked r e = (e ≡ next (itemOf k q v) d) × ((ns : List ℕ) → Based bs ns → r ≡ worked ns i m (itemOf k q v) w)
+  Worked vs e = ((length vs ≡ 8) × (e ≡ next (itemOf k q v) d)) × ((ns : List ℕ) → Based bs ns → tops vs e ≡ worked ns i m (itemOf k q v) w)
 
   module _ (kind : k ≡ 3) where
     pub read-asks : (d < 8) × Element bs i (length m) q v
     unfolding Ready
     read-asks = rw (item-read k q v kind) at ready
 
-    pub read-works : (x : Float) (r : List Float) (e : ℕ) → x ≡ getD m (getD bs q 0 + (i + v - 255)) nan → (r ≡ x ∷ w) × (e ≡ d + 1) → Worked r e
+    pub read-works : (x : Float) (vs : List Float) (e : ℕ) → x ≡ getD m (getD bs q 0 + (i + v - 255)) nan → Holds vs e (x ∷ w) (d + 1) → Worked vs e
     unfolding next worked
-    read-works x r e f g = rw (item-read k q v kind) (g .1, λ ns b. rw (g .0, f, b q (omega (arith, read-asks .1 .0))))
+    read-works x vs e f g = rw (item-read k q v kind) ((g .0, g .2), λ ns b. rw (g .1, f, b q (omega (arith, read-asks .1 .0))))
 
   module _ (kind : k ≡ 4) where
     pub constant-asks : d < 8
     unfolding Ready
     constant-asks = rw (item-constant k q v kind) at ready
 
-    pub constant-works : (x : Float) (r : List Float) (e : ℕ) → x ≡ ofInt binary64 (pos v) → (r ≡ x ∷ w) × (e ≡ d + 1) → Worked r e
+    pub constant-works : (x : Float) (vs : List Float) (e : ℕ) → x ≡ ofInt binary64 (pos v) → Holds vs e (x ∷ w) (d + 1) → Worked vs e
     unfolding next worked
-    constant-works x r e f g = rw (item-constant k q v kind) (g .1, λ ns b. rw (g .0, f))
+    constant-works x vs e f g = rw (item-constant k q v kind) ((g .0, g .2), λ ns b. rw (g .1, f))
 
   module _ (not3 : k ≡ 3 → ⊥) (not4 : k ≡ 4 → ⊥) where
     pub operation-asks : (operands v ≤ d) × (d ≤ 8)
     unfolding Ready
     operation-asks = let z = rw (item-operation k q v not3 not4) at ready in (z .2, z .3)
 
-    pub operation-works : (r : List Float) (e : ℕ) → (r ≡ applied v w) × (e ≡ d - operands v + 1) → Worked r e
+    pub operation-works : (vs : List Float) (e : ℕ) → Holds vs e (applied v w) (d - operands v + 1) → Worked vs e
     unfolding next worked
-    operation-works r e g = rw (item-operation k q v not3 not4) (g .1, λ ns b. g .0)
+    operation-works vs e g = rw (item-operation k q v not3 not4) ((g .0, g .2), λ ns b. g .1)

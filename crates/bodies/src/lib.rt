@@ -6,10 +6,10 @@ ghost use lib.ListN.{length, getD};
 ghost use lib.IntN.{pos};
 ghost use lib.Ieee.{nan, binary64, ofInt};
 ghost use Rattle.records.specs.History.{operands};
-ghost use Rattle.model.specs.Bodies.{binary, negated, combined, applied, worked, value};
+ghost use Rattle.model.specs.Bodies.{binary, negated, combined, applied, worked, workedAll, value};
 ghost use Rattle.reader.specs.Columns.{itemOf, itemsFrom};
 ghost use Rattle.grounds.specs.Accepted.{Works};
-ghost use Rattle.bodies.specs.Stack.{waiting};
+ghost use Rattle.bodies.specs.Stack.{tops, waiting, Holds};
 ghost use Rattle.bodies.specs.Workable.{Based, Element, ReadsWithin, Ready, next};
 
 // The values waiting in a body, with their count.
@@ -51,6 +51,70 @@ fn element(array: u32, offset: u32, bases: &[u32; 17], i: usize, memory: &[f64])
     memory[base + at]
 }
 
+// Puts x over the n values that wait; like each of the next four, it answers how many then wait.
+fn push(vs: &mut [f64; 8], n: usize, x: f64) -> usize
+    requires { ⌜ (n < 8) × (length (now vs) ≡ 8) ⌝ }
+    ensures { λ r. ⌜ Holds (now (vs .exit)) r (x ∷ tops (now (vs .entry)) n) (n + 1) ⌝ }
+{
+    vs[n] = x;
+    n + 1
+}
+
+fn negate(vs: &mut [f64; 8], n: usize) -> usize
+    requires { ⌜ (1 ≤ n) × (n ≤ 8) × (length (now vs) ≡ 8) ⌝ }
+    ensures { λ r. ⌜ Holds (now (vs .exit)) r (negated (tops (now (vs .entry)) n)) n ⌝ }
+{
+    vs[n - 1] = -vs[n - 1];
+    n
+}
+
+// The later value is the right operand.
+fn combine(vs: &mut [f64; 8], n: usize, op: u32) -> usize
+    requires { ⌜ (2 ≤ n) × (n ≤ 8) × (length (now vs) ≡ 8) ⌝ }
+    ensures { λ r. ⌜ Holds (now (vs .exit)) r (combined op (tops (now (vs .entry)) n)) (n - 1) ⌝ }
+{
+    let x = vs[n - 2];
+    let y = vs[n - 1];
+    vs[n - 2] = operate(op, x, y);
+    n - 1
+}
+
+// One of the five operations: 5 is negate.
+fn apply(vs: &mut [f64; 8], n: usize, op: u32) -> usize
+    requires { ⌜ (operands op ≤ n) × (n ≤ 8) × (length (now vs) ≡ 8) ⌝ }
+    ensures { λ r. ⌜ Holds (now (vs .exit)) r (applied op (tops (now (vs .entry)) n)) (n - operands op + 1) ⌝ }
+{
+    if op == 5 {
+        return negate(vs, n);
+    }
+    combine(vs, n, op)
+}
+
+// Works one item, of its record's kind, in iteration i.
+fn work_item(
+    vs: &mut [f64; 8],
+    n: usize,
+    kind: u8,
+    array: u32,
+    value: u32,
+    bases: &[u32; 17],
+    i: usize,
+    memory: &[f64],
+) -> usize
+    requires { ⌜ (i < 2 ^ 32) × (length (now vs) ≡ 8) ⌝ }
+    requires { ⌜ Ready (now bases) i (length (now memory)) (itemOf kind array value) n ⌝ }
+    ensures { λ r. ⌜ (length (now (vs .exit)) ≡ 8) × (r ≡ next (itemOf kind array value) n) ⌝ }
+    ensures { λ r. ⌜ ((ns : List ℕ) → Based (now (bases .entry)) ns → tops (now (vs .exit)) r ≡ worked ns i (now (memory .entry)) (itemOf kind array value) (tops (now (vs .entry)) n)) ⌝ }
+{
+    if kind == 3 {
+        return push(vs, n, element(array, value, bases, i, memory));
+    }
+    if kind == 4 {
+        return push(vs, n, constant(value));
+    }
+    apply(vs, n, value)
+}
+
 impl Waiting {
     pub fn none() -> Self
         ensures { λ r. ⌜ r .count ≡ 0 ⌝ }
@@ -61,80 +125,42 @@ impl Waiting {
         }
     }
 
-    pub fn push(self, x: f64) -> Self
-        requires { ⌜ self .count < 8 ⌝ }
-        ensures { λ r. ⌜ (waiting r ≡ x ∷ waiting self) × (r .count ≡ self .count + 1) ⌝ }
-    {
-        let n = self.count;
-        let mut vs = self.values;
-        vs[n] = x;
-        Waiting {
-            values: vs,
-            count: n + 1,
-        }
-    }
-
-    pub fn negate(self) -> Self
-        requires { ⌜ (1 ≤ self .count) × (self .count ≤ 8) ⌝ }
-        ensures { λ r. ⌜ (waiting r ≡ negated (waiting self)) × (r .count ≡ self .count) ⌝ }
-    {
-        let n = self.count;
-        let mut vs = self.values;
-        vs[n - 1] = -vs[n - 1];
-        Waiting {
-            values: vs,
-            count: n,
-        }
-    }
-
-    // The later value is the right operand.
-    pub fn combine(self, op: u32) -> Self
-        requires { ⌜ (2 ≤ self .count) × (self .count ≤ 8) ⌝ }
-        ensures { λ r. ⌜ (waiting r ≡ combined op (waiting self)) × (r .count ≡ self .count - 1) ⌝ }
-    {
-        let n = self.count;
-        let mut vs = self.values;
-        let x = vs[n - 2];
-        let y = vs[n - 1];
-        vs[n - 2] = operate(op, x, y);
-        Waiting {
-            values: vs,
-            count: n - 1,
-        }
-    }
-
-    // One of the five operations: 5 is negate.
-    pub fn apply(self, op: u32) -> Self
-        requires { ⌜ (operands op ≤ self .count) × (self .count ≤ 8) ⌝ }
-        ensures { λ r. ⌜ (waiting r ≡ applied op (waiting self)) × (r .count ≡ self .count - operands op + 1) ⌝ }
-    {
-        if op == 5 {
-            return self.negate();
-        }
-        self.combine(op)
-    }
-
-    // Works one item, of its record's kind, in iteration i.
-    pub fn work(
+    // Works the items of the rows from `from` up to `past`, in iteration i.
+    pub fn work_rows(
         self,
-        kind: u8,
-        array: u32,
-        value: u32,
+        kinds: &[u8; 528],
+        arrays: &[u32; 528],
+        values: &[u32; 528],
         bases: &[u32; 17],
+        from: usize,
+        past: usize,
         i: usize,
         memory: &[f64],
     ) -> Self
-        requires { ⌜ (i < 2 ^ 32) × Ready (now bases) i (length (now memory)) (itemOf kind array value) (self .count) ⌝ }
-        ensures { λ r. ⌜ r .count ≡ next (itemOf kind array value) (self .count) ⌝ }
-        ensures { λ r. ⌜ ((ns : List ℕ) → Based (now (bases .entry)) ns → waiting r ≡ worked ns i (now (memory .entry)) (itemOf kind array value) (waiting self)) ⌝ }
+        requires { ⌜ (past ≤ 528) × (i < 2 ^ 32) × (self .count ≤ 8) ⌝ }
+        requires { ⌜ Works (itemsFrom (now kinds) (now arrays) (now values) from (past - from)) (self .count) ⌝ }
+        requires { ⌜ ReadsWithin (now bases) i (length (now memory)) (itemsFrom (now kinds) (now arrays) (now values) from (past - from)) ⌝ }
+        ensures { λ r. ⌜ r .count ≡ 1 ⌝ }
+        ensures { λ r. ⌜ ((ns : List ℕ) → Based (now (bases .entry)) ns → waiting r ≡ workedAll ns i (now (memory .entry)) (itemsFrom (now (kinds .entry)) (now (arrays .entry)) (now (values .entry)) from (past - from)) (waiting self)) ⌝ }
     {
-        if kind == 3 {
-            return self.push(element(array, value, bases, i, memory));
+        let mut w = self;
+        let mut row = from;
+        while row < past {
+            let n = w.count;
+            let next = work_item(
+                &mut w.values,
+                n,
+                kinds[row],
+                arrays[row],
+                values[row],
+                bases,
+                i,
+                memory,
+            );
+            w.count = next;
+            row += 1;
         }
-        if kind == 4 {
-            return self.push(constant(value));
-        }
-        self.apply(value)
+        w
     }
 }
 
@@ -154,11 +180,7 @@ pub fn value_of(
     requires { ⌜ ReadsWithin (now bases) i (length (now memory)) (itemsFrom (now kinds) (now arrays) (now values) from (past - from)) ⌝ }
     ensures { λ r. ⌜ ((ns : List ℕ) → Based (now (bases .entry)) ns → r ≡ value ns i (itemsFrom (now (kinds .entry)) (now (arrays .entry)) (now (values .entry)) from (past - from)) (now (memory .entry))) ⌝ }
 {
-    let mut w = Waiting::none();
-    let mut row = from;
-    while row < past {
-        w = w.work(kinds[row], arrays[row], values[row], bases, i, memory);
-        row += 1;
-    }
+    let none = Waiting::none();
+    let w = none.work_rows(kinds, arrays, values, bases, from, past, i, memory);
     w.values[0]
 }
