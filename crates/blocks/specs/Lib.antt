@@ -8,3 +8,5 @@ pub mod Blocks
 pub mod Index
 -- the same parts as ranges
 pub mod Parts
+-- a part by the code's own name
+pub mod Code

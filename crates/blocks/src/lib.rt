@@ -2,13 +2,14 @@
 
 ghost use mathlib.Core.Path.{_≡_};
 ghost use mathlib.Core.Bool.{cond};
-ghost use Prim.Native.Nat.{ℕ, _+_, _-_, _*_, _/_, _%_, _^_, _≤_, _<_, min, max};
+ghost use Prim.Native.Nat.{ℕ, suc, _+_, _-_, _*_, _/_, _%_, _^_, _≤_, _<_, min, max};
 ghost use lib.Dec.{eqb};
 ghost use lib.ListN.{length, getD};
 ghost use Rattle.blocks.specs.Sums.{column};
 ghost use Rattle.blocks.specs.Span.{spanOf};
 ghost use Rattle.blocks.specs.Blocks.{start, block, isShort};
 ghost use Rattle.blocks.specs.Parts.{fusedPart, peeledPart};
+ghost use Rattle.blocks.specs.Code.{partOf};
 
 // The indices from `from` up to `past`, `past` not among them.
 pub struct Range {
@@ -138,4 +139,50 @@ pub fn peeled_part(own: Range, blk: Range, blocks: u32, b: u32, shift: u32, peel
             past: lesser(blk.past + peel, own.past),
         }
     }
+}
+
+// Which part of a loop is meant.
+pub enum Part {
+    Fused,
+    Peeled,
+}
+
+// The part of a loop that block b has.
+fn part_of(
+    part: Part,
+    own: Range,
+    blk: Range,
+    processors: u32,
+    b: u32,
+    shift: u32,
+    peel: u32,
+) -> Range
+    requires { ⌜ (b < processors) × (blk .from + peel < 2 ^ 32) × (blk .past + peel < 2 ^ 32) ⌝ }
+    ensures { λ r. ⌜ r ≡ partOf part own blk processors b shift peel ⌝ }
+{
+    match part {
+        Part::Fused => fused_part(own, blk, processors, b, shift, peel),
+        Part::Peeled => peeled_part(own, blk, processors, b, shift, peel),
+    }
+}
+
+// The same for a loop from first to last.
+pub fn part_between(
+    part: Part,
+    first: u32,
+    last: u32,
+    blk: Range,
+    processors: u32,
+    b: u32,
+    shift: u32,
+    peel: u32,
+) -> Range
+    requires { ⌜ (b < processors) × (last < 2 ^ 31) × (blk .from + peel < 2 ^ 32) × (blk .past + peel < 2 ^ 32) ⌝ }
+    ensures { λ r. ⌜ r ≡ partOf part (record { from = first; past = suc last }) blk processors b shift peel ⌝ }
+{
+    let own = Range {
+        from: first,
+        past: last + 1,
+    };
+    part_of(part, own, blk, processors, b, shift, peel)
 }

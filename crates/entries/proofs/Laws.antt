@@ -27,7 +27,7 @@ use Rattle.tables.specs.Verdict as Verdict
 use Rattle.plans.specs.declared.Measured.{Measured}
 use Rattle.plans.specs.Plans.{Measures, Made, shiftOf, peelOf, planned, plannedFor}
 use Rattle.plans.specs.declared.Plan.{Plan}
-use Rattle.ranges.specs.declared.Part.{Part}
+use Rattle.blocks.specs.declared.Part.{Part}
 use Rattle.ranges.specs.Laid.{Laid, Some, laid, laid-for}
 use Rattle.ranges.specs.Code.{rangeOf, listOf, listIn}
 use Rattle.ranges.specs.Held.{listed-small, aligned, list-held, size-in}

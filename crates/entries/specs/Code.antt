@@ -10,7 +10,7 @@ use Rattle.blocks.specs.Blocks.{edge}
 use Rattle.numbers.specs.declared.Outcome.{Outcome}
 use Rattle.numbers.specs.Given.{Given, numbers, final, numberOf, placeOf, countOf}
 use Rattle.plans.specs.Plans.{plannedFor}
-use Rattle.ranges.specs.declared.Part.{Part}
+use Rattle.blocks.specs.declared.Part.{Part}
 use Rattle.ranges.specs.Code.{listIn}
 use Rattle.entries.specs.Entries.{after, pairsOf}
 

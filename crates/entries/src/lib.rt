@@ -1,9 +1,9 @@
 // Public entries on plans: the numbers asked for, four bytes each, in lent bytes; or a refusal, which leaves them as found.
+use blocks::Part;
 use blocks::block_of as block_in;
 use model::Iteration;
 use numbers::Outcome;
 use plans::Plan;
-use ranges::Part;
 use sweeps::sweeps_of as sweeps_in;
 ghost use mathlib.Core.Path.{_≡_};
 ghost use mathlib.Core.List.{_++_};

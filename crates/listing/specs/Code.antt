@@ -5,17 +5,13 @@ use Rattle.text.specs.Ascii.{ascii}
 use Rattle.blocks.specs.Sums.{column}
 use Rattle.blocks.specs.declared.Range.{Range}
 use Rattle.blocks.specs.Blocks.{block}
-use Rattle.blocks.specs.Parts.{fusedPart, peeledPart}
-use Rattle.listing.specs.declared.Part.{Part}
-use Rattle.listing.specs.declared.Part.the-variants.{Fused, Peeled}
+use Rattle.blocks.specs.Code.{partOf}
+use Rattle.blocks.specs.declared.Part.{Part}
+use Rattle.blocks.specs.declared.Part.the-variants.{Fused, Peeled}
 
 abbrev pub partName : Part → List ℕ
 partName Fused = ascii "fused"
 partName Peeled = ascii "peeled"
-
-abbrev pub partOf : Part → Range → Range → ℕ → ℕ → ℕ → ℕ → Range
-partOf Fused = fusedPart
-partOf Peeled = peeledPart
 
 -- a loop's own bounds, from the columns of its first and its last index
 abbrev pub ownOf : List ℕ → List ℕ → ℕ → Range

@@ -1,6 +1,7 @@
 // The listing: the lines of a plan, or the single line of a refusal, into lent bytes. What has no room is left out, and the answer
 // is the text's whole length, so a first call with no bytes tells how many are needed.
 
+use blocks::Part;
 use blocks::Range;
 use text::put_line_of_four;
 use text::put_line_of_three;
@@ -11,13 +12,8 @@ ghost use Rattle.text.specs.Written.{Put, Whole};
 ghost use Rattle.blocks.specs.Sums.{column};
 ghost use Rattle.blocks.specs.Blocks.{edge, block};
 ghost use Rattle.listing.specs.Listing.{loopLine, blockLine, rangeLine, each, rangeLines, listing, refusal};
-ghost use Rattle.listing.specs.Code.{partName, partOf, partRange, ownOf, Sizes};
-
-// Which parts of the loops the lines are of.
-enum Part {
-    Fused,
-    Peeled,
-}
+ghost use Rattle.listing.specs.Code.{partName, partRange, ownOf, Sizes};
+ghost use Rattle.blocks.specs.Code.{partOf};
 
 // How many loops and processors there are, and the indices that the blocks split: `count` of them from `first` on.
 struct Shape {
@@ -71,25 +67,6 @@ fn put_range(out: &mut [u8], at: usize, part: Part, b: u32, k: usize, from: u32,
     }
 }
 
-// The part of a loop that block b has.
-fn part_of(
-    part: Part,
-    own: Range,
-    blk: Range,
-    processors: u32,
-    b: u32,
-    shift: u32,
-    peel: u32,
-) -> Range
-    requires { ⌜ (b < processors) × (blk .from + peel < 2 ^ 32) × (blk .past + peel < 2 ^ 32) ⌝ }
-    ensures { λ r. ⌜ r ≡ partOf part own blk processors b shift peel ⌝ }
-{
-    match part {
-        Part::Fused => blocks::fused_part(own, blk, processors, b, shift, peel),
-        Part::Peeled => blocks::peeled_part(own, blk, processors, b, shift, peel),
-    }
-}
-
 // The range of loop k, with its bounds, its shift and its peel, in block b.
 fn put_part(
     out: &mut [u8],
@@ -107,11 +84,7 @@ fn put_part(
     requires { ⌜ (at < 2 ^ 32) × (b < processors) × (last < 2 ^ 31) × (blk .from + peel < 2 ^ 32) × (blk .past + peel < 2 ^ 32) ⌝ }
     ensures { λ r. ⌜ Put (now (out .entry)) at (rangeLine (partName part) b k (partOf part (record { from = first; past = suc last }) blk processors b shift peel)) 100 (now (out .exit)) r ⌝ }
 {
-    let own = Range {
-        from: first,
-        past: last + 1,
-    };
-    let r = part_of(part, own, blk, processors, b, shift, peel);
+    let r = blocks::part_between(part, first, last, blk, processors, b, shift, peel);
     let from = r.from;
     let past = r.past;
     put_range(out, at, part, b, k, from, past)

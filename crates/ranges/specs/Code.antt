@@ -7,19 +7,14 @@ use Rattle.model.specs.declared.Iteration.{Iteration}
 use Rattle.blocks.specs.declared.Range.{Range}
 use Rattle.blocks.specs.Sums.{column}
 use Rattle.blocks.specs.Blocks.{block}
-use Rattle.blocks.specs.Parts.{fusedPart, peeledPart}
+use Rattle.blocks.specs.Code.{partOf}
 use Rattle.lists.specs.Lists.{fusedColumns, peeledColumns}
 use Rattle.lists.specs.Fusion.{fusedRange, peeledRange, fusedList, peeledList}
 use Rattle.plans.specs.declared.Plan.{Plan}
 use Rattle.plans.specs.Plans.{planOf}
 use Rattle.ranges.specs.Laid.{Laid}
-use Rattle.ranges.specs.declared.Part.{Part}
-use Rattle.ranges.specs.declared.Part.the-variants.{Fused, Peeled}
-
--- a loop's fused or peeled part
-abbrev pub partOf : Part → Range → Range → ℕ → ℕ → ℕ → ℕ → Range
-partOf Fused = fusedPart
-partOf Peeled = peeledPart
+use Rattle.blocks.specs.declared.Part.{Part}
+use Rattle.blocks.specs.declared.Part.the-variants.{Fused, Peeled}
 
 -- the part of loop k that block b has
 abbrev pub rangeOf : Part → Plan → ℕ → List ℕ → List ℕ → ℕ → ℕ → Range

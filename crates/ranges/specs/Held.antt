@@ -20,10 +20,11 @@ use Rattle.lists.specs.Below.{lengths, by-sums-length, by-loops-length}
 use Rattle.lists.specs.Fusion.{fused-list, peeled-list, fusedRange, peeledRange, fused-columns, peeled-columns}
 use Rattle.plans.specs.declared.Plan.{Plan}
 use Rattle.plans.specs.Plans.{planOf}
-use Rattle.ranges.specs.declared.Part.{Part}
-use Rattle.ranges.specs.declared.Part.the-variants.{Fused, Peeled}
+use Rattle.blocks.specs.declared.Part.{Part}
+use Rattle.blocks.specs.declared.Part.the-variants.{Fused, Peeled}
 use Rattle.ranges.specs.Laid.{Laid, Some}
-use Rattle.ranges.specs.Code.{partOf, rangeOf, rangeIn, listOf, listIn, range-in}
+use Rattle.ranges.specs.Code.{rangeOf, rangeIn, listOf, listIn, range-in}
+use Rattle.blocks.specs.Code.{partOf}
 
 -- the n-th of a list stands in it
 nth-mem : {A : Type 0} (xs : List A) (d : A) (n : ℕ) → n < length xs → Mem (getD xs n d) xs

@@ -1,5 +1,5 @@
 // The ranges that a plan's loops have in one block, and the two lists of those ranges: their lengths, and their n-th iteration.
-use blocks::Range;
+use blocks::Part;
 use model::Iteration;
 use plans::Plan;
 ghost use mathlib.Core.Path.{_≡_};
@@ -12,7 +12,7 @@ ghost use Rattle.lists.specs.Below.{lengths};
 ghost use Rattle.lists.specs.Fusion.{fusedRange, peeledRange, fusedList, peeledList};
 ghost use Rattle.plans.specs.Plans.{planOf};
 ghost use Rattle.ranges.specs.Laid.{Laid, Some};
-ghost use Rattle.ranges.specs.Code.{partOf, rangeOf, listOf, listIn};
+ghost use Rattle.ranges.specs.Code.{rangeOf, listOf, listIn};
 
 // Loop k has the indices from froms[k] up to pasts[k], pasts[k] not among them.
 pub struct Ranges {
@@ -24,52 +24,6 @@ pub struct Ranges {
 pub struct Lengths {
     pub fused: [u32; 64],
     pub peeled: [u32; 64],
-}
-
-// Which part of the loops is asked for.
-pub enum Part {
-    Fused,
-    Peeled,
-}
-
-// The part of a loop that block b has.
-fn part_of(
-    part: Part,
-    own: Range,
-    blk: Range,
-    processors: u32,
-    b: u32,
-    shift: u32,
-    peel: u32,
-) -> Range
-    requires { ⌜ (b < processors) × (blk .from + peel < 2 ^ 32) × (blk .past + peel < 2 ^ 32) ⌝ }
-    ensures { λ r. ⌜ r ≡ partOf part own blk processors b shift peel ⌝ }
-{
-    match part {
-        Part::Fused => blocks::fused_part(own, blk, processors, b, shift, peel),
-        Part::Peeled => blocks::peeled_part(own, blk, processors, b, shift, peel),
-    }
-}
-
-// The same for a loop from first to last.
-fn part_between(
-    part: Part,
-    first: u32,
-    last: u32,
-    blk: Range,
-    processors: u32,
-    b: u32,
-    shift: u32,
-    peel: u32,
-) -> Range
-    requires { ⌜ (b < processors) × (last < 2 ^ 31) × (blk .from + peel < 2 ^ 32) × (blk .past + peel < 2 ^ 32) ⌝ }
-    ensures { λ r. ⌜ r ≡ partOf part (record { from = first; past = suc last }) blk processors b shift peel ⌝ }
-{
-    let own = Range {
-        from: first,
-        past: last + 1,
-    };
-    part_of(part, own, blk, processors, b, shift, peel)
 }
 
 // The ranges of the loops in block b.
@@ -93,7 +47,7 @@ pub fn ranges_of(
     let mut pasts = [0u32; 16];
     let mut k: usize = 0;
     while k < p.loops {
-        let r = part_between(
+        let r = blocks::part_between(
             part,
             firsts[k],
             lasts[k],

@@ -3,7 +3,7 @@ use mathlib.Core.Path.{_∙_}
 use native.Mathlib.Omega.{arith}
 use denote.Ref.{now}
 use Rattle.ranges.specs.Code.{range-in}
-use Rattle.ranges.specs.declared.Part.the-variants.{Fused}
+use Rattle.blocks.specs.declared.Part.the-variants.{Fused}
 use borrow.Author.Needs.{needs}
 use Rattle.ranges.proofs.fused_ranges.Statement.{statement}
 use Rattle.ranges.proofs.fused_ranges.Tie as tie

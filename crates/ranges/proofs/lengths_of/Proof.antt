@@ -6,7 +6,7 @@ use native.Mathlib.Omega.{arith}
 use denote.Ref.{now}
 use Prim.Native.Nat.{_-_}
 use Rattle.lists.specs.Below.{lengths}
-use Rattle.ranges.specs.declared.Part.the-variants.{Fused, Peeled}
+use Rattle.blocks.specs.declared.Part.the-variants.{Fused, Peeled}
 use Rattle.ranges.specs.Code.{rangeOf}
 use Rattle.ranges.proofs.lengths_of.Statement.{statement}
 use Rattle.ranges.proofs.lengths_of.Tie as tie

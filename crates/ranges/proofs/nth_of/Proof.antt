@@ -2,7 +2,7 @@ use denote.Ref.{now}
 use mathlib.Core.Path.{subst}
 use Prim.Native.Nat.{_<_}
 use lib.ListN.{length}
-use Rattle.ranges.specs.declared.Part.{Part}
+use Rattle.blocks.specs.declared.Part.{Part}
 use Rattle.ranges.specs.Code.{listOf}
 use borrow.Author.Needs.{needs}
 use Rattle.ranges.proofs.nth_of.Statement.{statement}

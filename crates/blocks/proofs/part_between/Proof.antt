@@ -1,7 +1,7 @@
 use native.Mathlib.Numerals.{add-one}
 use borrow.Author.Needs.{needs}
-use Rattle.ranges.proofs.part_between.Statement.{statement}
-use Rattle.ranges.proofs.part_between.Tie as tie
+use Rattle.blocks.proofs.part_between.Statement.{statement}
+use Rattle.blocks.proofs.part_between.Tie as tie
 
 add-t10 : tie.Need-add-t10
 add-t10 c = search needs

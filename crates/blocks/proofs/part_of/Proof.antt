@@ -1,6 +1,6 @@
 use borrow.Author.Needs.{needs}
-use Rattle.listing.proofs.part_of.Statement.{statement}
-use Rattle.listing.proofs.part_of.Tie as tie
+use Rattle.blocks.proofs.part_of.Statement.{statement}
+use Rattle.blocks.proofs.part_of.Tie as tie
 
 enum-told : tie.Need-enum-told
 enum-told c = search needs
