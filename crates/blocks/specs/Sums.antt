@@ -1,5 +1,5 @@
 -- The sum, the largest and the least of h 0, .., h (n - 1); and whether some of them passes a test. Assumes nothing.
-use mathlib.Core.Path.{_≡_, refl, ap}
+use mathlib.Core.Path.{_≡_, refl, ap, subst}
 use mathlib.Core.Bool.{Bool, true, false, false≢true, _||_}
 use mathlib.Core.List.{List}
 use Prim.Native.Nat.{ℕ, zero, suc, _+_, _≤_, _<_, min, max}
@@ -50,6 +50,19 @@ total-up m (suc n) h l = go (ℕ-discrete m (suc n)) (total-up m n h)
     go : Dec (m ≡ suc n) → (m ≤ n → total m h ≤ total n h) → total m h ≤ total (suc n) h
     go (yes e) ih = omega (arith, ap (λ (k : ℕ). total k h) e)
     go (no e) ih = omega (arith, ih (omega arith))
+
+-- less in one place, and nowhere more
+pub total-less : (n b : ℕ) (g h : ℕ → ℕ) → ((k : ℕ) → g k ≤ h k) → b < n → g b < h b → total n g < total n h
+total-less zero b g h le l s = absurd (omega arith)
+total-less (suc n) b g h le l s = go (ℕ-discrete b n) (total-less n b g h le)
+  where
+    at-most : (m : ℕ) → total m g ≤ total m h
+    at-most zero = omega arith
+    at-most (suc m) = omega (arith, at-most m, le m)
+
+    go : Dec (b ≡ n) → (b < n → g b < h b → total n g < total n h) → total (suc n) g < total (suc n) h
+    go (yes e) ih = omega (arith, at-most n, subst (λ (k : ℕ). g k < h k) e s)
+    go (no e) ih = omega (arith, ih (omega arith) s, le n)
 
 pub total-next : (k : ℕ) (h : ℕ → ℕ) (sum x : ℕ) → sum ≡ total k h → x ≡ h k → sum + x ≡ total (k + 1) h
 total-next k h sum x e q = rw add-one (omega arith)

@@ -2,7 +2,6 @@
 use Prim.Native.Nat.{ℕ, zero, suc, _+_, _≤_, _<_}
 use native.Mathlib.Omega.{arith}
 use mathlib.Core.Path.{_≡_, refl, sym, ap, subst, _∙_}
-use mathlib.Core.Logic.{inl, inr, ⊎-elim}
 use mathlib.Core.Bool.{Bool, true, false, false≢true, cond}
 use mathlib.Core.List.{List, [], _∷_, List·Memᴰ·not-nil}
 use mathlib.Core.List.{List·Memᴰ as Mem, List·Memᴰ·head as mhere}
@@ -10,8 +9,8 @@ use lib.Dec.{ltb}
 use borrow.Author.Tests.{ltb-true, ltb-false, eq-eqb}
 use lib.ListN.{length, length-append}
 use lib.Ieee.{Float}
-use Rattle.order.specs.Lists.{Tested, joined, pick-length, perm-length}
-use Rattle.order.specs.Machine.{Plan, left, left-size, left-rest, left-next, rest, rest-next, open?, next, bump, trace, final, zeros, runs, run-perm}
+use Rattle.order.specs.Lists.{pick-length, perm-length}
+use Rattle.order.specs.Machine.{Plan, left, left-size, left-rest, left-next, rest, rest-next, next, bump, trace, final, zeros, runs, run-perm}
 use Rattle.order.specs.Machine.{count as machine-count}
 use Rattle.order.specs.Machine as Machine
 use Rattle.order.specs.Exists.{Ready, some-ready, nothing}
@@ -19,7 +18,7 @@ use Rattle.model.specs.declared.Iteration.{Iteration}
 use Rattle.model.specs.Table.{Table}
 use Rattle.reader.specs.Reading.{accepted}
 use Rattle.blocks.specs.Sums.{column, total-same}
-use Rattle.blocks.specs.Sums.{total as sumOf}
+use Rattle.lists.specs.Joined.{length-joined}
 use Rattle.lists.specs.Fusion.{phase}
 use Rattle.rows.specs.Theorem as rows
 use Rattle.plans.specs.Plans.{planOf, planned}
@@ -30,7 +29,7 @@ use Rattle.stepping.specs.declared.Report.the-variants.{Refused, Performed, Wai
 use Rattle.stepping.specs.Step.{After, fused, peeled, turn, step}
 use Rattle.stepping.specs.Row.{noneDone, reports, countsAfter, memoryAfter, performing, lowest, canStep, closing, listed, rowOf, runAnswer, memoryOf, runMemory, lowest-holds, lowest-none, counts-append}
 use Rattle.stepping.specs.Reach.{Reachable, none-reachable, turn-reachable, turn-length, step-turn}
-use Rattle.calls.specs.Turns.{done, machine, turn-next, turn-counts}
+use Rattle.calls.specs.Turns.{done, machine, next-open, turn-next, turn-counts}
 use Rattle.calls.specs.Rows.{few, wide, follows}
 use Rattle.calls.specs.AnyRow.{Complete, mem-performed, row-is, any-row, none-is}
 
@@ -50,10 +49,6 @@ done-performing (Performed k i) x e = refl
 done-performing Waiting x e = nil-cons x e
 done-performing Finished x e = nil-cons x e
 
-joined-length : {A : Type 0} (n : ℕ) (f : ℕ → List A) → length (joined n f) ≡ sumOf n (λ b. length (f b))
-joined-length zero f = refl
-joined-length (suc n) f = omega (arith, length-append (joined n f) (f n), joined-length n f)
-
 module _ (s : List ℕ) (P : ℕ) (t : Table) (planned-is : planned s P ≡ accepted t) where
   abbrev M : Plan Iteration
   M = machine t P (few s P t planned-is) (wide s P t planned-is)
@@ -70,12 +65,8 @@ module _ (s : List ℕ) (P : ℕ) (t : Table) (planned-is : planned s P ≡ acce
         able : Ready M (column cs) → ⊥
         able (b, x, l, e, o) =
             let proper : b < P = left-size M (column cs) b {x = x} (rw e (mhere refl)) in
-            let q = turn-next t P (few s P t planned-is) (wide s P t planned-is) cs b proper m ∙ ap (next M (column cs)) e ∙ opened (open? M (column cs) (phase t (planOf t P) x)) in
+            let q = turn-next t P (few s P t planned-is) (wide s P t planned-is) cs b proper m ∙ ap (next M (column cs)) e ∙ next-open t P (few s P t planned-is) (wide s P t planned-is) cs x l o in
             false≢true (sym (none b proper) ∙ can-turn b proper ∙ done-performing (turn t P b cs m .report) x q)
-          where
-            opened : (w : Tested (λ y. phase t (planOf t P) x ≤ phase t (planOf t P) y) (rest M (column cs))) → ⊎-elim (λ o. x ∷ []) (λ o. []) w ≡ x ∷ []
-            opened (inl w) = refl
-            opened (inr (y, h, early)) = absurd (early (o y h))
 
         go : (k : List Iteration) → rest M (column cs) ≡ k → k ≡ []
         go [] e = refl
@@ -123,7 +114,7 @@ module _ (s : List ℕ) (P : ℕ) (t : Table) (planned-is : planned s P ≡ acce
   -- all lists together have as many iterations as the machine has to do
   all-listed : length (rest M zeros) ≡ listed s P t
   all-listed =
-      joined-length P (left M zeros)
+      length-joined (left M zeros) P
       ∙ total-same P (λ b. length (left M zeros b)) (λ b. length (fused t P b) + length (peeled t P b))
       (λ b l. ap length (rows.list-of t (planOf t P) (wide s P t planned-is) b l) ∙ length-append (fused t P b) (peeled t P b))
 

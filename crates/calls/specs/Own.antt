@@ -1,6 +1,6 @@
 -- Each processor keeps its own list's order: the calls that name it have reported, in order, the first of its fused list and then its peeled
 -- list, as many as its count says. Of every row, complete or not.
-use Prim.Native.Nat.{ℕ, suc, _+_, _-_, _<_}
+use Prim.Native.Nat.{ℕ, suc, _-_, _<_}
 use native.Mathlib.Omega.{arith}
 use native.Mathlib.Decide.{ℕ-discrete}
 use mathlib.Core.Path.{_≡_, refl, sym, ap, subst, _∙_}
@@ -8,7 +8,7 @@ use mathlib.Core.Logic.{_≢_}
 use mathlib.Core.List.{List, [], _∷_, _++_, append-assoc}
 use borrow.Author.Tests.{eq-eqb, ne-eqb}
 use lib.ListN.{length, getD, set, drop, length-append, List·getD-append}
-use lib.Seq.{drop-cons, getD-append-add}
+use lib.Seq.{drop-cons}
 use lib.Ieee.{Float}
 use Rattle.order.specs.Lists.{put-other}
 use Rattle.order.specs.Machine.{count}
@@ -20,7 +20,7 @@ use Rattle.plans.specs.Plans.{planned}
 use Rattle.iterations.specs.Memory.{total}
 use Rattle.stepping.specs.Step.{After, fused, peeled, turn, step}
 use Rattle.stepping.specs.Row.{noneDone, countsAfter, reportsTo}
-use Rattle.stepping.specs.Reach.{Reachable, Turn, early, waits, late, ends, turn-is, bumped-same, none-done, none-reachable, step-turn}
+use Rattle.stepping.specs.Reach.{late-nth, Reachable, Turn, early, waits, late, ends, turn-is, bumped-same, none-done, none-reachable, step-turn}
 use Rattle.calls.specs.Turns.{done, machine}
 use Rattle.calls.specs.Rows.{performed, few, wide, called}
 
@@ -46,9 +46,8 @@ module _ (s : List ℕ) (P : ℕ) (t : Table) (planned-is : planned s P ≡ acce
           (List·getD-append (fused t P d) (peeled t P d) (iteration 0 0) (column cs d) h)
       go a (waits f e) = refl
       go a (late f e h) =
-          let z : column cs d ≡ length (fused t P d) + (column cs d - length (fused t P d)) = omega arith in
           first (getD (peeled t P d) (column cs d - length (fused t P d)) (iteration 0 0)) (omega (arith, length-append (fused t P d) (peeled t P d)))
-          (ap (λ (n : ℕ). getD whole n (iteration 0 0)) z ∙ getD-append-add (fused t P d) (peeled t P d) (column cs d - length (fused t P d)) (iteration 0 0))
+          (late-nth t P d (column cs d) f)
       go a (ends f e h) = refl
 
   -- and no other call touches its count

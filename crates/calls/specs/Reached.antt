@@ -2,7 +2,7 @@
 use Prim.Native.Nat.{ℕ, zero, suc, _-_, _≤_, _<_}
 use native.Mathlib.Omega.{arith}
 use native.Mathlib.Decide.{ℕ-discrete, decLt}
-use mathlib.Core.Path.{_≡_, refl, sym, ap, subst, _∙_}
+use mathlib.Core.Path.{_≡_, refl, sym, ap, _∙_}
 use mathlib.Core.Logic.{_≢_}
 use mathlib.Core.Bool.{Bool, true, false}
 use mathlib.Core.List.{List, [], _∷_, _++_}
@@ -13,25 +13,13 @@ use lib.Seq.{getD-set-same, getD-set-other, set-set, set-getD, ext-getD}
 use lib.Ieee.{Float}
 use Rattle.model.specs.Table.{Table}
 use Rattle.reader.specs.Reading.{accepted}
-use Rattle.blocks.specs.Sums.{column, total, some, some-which, some-each}
+use Rattle.blocks.specs.Sums.{column, total, total-less, some, some-which, some-each}
 use Rattle.plans.specs.Plans.{planned}
 use Rattle.iterations.specs.Memory.{total as elements}
 use Rattle.stepping.specs.Step.{After, fused, peeled, turn, step}
 use Rattle.stepping.specs.Row.{noneDone, countsAfter, memoryAfter, counts-append}
 use Rattle.stepping.specs.Reach.{Opened, Reachable, opened-closed, none-done, none-reachable, step-turn}
 use Rattle.calls.specs.Rows.{few, follows}
-
-total-less : (n b : ℕ) (g h : ℕ → ℕ) → ((k : ℕ) → g k ≤ h k) → b < n → g b < h b → total n g < total n h
-total-less zero b g h le l s = absurd (omega arith)
-total-less (suc n) b g h le l s = go (ℕ-discrete b n) (total-less n b g h le)
-  where
-    at-most : (m : ℕ) → total m g ≤ total m h
-    at-most zero = omega arith
-    at-most (suc m) = omega (arith, at-most m, le m)
-
-    go : Dec (b ≡ n) → (b < n → g b < h b → total n g < total n h) → total (suc n) g < total (suc n) h
-    go (yes e) ih = omega (arith, at-most n, subst (λ (k : ℕ). g k < h k) e s)
-    go (no e) ih = omega (arith, ih (omega arith) s, le n)
 
 module _ (t : Table) (P : ℕ) (most : P ≤ 64) (cs : List ℕ) (r : Reachable t P cs) (b : ℕ) (proper : b < P) (some-done : 0 < column cs b) where
   -- one less of processor b

@@ -77,7 +77,7 @@ module _ (t : Table) (P : ℕ) (few : P ≤ 64) (wide : Wide t (planOf t P)) whe
     Goal b d = d ≡ next machine (column cs) (left machine (column cs) b)
 
     -- the machine's next action, where the barrier before it is open, and where it is not
-    next-open : (x : Iteration) (l : List Iteration) → ((y : Iteration) → Mem y (rest machine (column cs)) → phase t (planOf t P) x ≤ phase t (planOf t P) y)
+    pub next-open : (x : Iteration) (l : List Iteration) → ((y : Iteration) → Mem y (rest machine (column cs)) → phase t (planOf t P) x ≤ phase t (planOf t P) y)
         → next machine (column cs) (x ∷ l) ≡ x ∷ []
     next-open x l o = go (open? machine (column cs) (phase t (planOf t P) x))
       where

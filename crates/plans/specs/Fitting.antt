@@ -25,7 +25,7 @@ pub record Fits (s : List ℕ) (P : ℕ) (t : Table) : Type 0 where
   pub few : P ≤ 64
   pub wide : isShort (tableSpan t .count) P (thresholdOf t) ≡ false
 
-neither : (a b : Bool) → (a || b) ≡ false → (a ≡ false) × (b ≡ false)
+pub neither : (a b : Bool) → (a || b) ≡ false → (a ≡ false) × (b ≡ false)
 neither true b e = absurd (false≢true (let z : false ≡ true = cc in z))
 neither false b e = (refl, e)
 

@@ -1,12 +1,11 @@
 -- What a step's report says.
-use Prim.Native.Nat.{ℕ, _+_, _-_, _≤_, _<_}
+use Prim.Native.Nat.{ℕ, _+_, _≤_, _<_}
 use native.Mathlib.Omega.{arith}
 use mathlib.Core.Path.{_≡_, refl, sym, ap, _∙_, subst}
 use mathlib.Core.Logic.{_⊎_, inl, inr, ⊎-elim}
 use mathlib.Core.Bool.{Bool, true, false}
 use mathlib.Core.List.{List, _++_, List·Memᴰ·append-cases}
 use lib.ListN.{length, getD, length-append, List·getD-append}
-use lib.Seq.{getD-append-add}
 use lib.Ieee.{Float}
 use Rattle.order.specs.Lists.{nth-mem}
 use Rattle.model.specs.declared.Iteration.{Iteration}
@@ -22,7 +21,7 @@ use Rattle.iterations.specs.Memory.{total, remembered, remembered-accepted}
 use Rattle.stepping.specs.declared.Report.{Report}
 use Rattle.stepping.specs.declared.Report.the-variants.{Refused, Performed, Waiting, Finished}
 use Rattle.stepping.specs.Step.{After, stays, fused, peeled, wrongState, turn, stepped, step}
-use Rattle.stepping.specs.Reach.{Opened, Turn, early, waits, late, ends, turn-is, closed-opened, closed-which}
+use Rattle.stepping.specs.Reach.{late-nth, Opened, Turn, early, waits, late, ends, turn-is, closed-opened, closed-which}
 
 -- a call is refused and changes nothing, or it is a turn of an accepted table, P, memory and state
 pub record Accepts (s : List ℕ) (P b : ℕ) (cs : List ℕ) (m : List Float) (t : Table) : Type 0 where
@@ -90,13 +89,7 @@ module _ (s : List ℕ) (P b : ℕ) (cs : List ℕ) (m : List Float) where
       by t a (early h) q =
           (omega (arith, length-append (fused t P b) (peeled t P b)), List·getD-append (fused t P b) (peeled t P b) (iteration 0 0) (column cs b) h ∙ ap named q)
       by t a (waits f c) q = absurd (omega (arith, ap tag q))
-      by t a (late f c h) q =
-          let z : column cs b ≡ length (fused t P b) + (column cs b - length (fused t P b)) = omega arith in (
-            omega (arith, length-append (fused t P b) (peeled t P b)),
-            ap (λ (n : ℕ). getD (fused t P b ++ peeled t P b) n (iteration 0 0)) z
-                ∙ getD-append-add (fused t P b) (peeled t P b) (column cs b - length (fused t P b)) (iteration 0 0)
-                ∙ ap named q,
-          )
+      by t a (late f c h) q = (omega (arith, length-append (fused t P b) (peeled t P b)), late-nth t P b (column cs b) f ∙ ap named q)
       by t a (ends f c h) q = absurd (omega (arith, ap tag q))
 
   -- waiting: its fused list is used up, and another's is not

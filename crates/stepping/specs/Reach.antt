@@ -2,20 +2,20 @@
 use Prim.Native.Nat.{ℕ, zero, suc, _+_, _-_, _≤_, _<_}
 use native.Mathlib.Omega.{arith}
 use native.Mathlib.Decide.{ℕ-discrete, decLt}
-use mathlib.Core.Path.{_≡_, refl, sym, subst, _∙_}
-use mathlib.Core.Bool.{Bool, true, false, false≢true, _&&_, _||_, or-true}
+use mathlib.Core.Path.{_≡_, refl, subst, _∙_, ap}
+use mathlib.Core.Bool.{Bool, true, false, _&&_, or-true}
 use mathlib.Core.Logic.{_≢_}
-use mathlib.Core.List.{List}
+use mathlib.Core.List.{List, _++_}
 use lib.Dec.{ltb}
 use borrow.Author.Tests.{ltb-true, ltb-false, lt-ltb, le-ltb, le-leb, eq-eqb}
 use lib.ListN.{length, getD, set, length-set}
-use lib.Seq.{getD-set-same, getD-set-other}
+use lib.Seq.{getD-append-add, getD-set-same, getD-set-other}
 use lib.Ieee.{Float}
 use Rattle.model.specs.Table.{Table, iteration}
 use Rattle.reader.specs.Reading.{accepted}
 use Rattle.blocks.specs.Sums.{column, some-none, some-which, some-each}
 use Rattle.plans.specs.Plans.{fitting, badProcessors, planned, plannedFor}
-use Rattle.plans.specs.Fitting.{planned-fits, named-below}
+use Rattle.plans.specs.Fitting.{neither, planned-fits, named-below}
 use Rattle.iterations.specs.Memory.{total, remembered, run-length}
 use Rattle.stepping.specs.declared.Report.the-variants.{Refused, Waiting, Finished}
 use Rattle.stepping.specs.Step.{After, stays, fused, peeled, closed, wrongCount, wrongState, performs, turn, stepped, step}
@@ -72,10 +72,6 @@ module _ (t : Table) (P : ℕ) where
   unfolding wrongCount
   right-count cs b e = (inside, λ l. let f = rw (le-ltb b P l) at e in omega (arith, ltb-false 0 (column cs b) f))
     where
-      neither : (x y : Bool) → (x || y) ≡ false → (x ≡ false) × (y ≡ false)
-      neither true y q = absurd (false≢true (sym q))
-      neither false y q = (refl, q)
-
       inside : b < P → (column cs b ≤ length (fused t P b) + length (peeled t P b)) × (length (fused t P b) < column cs b → Opened cs)
       inside l =
           let f = rw (lt-ltb b P l) at e in
@@ -179,6 +175,14 @@ module _ (t : Table) (P : ℕ) where
       go a (waits f e) = refl
       go a (late f e l) = run-length t (getD (peeled t P b) (column cs b - length (fused t P b)) (iteration 0 0)) m
       go a (ends f e l) = refl
+
+-- the lists of a processor, one after the other: past the fused list stands the peeled one
+pub late-nth : (t : Table) (P b n : ℕ) → length (fused t P b) ≤ n
+    → getD (fused t P b ++ peeled t P b) n (iteration 0 0) ≡ getD (peeled t P b) (n - length (fused t P b)) (iteration 0 0)
+late-nth t P b n l =
+    let z : n ≡ length (fused t P b) + (n - length (fused t P b)) = omega arith in
+    ap (λ (k : ℕ). getD (fused t P b ++ peeled t P b) k (iteration 0 0)) z
+    ∙ getD-append-add (fused t P b) (peeled t P b) (n - length (fused t P b)) (iteration 0 0)
 
 -- the first call's counts
 column-zeros : (n b : ℕ) → column (zeros n) b ≡ 0

@@ -50,8 +50,13 @@ fn compare(name: &str, tables: &[Table]) {
     measure::print(name, "table", &listings(tables, PROCESSORS));
 }
 
-/// The listings of tables by both.
-pub fn listings(tables: &[Table], processors: u32) -> Pair {
+/// Every table by both, as bytes; the library's side also gets room for its
+/// output.
+fn beside<A, B>(
+    tables: &[Table],
+    mut ours: impl FnMut(&[u8], &mut [u8]) -> A,
+    mut theirs: impl FnMut(&[u8]) -> B,
+) -> Pair {
     let made: Vec<Vec<u8>> = tables.iter().map(encode).collect();
     let mut out = vec![0; ROOM];
     measure::beside(
@@ -59,55 +64,42 @@ pub fn listings(tables: &[Table], processors: u32) -> Pair {
         made.len(),
         || {
             for table in &made {
-                black_box(library::listing(black_box(table), processors, &mut out));
+                black_box(ours(black_box(table), &mut out));
             }
         },
         || {
             for table in &made {
-                black_box(listing(black_box(table), processors));
+                black_box(theirs(black_box(table)));
             }
         },
     )
 }
 
+/// The listings of tables by both.
+pub fn listings(tables: &[Table], processors: u32) -> Pair {
+    beside(
+        tables,
+        |table, out| library::listing(table, processors, out),
+        |table| listing(table, processors),
+    )
+}
+
 /// Reading the table and finding shifts and peels, without any text.
 fn compare_amounts(name: &str, tables: &[Table]) {
-    let made: Vec<Vec<u8>> = tables.iter().map(encode).collect();
-    let mut out = vec![0; ROOM];
-    let pair = measure::beside(
-        ROUNDS,
-        made.len(),
-        || {
-            for table in &made {
-                black_box(library::shifts_and_peels(black_box(table), &mut out));
-            }
-        },
-        || {
-            for table in &made {
-                black_box(outputs::shifts_and_peels(black_box(table), ROOM)).ok();
-            }
-        },
+    let pair = beside(
+        tables,
+        |table, out| library::shifts_and_peels(table, out),
+        |table| outputs::shifts_and_peels(table, ROOM),
     );
     measure::print(name, "table", &pair);
 }
 
 /// The plan of each table and its blocks, without any text.
 fn plans(tables: &[Table]) -> Pair {
-    let made: Vec<Vec<u8>> = tables.iter().map(encode).collect();
-    let mut out = vec![0; ROOM];
-    measure::beside(
-        ROUNDS,
-        made.len(),
-        || {
-            for table in &made {
-                black_box(library::blocks(black_box(table), PROCESSORS, &mut out));
-            }
-        },
-        || {
-            for table in &made {
-                black_box(outputs::blocks(black_box(table), PROCESSORS, ROOM)).ok();
-            }
-        },
+    beside(
+        tables,
+        |table, out| library::blocks(table, PROCESSORS, out),
+        |table| outputs::blocks(table, PROCESSORS, ROOM),
     )
 }
 
