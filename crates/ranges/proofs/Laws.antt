@@ -1,15 +1,23 @@
--- Columns that are filled from the front: with ranges, and with lengths.
-use Prim.Native.Nat.{ℕ, _+_, _≤_, _<_}
+-- Columns that are filled from the front: with ranges, and with lengths; and lengths added up.
+use Prim.Native.Nat.{ℕ, suc, _+_, _-_, _≤_, _<_}
 use native.Mathlib.Omega.{arith}
 use native.Mathlib.Decide.{ℕ-discrete}
-use mathlib.Core.Path.{_≡_, refl, _∙_}
+use mathlib.Core.Path.{_≡_, refl, ap, _∙_}
 use mathlib.Core.List.{List}
 use lib.ListN.{length, set, replicate, length-set}
 use lib.Seq.{getD-set-same, getD-set-other}
 use Rattle.chains.specs.Walk.{zeros}
 use Rattle.blocks.specs.declared.Range.{Range}
-use Rattle.blocks.specs.Sums.{column}
+use Rattle.blocks.specs.Sums.{column, total-up, total-next}
+use Rattle.blocks.specs.Blocks.{block}
+use Rattle.blocks.specs.Code.{partOf}
+use Rattle.blocks.specs.declared.Part.{Part}
 use Rattle.lists.specs.Lists.{ranges}
+use Rattle.lists.specs.Below.{lengths}
+use Rattle.plans.specs.declared.Plan.{Plan}
+use Rattle.ranges.specs.Laid.{Some}
+use Rattle.ranges.specs.Code.{rangeOf}
+use Rattle.ranges.specs.Held.{lengths-fit}
 
 -- the first k hold h 0, .., h (k - 1)
 pub record Holds (size : ℕ) (h : ℕ → ℕ) (xs : List ℕ) (k : ℕ) : Type 0 where
@@ -34,6 +42,29 @@ small-next most xs k x f l e j = go (ℕ-discrete j k)
     go : Dec (j ≡ k) → column (set xs k x) j ≤ most
     go (yes q) = rw q (omega (arith, getD-set-same xs k x 0 l))
     go (no q) = omega (arith, getD-set-other xs k j x 0 q, f j)
+
+-- a loop's part of a block is its range
+pub range-held : (part : Part) (p : Plan) (P : ℕ) (firsts lasts : List ℕ) (b k : ℕ) (blk r : Range) → blk ≡ block (p .first) (p .count) P b
+    → r ≡ partOf part (record { from = column firsts k; past = suc (column lasts k) }) blk P b (column (p .amounts .shifts) k) (column (p .amounts .peels) k)
+    → r ≡ rangeOf part p P firsts lasts b k
+range-held part p P firsts lasts b k blk r e q = rw e at q
+
+-- the lengths of the first k ranges, added up
+module _ (P : ℕ) (p : Plan) (firsts lasts : List ℕ) (h : Some P p firsts lasts) (part : Part) (b : ℕ) where
+  abbrev range : ℕ → Range
+  range = rangeOf part p P firsts lasts b
+
+  pub sum-next : (k sum x : ℕ) (r : Range) → k < p .loops → sum ≡ lengths k range → r ≡ range k → x ≡ r .past - r .from
+      → (sum + x ≡ lengths (k + 1) range) × (sum + x ≤ 1052656)
+  sum-next k sum x r l e f q =
+      let z = total-next k (λ j. range j .past - range j .from) sum x e (q ∙ ap (λ (y : Range). y .past - y .from) f) in
+      (z, omega (arith, z, total-up (k + 1) (p .loops) (λ j. range j .past - range j .from) (omega arith), lengths-fit P p firsts lasts h part b))
+
+  pub sum-end : (sum k : ℕ) → k ≤ p .loops → p .loops ≤ k → sum ≡ lengths k range → (sum ≡ lengths (p .loops) range) × (sum ≤ 1052656)
+  sum-end sum k l i e =
+      let q : k ≡ p .loops = omega arith in
+      let z : sum ≡ lengths (p .loops) range = rw q at e in
+      (z, omega (arith, z, lengths-fit P p firsts lasts h part b))
 
 -- the ranges of the first k loops
 abbrev pub Filled : (ℕ → Range) → List ℕ → List ℕ → ℕ → Type 0

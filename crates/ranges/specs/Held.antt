@@ -1,13 +1,14 @@
 -- What is known of the columns that hold a plan: bounds, and the lists that their ranges give.
 use Prim.Native.Nat.{ℕ, zero, suc, _+_, _-_, _*_, _≤_, _<_, _^_, min, max}
 use native.Mathlib.Omega.{arith}
-use mathlib.Core.Path.{_≡_, refl, sym, ap, _∙_}
+use mathlib.Core.Path.{_≡_, sym, ap, _∙_}
 use mathlib.Core.Bool.{Bool, true, false, cond}
-use mathlib.Core.List.{List, [], _∷_}
-use mathlib.Core.List.{List·Memᴰ as Mem, List·Memᴰ·head as mhere, List·Memᴰ·tail as mthere}
+use mathlib.Core.List.{List}
+use mathlib.Core.List.{List·Memᴰ as Mem}
 use lib.Dec.{eqb}
 use lib.ListN.{length, getD, take, length-take}
 use lib.Seq.{getD-take}
+use Rattle.order.specs.Lists.{nth-mem}
 use Rattle.model.specs.Table.{Table, count, iteration, Inside}
 use Rattle.model.specs.declared.Iteration.{Iteration}
 use Rattle.blocks.specs.declared.Range.{Range}
@@ -25,12 +26,6 @@ use Rattle.blocks.specs.declared.Part.the-variants.{Fused, Peeled}
 use Rattle.ranges.specs.Laid.{Laid, Some}
 use Rattle.ranges.specs.Code.{rangeOf, rangeIn, listOf, listIn, range-in}
 use Rattle.blocks.specs.Code.{partOf}
-
--- the n-th of a list stands in it
-nth-mem : {A : Type 0} (xs : List A) (d : A) (n : ℕ) → n < length xs → Mem (getD xs n d) xs
-nth-mem [] d n l = absurd (omega arith)
-nth-mem (x ∷ xs) d zero l = mhere refl
-nth-mem (x ∷ xs) d (suc n) l = mthere (nth-mem xs d n (omega arith))
 
 -- WHAT THE CODE ASKS
 module _ (P : ℕ) (p : Plan) (firsts lasts : List ℕ) (h : Some P p firsts lasts) where
@@ -52,9 +47,9 @@ module _ (P : ℕ) (p : Plan) (firsts lasts : List ℕ) (h : Some P p firsts las
 
   -- what a part's code asks of the loop and the block
   pub part-asks : (b k : ℕ) (r : Range) → b < P → k < p .loops → r ≡ block (p .first) (p .count) P b
-      → (b < P) × (getD lasts k 0 < 2 ^ 31) × (r .from + getD (p .amounts .peels) k 0 < 2 ^ 32) × (r .past + getD (p .amounts .peels) k 0 < 2 ^ 32)
+      → (k < 16) × (b < P) × (getD lasts k 0 < 2 ^ 31) × (r .from + getD (p .amounts .peels) k 0 < 2 ^ 32) × (r .past + getD (p .amounts .peels) k 0 < 2 ^ 32)
   part-asks b k r l i e =
-      (l, omega (arith, last-fits k i), rw e (omega (arith, edge-fits b (omega arith), peel-fits k)), rw e (omega (arith, edge-fits (suc b) l, peel-fits k)))
+      (omega (arith, few-loops), l, omega (arith, last-fits k i), rw e (omega (arith, edge-fits b (omega arith), peel-fits k)), rw e (omega (arith, edge-fits (suc b) l, peel-fits k)))
 
   -- no range is longer than its loop
   part-past : (part : Part) (own block : Range) (b s q : ℕ) → partOf part own block P b s q .past ≤ own .past

@@ -1,11 +1,14 @@
 // The ranges that a plan's loops have in one block, and the two lists of those ranges: their lengths, and their n-th iteration.
 use blocks::Part;
+use blocks::Range;
 use model::Iteration;
 use plans::Plan;
 ghost use mathlib.Core.Path.{_≡_};
 ghost use Prim.Native.Nat.{ℕ, suc, _+_, _≤_, _<_, _^_};
 ghost use lib.ListN.{length, getD};
 ghost use Rattle.model.specs.Table.{Table, count, iteration};
+ghost use Rattle.blocks.specs.Sums.{column};
+ghost use Rattle.blocks.specs.Code.{partOf};
 ghost use Rattle.lists.specs.Lists.{ranges};
 ghost use Rattle.lists.specs.Search.{Aligned};
 ghost use Rattle.lists.specs.Below.{lengths};
@@ -24,6 +27,33 @@ pub struct Ranges {
 pub struct Lengths {
     pub fused: [u32; 64],
     pub peeled: [u32; 64],
+}
+
+// The part of loop k that block b has, whose indices are `blk`.
+fn range_at(
+    part: Part,
+    blk: Range,
+    processors: u32,
+    b: u32,
+    firsts: &[u32; 16],
+    lasts: &[u32; 16],
+    shifts: &[u32; 16],
+    peels: &[u32; 16],
+    k: usize,
+) -> Range
+    requires { ⌜ (k < 16) × (b < processors) × (column (now lasts) k < 2 ^ 31) × (blk .from + column (now peels) k < 2 ^ 32) × (blk .past + column (now peels) k < 2 ^ 32) ⌝ }
+    ensures { λ r. ⌜ r ≡ partOf part (record { from = column (now (firsts .entry)) k; past = suc (column (now (lasts .entry)) k) }) blk processors b (column (now (shifts .entry)) k) (column (now (peels .entry)) k) ⌝ }
+{
+    blocks::part_between(
+        part,
+        firsts[k],
+        lasts[k],
+        blk,
+        processors,
+        b,
+        shifts[k],
+        peels[k],
+    )
 }
 
 // The ranges of the loops in block b.
@@ -47,16 +77,7 @@ pub fn ranges_of(
     let mut pasts = [0u32; 16];
     let mut k: usize = 0;
     while k < p.loops {
-        let r = blocks::part_between(
-            part,
-            firsts[k],
-            lasts[k],
-            blk,
-            processors,
-            b,
-            shifts[k],
-            peels[k],
-        );
+        let r = range_at(part, blk, processors, b, firsts, lasts, &shifts, &peels, k);
         froms[k] = r.from;
         pasts[k] = r.past;
         k += 1;
@@ -170,11 +191,18 @@ fn length_of(
     requires { ⌜ (b < processors) × Some processors p (now firsts) (now lasts) ⌝ }
     ensures { λ r. ⌜ (r ≡ lengths (p .loops) (rangeOf part p processors (now (firsts .entry)) (now (lasts .entry)) b)) × (r ≤ 1052656) ⌝ }
 {
-    let r = ranges_of(part, p, processors, b, firsts, lasts);
-    let l = p.loops;
-    let froms = r.froms;
-    let pasts = r.pasts;
-    lists::total_length(&froms[..l], &pasts[..l]) as u32
+    let blk = blocks::block_of(p.first, p.count, processors, b);
+    let a = p.amounts;
+    let shifts = a.shifts;
+    let peels = a.peels;
+    let mut sum: u32 = 0;
+    let mut k: usize = 0;
+    while k < p.loops {
+        let r = range_at(part, blk, processors, b, firsts, lasts, &shifts, &peels, k);
+        sum += lists::length_of(r.from, r.past) as u32;
+        k += 1;
+    }
+    sum
 }
 
 // How long each processor's lists are. No list has more than sixteen loops' 65,791 iterations.

@@ -1,46 +1,65 @@
-use mathlib.Core.Path.{_∙_}
-use Rattle.ranges.specs.Held.{cut-long, cut-lengths, total-asks, few-loops, lengths-fit}
-use mathlib.Core.Path.{_∙_}
-use native.Mathlib.Omega.{arith}
-use denote.Ref.{now}
+use Rattle.ranges.proofs.Laws.{sum-next, sum-end}
+use Rattle.lists.specs.Below.{lengths}
+use Rattle.ranges.proofs.Laws.{range-held}
+use Rattle.ranges.specs.Held.{few-loops, span-fits, part-asks}
 use Rattle.ranges.specs.Code.{rangeOf}
 use borrow.Author.Needs.{needs}
+use mathlib.Core.Path.{_≡_, refl}
+use Prim.Native.Nat.{_-_, _≤_}
+use denote.Ref.{now}
+use native.Mathlib.Omega.{arith}
 use Rattle.ranges.proofs.length_of.Statement.{statement}
 use Rattle.ranges.proofs.length_of.Tie as tie
 
-ranges-of-requires : tie.Need-ranges-of-requires
-ranges-of-requires c κs = search needs
+abbrev Inv-loop : tie.InvT-loop
+Inv-loop part p processors b firsts lasts blk shifts peels sum₀ k₀ sum k = (k ≤ p .loops) × (sum ≡ lengths k (rangeOf part p processors firsts lasts b))
 
-array-share-prefix-froms : tie.Need-array-share-prefix-froms
-array-share-prefix-froms c = omega (arith, few-loops (c .before .before .before .args .processors) (c .before .before .before .args .p) (now (c .before .before .before .args .firsts)) (now (c .before .before .before .args .lasts)) (c .before .before .before .pre .1), c .before .before .ranges-of .ensures .0 .0)
+abbrev μ-loop : tie.MeasureT-loop
+μ-loop part p processors b firsts lasts blk shifts peels sum₀ k₀ sum k = p .loops - k
 
-slice-aggregate-total-length : tie.Need-slice-aggregate-total-length
-slice-aggregate-total-length c = cut-long (c .before .before .before .before .args .p .loops) _ (few-loops (c .before .before .before .before .args .processors) (c .before .before .before .before .args .p) (now (c .before .before .before .before .args .firsts)) (now (c .before .before .before .before .args .lasts)) (c .before .before .before .before .pre .1)) (c .before .before .before .ranges-of .ensures .0 .0)
+block-of-requires : tie.Need-block-of-requires Inv-loop μ-loop
+block-of-requires c κs = (c .pre .0, omega (arith, span-fits (c .args .processors) (c .args .p) (now (c .args .firsts)) (now (c .args .lasts)) (c .pre .1)))
 
-array-share-prefix-pasts : tie.Need-array-share-prefix-pasts
-array-share-prefix-pasts c = omega (arith, few-loops (c .before .before .before .before .args .processors) (c .before .before .before .before .args .p) (now (c .before .before .before .before .args .firsts)) (now (c .before .before .before .before .args .lasts)) (c .before .before .before .before .pre .1), c .before .before .before .ranges-of .ensures .0 .1)
+loop-holds : tie.Need-loop-holds Inv-loop μ-loop
+loop-holds c = (omega arith, refl)
 
-slice-aggregate-total-length-2 : tie.Need-slice-aggregate-total-length-2
-slice-aggregate-total-length-2 c = cut-long (c .before .before .before .before .before .args .p .loops) _ (few-loops (c .before .before .before .before .before .args .processors) (c .before .before .before .before .before .args .p) (now (c .before .before .before .before .before .args .firsts)) (now (c .before .before .before .before .before .args .lasts)) (c .before .before .before .before .before .pre .1)) (c .before .before .before .before .ranges-of .ensures .0 .1)
+range-at-requires : tie.Need-range-at-requires Inv-loop μ-loop
+range-at-requires c κs = part-asks (c .before .before .before .before .before .before .before .before .before .args .processors) (c .before .before .before .before .before .before .before .before .before .args .p) (now (c .before .before .before .before .before .before .before .before .before .args .firsts)) (now (c .before .before .before .before .before .before .before .before .before .args .lasts)) (c .before .before .before .before .before .before .before .before .before .pre .1) (c .before .before .before .before .before .before .before .before .before .args .b) (c .before .before .before .before .loop .k) _ (c .before .before .before .before .before .before .before .before .before .pre .0) (c .before .before .if1 .taken) (c .before .before .before .before .before .before .before .before .block-of .ensures)
 
-total-length-requires : tie.Need-total-length-requires
-total-length-requires c κs = total-asks (c .before .before .before .before .before .args .p .loops) (c .before .before .before .before .ranges-of .result .froms) (c .before .before .before .before .ranges-of .result .pasts) (few-loops (c .before .before .before .before .before .args .processors) (c .before .before .before .before .before .args .p) (now (c .before .before .before .before .before .args .firsts)) (now (c .before .before .before .before .before .args .lasts)) (c .before .before .before .before .before .pre .1)) (c .before .before .before .before .ranges-of .ensures .0)
+length-of-requires : tie.Need-length-of-requires Inv-loop μ-loop
+length-of-requires c κs = search needs
 
-cast-result : tie.Need-cast-result
-cast-result c = let e = c .total-length .ensures .0 ∙ cut-lengths (c .before .before .before .before .before .before .args .p .loops) (c .before .before .before .before .before .ranges-of .result .froms) (c .before .before .before .before .before .ranges-of .result .pasts) (few-loops (c .before .before .before .before .before .before .args .processors) (c .before .before .before .before .before .before .args .p) (now (c .before .before .before .before .before .before .args .firsts)) (now (c .before .before .before .before .before .before .args .lasts)) (c .before .before .before .before .before .before .pre .1)) (c .before .before .before .before .before .ranges-of .ensures .0) (rangeOf (c .before .before .before .before .before .before .args .part) (c .before .before .before .before .before .before .args .p) (c .before .before .before .before .before .before .args .processors) (now (c .before .before .before .before .before .before .args .firsts)) (now (c .before .before .before .before .before .before .args .lasts)) (c .before .before .before .before .before .before .args .b)) (c .before .before .before .before .before .ranges-of .ensures .1) in omega (arith, lengths-fit (c .before .before .before .before .before .before .args .processors) (c .before .before .before .before .before .before .args .p) (now (c .before .before .before .before .before .before .args .firsts)) (now (c .before .before .before .before .before .before .args .lasts)) (c .before .before .before .before .before .before .pre .1) (c .before .before .before .before .before .before .args .part) (c .before .before .before .before .before .before .args .b))
+cast-sum : tie.Need-cast-sum Inv-loop μ-loop
+cast-sum c = omega (arith, c .length-of .ensures .1)
 
-returns : tie.Need-returns
-returns c = let e = c .total-length .ensures .0 ∙ cut-lengths (c .before .before .before .before .before .before .args .p .loops) (c .before .before .before .before .before .ranges-of .result .froms) (c .before .before .before .before .before .ranges-of .result .pasts) (few-loops (c .before .before .before .before .before .before .args .processors) (c .before .before .before .before .before .before .args .p) (now (c .before .before .before .before .before .before .args .firsts)) (now (c .before .before .before .before .before .before .args .lasts)) (c .before .before .before .before .before .before .pre .1)) (c .before .before .before .before .before .ranges-of .ensures .0) (rangeOf (c .before .before .before .before .before .before .args .part) (c .before .before .before .before .before .before .args .p) (c .before .before .before .before .before .before .args .processors) (now (c .before .before .before .before .before .before .args .firsts)) (now (c .before .before .before .before .before .before .args .lasts)) (c .before .before .before .before .before .before .args .b)) (c .before .before .before .before .before .ranges-of .ensures .1) in (e, omega (arith, lengths-fit (c .before .before .before .before .before .before .args .processors) (c .before .before .before .before .before .before .args .p) (now (c .before .before .before .before .before .before .args .firsts)) (now (c .before .before .before .before .before .before .args .lasts)) (c .before .before .before .before .before .before .pre .1) (c .before .before .before .before .before .before .args .part) (c .before .before .before .before .before .before .args .b)))
+add-sum : tie.Need-add-sum Inv-loop μ-loop
+add-sum c = omega (arith, sum-next (c .before .before .before .before .before .before .before .before .before .before .before .args .processors) (c .before .before .before .before .before .before .before .before .before .before .before .args .p) (now (c .before .before .before .before .before .before .before .before .before .before .before .args .firsts)) (now (c .before .before .before .before .before .before .before .before .before .before .before .args .lasts)) (c .before .before .before .before .before .before .before .before .before .before .before .pre .1) (c .before .before .before .before .before .before .before .before .before .before .before .args .part) (c .before .before .before .before .before .before .before .before .before .before .before .args .b) (c .before .before .before .before .before .before .loop .k) (c .before .before .before .before .before .before .loop .sum) _ _ (c .before .before .before .before .if1 .taken) (c .before .before .before .before .before .before .loop .inv .1) (range-held (c .before .before .before .before .before .before .before .before .before .before .before .args .part) (c .before .before .before .before .before .before .before .before .before .before .before .args .p) (c .before .before .before .before .before .before .before .before .before .before .before .args .processors) (now (c .before .before .before .before .before .before .before .before .before .before .before .args .firsts)) (now (c .before .before .before .before .before .before .before .before .before .before .before .args .lasts)) (c .before .before .before .before .before .before .before .before .before .before .before .args .b) (c .before .before .before .before .before .before .loop .k) _ _ (c .before .before .before .before .before .before .before .before .before .before .block-of .ensures) (c .before .range-at .ensures)) (c .length-of .ensures .0) .1)
+
+add-k : tie.Need-add-k Inv-loop μ-loop
+add-k c = omega (arith, few-loops (c .before .before .before .before .before .before .before .before .before .before .before .args .processors) (c .before .before .before .before .before .before .before .before .before .before .before .args .p) (now (c .before .before .before .before .before .before .before .before .before .before .before .args .firsts)) (now (c .before .before .before .before .before .before .before .before .before .before .before .args .lasts)) (c .before .before .before .before .before .before .before .before .before .before .before .pre .1), c .before .before .before .before .if1 .taken)
+
+loop-less : tie.Need-loop-less Inv-loop μ-loop
+loop-less c = omega (arith, c .before .before .before .before .if1 .taken)
+
+loop-again : tie.Need-loop-again Inv-loop μ-loop
+loop-again c = (omega (arith, c .before .before .before .before .if1 .taken), sum-next (c .before .before .before .before .before .before .before .before .before .before .before .args .processors) (c .before .before .before .before .before .before .before .before .before .before .before .args .p) (now (c .before .before .before .before .before .before .before .before .before .before .before .args .firsts)) (now (c .before .before .before .before .before .before .before .before .before .before .before .args .lasts)) (c .before .before .before .before .before .before .before .before .before .before .before .pre .1) (c .before .before .before .before .before .before .before .before .before .before .before .args .part) (c .before .before .before .before .before .before .before .before .before .before .before .args .b) (c .before .before .before .before .before .before .loop .k) (c .before .before .before .before .before .before .loop .sum) _ _ (c .before .before .before .before .if1 .taken) (c .before .before .before .before .before .before .loop .inv .1) (range-held (c .before .before .before .before .before .before .before .before .before .before .before .args .part) (c .before .before .before .before .before .before .before .before .before .before .before .args .p) (c .before .before .before .before .before .before .before .before .before .before .before .args .processors) (now (c .before .before .before .before .before .before .before .before .before .before .before .args .firsts)) (now (c .before .before .before .before .before .before .before .before .before .before .before .args .lasts)) (c .before .before .before .before .before .before .before .before .before .before .before .args .b) (c .before .before .before .before .before .before .loop .k) _ _ (c .before .before .before .before .before .before .before .before .before .before .block-of .ensures) (c .before .range-at .ensures)) (c .length-of .ensures .0) .0)
+
+returns : tie.Need-returns Inv-loop μ-loop
+returns c = sum-end (c .before .before .before .before .before .before .before .args .processors) (c .before .before .before .before .before .before .before .args .p) (now (c .before .before .before .before .before .before .before .args .firsts)) (now (c .before .before .before .before .before .before .before .args .lasts)) (c .before .before .before .before .before .before .before .pre .1) (c .before .before .before .before .before .before .before .args .part) (c .before .before .before .before .before .before .before .args .b) _ (c .before .before .loop .k) (c .before .before .loop .inv .0) (c .if1 .left) (c .before .before .loop .inv .1)
 
 pub length-of-spec : {M : Type 1} → statement M
 length-of-spec =
     tie.close
     (tie.spec
-    ranges-of-requires
-    array-share-prefix-froms
-    slice-aggregate-total-length
-    array-share-prefix-pasts
-    slice-aggregate-total-length-2
-    total-length-requires
-    cast-result
+    Inv-loop
+    μ-loop
+    block-of-requires
+    loop-holds
+    range-at-requires
+    length-of-requires
+    cast-sum
+    add-sum
+    add-k
+    loop-less
+    loop-again
     returns)

@@ -1,20 +1,19 @@
 use Rattle.ranges.proofs.Laws.{Filled, holds-none, filled-next, filled-end}
+use Rattle.ranges.proofs.Laws.{range-held}
 use Rattle.ranges.specs.Held.{few-loops, span-fits, part-asks}
-use native.Mathlib.Omega.{arith}
-use borrow.Author.Needs.{needs}
-use denote.Ref.{now}
-use Prim.Native.Nat.{_-_}
 use Rattle.ranges.specs.Code.{rangeOf}
+use borrow.Author.Needs.{needs}
+use Prim.Native.Nat.{_-_}
+use denote.Ref.{now}
+use native.Mathlib.Omega.{arith}
 use Rattle.ranges.proofs.ranges_of.Statement.{statement}
 use Rattle.ranges.proofs.ranges_of.Tie as tie
 
 abbrev Inv-loop : tie.InvT-loop
-Inv-loop part p processors b firsts lasts blk shifts peels froms₀ pasts₀ k₀ froms pasts k =
-    Filled (rangeOf part p processors firsts lasts b) froms pasts k
+Inv-loop part p processors b firsts lasts blk shifts peels froms₀ pasts₀ k₀ froms pasts k = Filled (rangeOf part p processors firsts lasts b) froms pasts k
 
 abbrev μ-loop : tie.MeasureT-loop
-μ-loop part p processors b firsts lasts blk shifts peels froms₀ pasts₀ k₀ froms pasts k =
-    p .loops - k
+μ-loop part p processors b firsts lasts blk shifts peels froms₀ pasts₀ k₀ froms pasts k = p .loops - k
 
 block-of-requires : tie.Need-block-of-requires Inv-loop μ-loop
 block-of-requires c κs = (c .pre .0, omega (arith, span-fits (c .args .processors) (c .args .p) (now (c .args .firsts)) (now (c .args .lasts)) (c .pre .1)))
@@ -22,32 +21,8 @@ block-of-requires c κs = (c .pre .0, omega (arith, span-fits (c .args .processo
 loop-holds : tie.Need-loop-holds Inv-loop μ-loop
 loop-holds c = (holds-none 16 _ _ (search needs), holds-none 16 _ _ (search needs))
 
-mul-part-between : tie.Need-mul-part-between Inv-loop μ-loop
-mul-part-between c = omega (arith, few-loops (c .before .before .before .before .before .before .before .args .processors) (c .before .before .before .before .before .before .before .args .p) (now (c .before .before .before .before .before .before .before .args .firsts)) (now (c .before .before .before .before .before .before .before .args .lasts)) (c .before .before .before .before .before .before .before .pre .1), c .if1 .taken)
-
-element-copy-out-part-between : tie.Need-element-copy-out-part-between Inv-loop μ-loop
-element-copy-out-part-between c = omega (arith, few-loops (c .before .before .before .before .before .before .before .args .processors) (c .before .before .before .before .before .before .before .args .p) (now (c .before .before .before .before .before .before .before .args .firsts)) (now (c .before .before .before .before .before .before .before .args .lasts)) (c .before .before .before .before .before .before .before .pre .1), c .if1 .taken)
-
-mul-part-between-2 : tie.Need-mul-part-between-2 Inv-loop μ-loop
-mul-part-between-2 c = omega (arith, few-loops (c .before .before .before .before .before .before .before .before .args .processors) (c .before .before .before .before .before .before .before .before .args .p) (now (c .before .before .before .before .before .before .before .before .args .firsts)) (now (c .before .before .before .before .before .before .before .before .args .lasts)) (c .before .before .before .before .before .before .before .before .pre .1), c .before .if1 .taken)
-
-element-copy-out-part-between-2 : tie.Need-element-copy-out-part-between-2 Inv-loop μ-loop
-element-copy-out-part-between-2 c = omega (arith, few-loops (c .before .before .before .before .before .before .before .before .args .processors) (c .before .before .before .before .before .before .before .before .args .p) (now (c .before .before .before .before .before .before .before .before .args .firsts)) (now (c .before .before .before .before .before .before .before .before .args .lasts)) (c .before .before .before .before .before .before .before .before .pre .1), c .before .if1 .taken)
-
-mul-part-between-3 : tie.Need-mul-part-between-3 Inv-loop μ-loop
-mul-part-between-3 c = omega (arith, few-loops (c .before .before .before .before .before .before .before .before .before .args .processors) (c .before .before .before .before .before .before .before .before .before .args .p) (now (c .before .before .before .before .before .before .before .before .before .args .firsts)) (now (c .before .before .before .before .before .before .before .before .before .args .lasts)) (c .before .before .before .before .before .before .before .before .before .pre .1), c .before .before .if1 .taken)
-
-array-read-part-between : tie.Need-array-read-part-between Inv-loop μ-loop
-array-read-part-between c = omega (arith, few-loops (c .before .before .before .before .before .before .before .before .before .args .processors) (c .before .before .before .before .before .before .before .before .before .args .p) (now (c .before .before .before .before .before .before .before .before .before .args .firsts)) (now (c .before .before .before .before .before .before .before .before .before .args .lasts)) (c .before .before .before .before .before .before .before .before .before .pre .1), c .before .before .if1 .taken)
-
-mul-part-between-4 : tie.Need-mul-part-between-4 Inv-loop μ-loop
-mul-part-between-4 c = omega (arith, few-loops (c .before .before .before .before .before .before .before .before .before .args .processors) (c .before .before .before .before .before .before .before .before .before .args .p) (now (c .before .before .before .before .before .before .before .before .before .args .firsts)) (now (c .before .before .before .before .before .before .before .before .before .args .lasts)) (c .before .before .before .before .before .before .before .before .before .pre .1), c .before .before .if1 .taken)
-
-array-read-part-between-2 : tie.Need-array-read-part-between-2 Inv-loop μ-loop
-array-read-part-between-2 c = omega (arith, few-loops (c .before .before .before .before .before .before .before .before .before .args .processors) (c .before .before .before .before .before .before .before .before .before .args .p) (now (c .before .before .before .before .before .before .before .before .before .args .firsts)) (now (c .before .before .before .before .before .before .before .before .before .args .lasts)) (c .before .before .before .before .before .before .before .before .before .pre .1), c .before .before .if1 .taken)
-
-part-between-requires : tie.Need-part-between-requires Inv-loop μ-loop
-part-between-requires c κs = part-asks (c .before .before .before .before .before .before .before .before .before .args .processors) (c .before .before .before .before .before .before .before .before .before .args .p) (now (c .before .before .before .before .before .before .before .before .before .args .firsts)) (now (c .before .before .before .before .before .before .before .before .before .args .lasts)) (c .before .before .before .before .before .before .before .before .before .pre .1) (c .before .before .before .before .before .before .before .before .before .args .b) (c .before .before .before .before .loop .k) _ (c .before .before .before .before .before .before .before .before .before .pre .0) (c .before .before .if1 .taken) (c .before .before .before .before .before .before .before .before .block-of .ensures)
+range-at-requires : tie.Need-range-at-requires Inv-loop μ-loop
+range-at-requires c κs = part-asks (c .before .before .before .before .before .before .before .before .before .args .processors) (c .before .before .before .before .before .before .before .before .before .args .p) (now (c .before .before .before .before .before .before .before .before .before .args .firsts)) (now (c .before .before .before .before .before .before .before .before .before .args .lasts)) (c .before .before .before .before .before .before .before .before .before .pre .1) (c .before .before .before .before .before .before .before .before .before .args .b) (c .before .before .before .before .loop .k) _ (c .before .before .before .before .before .before .before .before .before .pre .0) (c .before .before .if1 .taken) (c .before .before .before .before .before .before .before .before .block-of .ensures)
 
 mul-froms : tie.Need-mul-froms Inv-loop μ-loop
 mul-froms c = omega (arith, few-loops (c .before .before .before .before .before .before .before .before .before .before .args .processors) (c .before .before .before .before .before .before .before .before .before .before .args .p) (now (c .before .before .before .before .before .before .before .before .before .before .args .firsts)) (now (c .before .before .before .before .before .before .before .before .before .before .args .lasts)) (c .before .before .before .before .before .before .before .before .before .before .pre .1), c .before .before .before .if1 .taken)
@@ -68,7 +43,7 @@ loop-less : tie.Need-loop-less Inv-loop μ-loop
 loop-less c = omega (arith, c .before .before .before .if1 .taken)
 
 loop-again : tie.Need-loop-again Inv-loop μ-loop
-loop-again c = filled-next (rangeOf (c .before .before .before .before .before .before .before .before .before .before .args .part) (c .before .before .before .before .before .before .before .before .before .before .args .p) (c .before .before .before .before .before .before .before .before .before .before .args .processors) (now (c .before .before .before .before .before .before .before .before .before .before .args .firsts)) (now (c .before .before .before .before .before .before .before .before .before .before .args .lasts)) (c .before .before .before .before .before .before .before .before .before .before .args .b)) _ _ (c .before .before .before .before .before .loop .k) (c .before .before .before .before .before .loop .inv) _ (omega (arith, few-loops (c .before .before .before .before .before .before .before .before .before .before .args .processors) (c .before .before .before .before .before .before .before .before .before .before .args .p) (now (c .before .before .before .before .before .before .before .before .before .before .args .firsts)) (now (c .before .before .before .before .before .before .before .before .before .before .args .lasts)) (c .before .before .before .before .before .before .before .before .before .before .pre .1), c .before .before .before .if1 .taken)) (rw (c .before .before .before .before .before .before .before .before .before .block-of .ensures) at (c .part-between .ensures))
+loop-again c = filled-next (rangeOf (c .before .before .before .before .before .before .before .before .before .before .args .part) (c .before .before .before .before .before .before .before .before .before .before .args .p) (c .before .before .before .before .before .before .before .before .before .before .args .processors) (now (c .before .before .before .before .before .before .before .before .before .before .args .firsts)) (now (c .before .before .before .before .before .before .before .before .before .before .args .lasts)) (c .before .before .before .before .before .before .before .before .before .before .args .b)) _ _ (c .before .before .before .before .before .loop .k) (c .before .before .before .before .before .loop .inv) _ (omega (arith, few-loops (c .before .before .before .before .before .before .before .before .before .before .args .processors) (c .before .before .before .before .before .before .before .before .before .before .args .p) (now (c .before .before .before .before .before .before .before .before .before .before .args .firsts)) (now (c .before .before .before .before .before .before .before .before .before .before .args .lasts)) (c .before .before .before .before .before .before .before .before .before .before .pre .1), c .before .before .before .if1 .taken)) (range-held (c .before .before .before .before .before .before .before .before .before .before .args .part) (c .before .before .before .before .before .before .before .before .before .before .args .p) (c .before .before .before .before .before .before .before .before .before .before .args .processors) (now (c .before .before .before .before .before .before .before .before .before .before .args .firsts)) (now (c .before .before .before .before .before .before .before .before .before .before .args .lasts)) (c .before .before .before .before .before .before .before .before .before .before .args .b) (c .before .before .before .before .before .loop .k) _ _ (c .before .before .before .before .before .before .before .before .before .block-of .ensures) (c .range-at .ensures))
 
 returns : tie.Need-returns Inv-loop μ-loop
 returns c = ((c .before .before .loop .inv .0 .long, c .before .before .loop .inv .1 .long), filled-end (rangeOf (c .before .before .before .before .before .before .before .args .part) (c .before .before .before .before .before .before .before .args .p) (c .before .before .before .before .before .before .before .args .processors) (now (c .before .before .before .before .before .before .before .args .firsts)) (now (c .before .before .before .before .before .before .before .args .lasts)) (c .before .before .before .before .before .before .before .args .b)) _ _ (c .before .before .loop .k) (c .before .before .loop .inv) (c .before .before .before .before .before .before .before .args .p .loops) (omega (arith, c .if1 .left)))
@@ -81,15 +56,7 @@ ranges-of-spec =
     μ-loop
     block-of-requires
     loop-holds
-    mul-part-between
-    element-copy-out-part-between
-    mul-part-between-2
-    element-copy-out-part-between-2
-    mul-part-between-3
-    array-read-part-between
-    mul-part-between-4
-    array-read-part-between-2
-    part-between-requires
+    range-at-requires
     mul-froms
     array-write-froms
     mul-pasts
