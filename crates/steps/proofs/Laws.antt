@@ -1,16 +1,18 @@
 -- Tests that no processor has passed so far, and what a turn's code makes of its tests.
 use Prim.Native.Nat.{ℕ, _+_, _-_, _≤_, _<_, _^_}
 use native.Mathlib.Omega.{arith}
-use native.Mathlib.Decide.{ℕ-discrete}
+use native.Mathlib.Decide.{ℕ-discrete, decLt}
+use native.Mathlib.Numerals.{add-one}
 use mathlib.Core.Path.{_≡_, refl, sym, ap, _∙_}
 use mathlib.Core.Bool.{Bool, true, false}
 use mathlib.Core.List.{List}
-use lib.ListN.{length, getD}
+use lib.ListN.{length, getD, set}
 use lib.Ieee.{Float}
 use borrow.Author.Tests.{lt-ltb, le-ltb}
 use Rattle.order.specs.Lists.{nth-mem}
 use Rattle.model.specs.declared.Iteration.{Iteration}
 use Rattle.model.specs.Table.{Table, iteration, Inside}
+use Rattle.model.specs.Bodies.{run}
 use Rattle.reader.specs.Reading.{Answer, accepted, refused, reading}
 use Rattle.reader.specs.Columns.{Columns, tableAt}
 use Rattle.serial.specs.Meeting.{Collides}
@@ -22,14 +24,15 @@ use Rattle.plans.specs.declared.Plan.{Plan}
 use Rattle.plans.specs.Plans.{planOf, plannedFor, Plans}
 use Rattle.plans.specs.Fitting.{named-fits}
 use Rattle.ranges.specs.declared.Lengths.{Lengths}
-use Rattle.stepping.specs.declared.Report.the-variants.{Refused, Waiting, Finished}
+use Rattle.stepping.specs.declared.Report.{Report}
+use Rattle.stepping.specs.declared.Report.the-variants.{Refused, Performed, Waiting, Finished}
 use Rattle.stepping.specs.Step.{After, stays, fused, peeled, wrongState, performs, turn, stepped, step}
 use Rattle.stepping.specs.Reach.{Turn, early, waits, late, ends, turn-is}
 use Rattle.steps.specs.declared.Counts.{Counts}
 use Rattle.steps.specs.declared.Stepped.{Stepped}
-use Rattle.steps.specs.Ready.{Measured, Ready, Planned}
+use Rattle.steps.specs.Ready.{Measured, Listed, Ready, Planned}
 use Rattle.steps.specs.Steps.{refusing, Steps}
-use Rattle.steps.specs.Code.{closedBy, wrongIn, closed-by, wrong-by}
+use Rattle.steps.specs.Code.{performed, closedBy, nextBy, wrongIn, closed-by, wrong-by}
 
 -- WALKS: none of the first b passes
 abbrev pub Passed : (ℕ → Bool) → ℕ → Type 0
@@ -45,7 +48,34 @@ passed-next f b h e k l = go (ℕ-discrete k b)
     go (yes q) = ap f q ∙ e
     go (no q) = h k (omega arith)
 
--- a numbered member of a list is one of its members
+-- WHAT A CALL REPORTS, n of its processor's iterations done, by the tests of its code
+module _ {t : Table} {P b f e : ℕ} (l : Listed t P b f e) (shut : Bool) (n : ℕ) where
+  pub reports-fused : n < f → (x : Iteration) → x ≡ getD (fused t P b) n (iteration 0 0) → performed x ≡ nextBy t P b shut n
+  reports-fused i x q = rw (q, lt-ltb n (length (fused t P b)) (omega (arith, l .fused-is)))
+
+  module _ (i : f ≤ n) where
+    pub reports-waiting : shut ≡ true → Waiting ≡ nextBy t P b shut n
+    reports-waiting q = rw (le-ltb n (length (fused t P b)) (omega (arith, l .fused-is)), q)
+
+    module _ (opened : shut ≡ false) where
+      pub reports-peeled : n - f < e → (x : Iteration) → x ≡ getD (peeled t P b) (n - f) (iteration 0 0) → performed x ≡ nextBy t P b shut n
+      reports-peeled j x q =
+          rw (
+            q,
+            l .fused-is,
+            le-ltb n (length (fused t P b)) (omega (arith, l .fused-is)),
+            opened,
+            lt-ltb (n - length (fused t P b)) (length (peeled t P b)) (omega (arith, l .fused-is, l .peeled-is)),
+          )
+
+      pub reports-finished : e ≤ n - f → Finished ≡ nextBy t P b shut n
+      reports-finished j =
+          rw (
+            le-ltb n (length (fused t P b)) (omega (arith, l .fused-is)),
+            opened,
+            le-ltb (n - length (fused t P b)) (length (peeled t P b)) (omega (arith, l .fused-is, l .peeled-is)),
+          )
+
 -- A TURN of processor b, by the tests of its code
 module _ {t : Table} {P : ℕ} {p : Plan} {l : Lengths} {firsts lasts starts kinds arrays values bases : List ℕ}
     (h : Ready t P p l firsts lasts starts kinds arrays values bases) {b : ℕ} (below : b < P) (cs : List ℕ) where
@@ -63,6 +93,10 @@ module _ {t : Table} {P : ℕ} {p : Plan} {l : Lengths} {firsts lasts starts kin
     pub inside : Inside t x
     pub small : column cs b < 2 ^ 31
     pub turns : {a : After} (m : List Float) → a ≡ performs t P b cs m x → a ≡ turn t P b cs m
+
+  -- and leaves this
+  pub turned : (x : Iteration) → Next x → (m w : List Float) → w ≡ run t x m → stays (set cs b (column cs b + 1)) w (performed x) ≡ turn t P b cs m
+  turned x n m w e = n .turns m (rw (add-one, e))
 
   pub fused-next : column cs b < column (l .fused) b → (x : Iteration) → x ≡ getD (fused t P b) (column cs b) (iteration 0 0) → Next x
   unfolding turn
@@ -112,6 +146,51 @@ module _ {t : Table} {P : ℕ} {p : Plan} {l : Lengths} {firsts lasts starts kin
             opened,
             le-ltb (column cs b - length (fused t P b)) (length (peeled t P b)) j,
           )
+
+  pub listed : Listed t P b (column (l .fused) b) (column (l .peeled) b)
+  listed = record { fused-is = fused-long; peeled-is = peeled-long }
+
+  -- by the report r that the code finds, which asks for the barrier past the fused list alone
+  module _ (shut : Bool) (asked : column (l .fused) b ≤ column cs b → shut ≡ closedBy P (l .fused) cs) (r : Report) (is : r ≡ nextBy t P b shut (column cs b)) where
+    abbrev n : ℕ
+    n = column cs b
+
+    abbrev fused-x : Iteration
+    fused-x = getD (fused t P b) n (iteration 0 0)
+
+    abbrev peeled-x : Iteration
+    peeled-x = getD (peeled t P b) (n - column (l .fused) b) (iteration 0 0)
+
+    -- the four reports
+    module _ (A : Type 0) (early : performed fused-x ≡ r → Next fused-x → A) (waits : Waiting ≡ r → ((m : List Float) → stays cs m Waiting ≡ turn t P b cs m) → A)
+        (late : performed peeled-x ≡ r → Next peeled-x → A) (ends : Finished ≡ r → ((m : List Float) → stays cs m Finished ≡ turn t P b cs m) → A) where
+      by-report : A
+      by-report = go (decLt n (column (l .fused) b))
+        where
+          opened : (i : column (l .fused) b ≤ n) → closedBy P (l .fused) cs ≡ false → Dec (n - column (l .fused) b < column (l .peeled) b) → A
+          opened i q (yes j) = late (reports-peeled listed shut n i (asked i ∙ q) j peeled-x refl ∙ sym is) (peeled-next i q j peeled-x refl)
+          opened i q (no j) = let k : column (l .peeled) b ≤ n - column (l .fused) b = omega arith in ends (reports-finished listed shut n i (asked i ∙ q) k ∙ sym is) (then-ends i q k)
+
+          past : (i : column (l .fused) b ≤ n) → (x : Bool) → closedBy P (l .fused) cs ≡ x → A
+          past i true q = waits (reports-waiting listed shut n i (asked i ∙ q) ∙ sym is) (then-waits i q)
+          past i false q = opened i q (decLt (n - column (l .fused) b) (column (l .peeled) b))
+
+          go : Dec (n < column (l .fused) b) → A
+          go (yes i) = early (reports-fused listed shut n i fused-x refl ∙ sym is) (fused-next i fused-x refl)
+          go (no i) = past (omega arith) (closedBy P (l .fused) cs) refl
+
+    pub next-performed : (k i : ℕ) → r ≡ Performed k i → Next (iteration k i)
+    next-performed k i e = by-report (Next (iteration k i)) (same fused-x) (λ q f. let z : _≡_ {A = ℕ} 0 1 = cc in absurd (omega arith)) (same peeled-x) (λ q f. let z : _≡_ {A = ℕ} 0 1 = cc in absurd (omega arith))
+      where
+        same : (x : Iteration) → performed x ≡ r → Next x → Next (iteration k i)
+        same x q f =
+            let w : performed x ≡ Performed k i = q ∙ e in
+            let y : x .number ≡ k = cc in
+            let z : x .index ≡ i = cc in
+            rw (← y, ← z) f
+
+    pub next-stays : ((k i : ℕ) → r ≡ Performed k i → ⊥) → (m : List Float) → stays cs m r ≡ turn t P b cs m
+    next-stays none m = by-report (stays cs m r ≡ turn t P b cs m) (λ q f. absurd (none _ _ (sym q))) (λ q f. rw (← q) (f m)) (λ q f. absurd (none _ _ (sym q))) (λ q f. rw (← q) (f m))
 
 -- A STEP of a planned table: 12, 15, then the turn
 module _ (t : Table) (P b : ℕ) (cs : List ℕ) (m : List Float) where

@@ -1,22 +1,36 @@
 -- What the code's contracts cite: the barrier and ground 15 by the lengths that the code keeps. Assumes nothing.
-use Prim.Native.Nat.{ℕ, _+_, _<_}
+use Prim.Native.Nat.{ℕ, _+_, _-_, _<_}
 use native.Mathlib.Omega.{arith}
 use mathlib.Core.Path.{_≡_}
 use mathlib.Core.Bool.{Bool, cond, _&&_, _||_}
 use mathlib.Core.List.{List}
 use lib.Dec.{ltb, leb}
-use lib.ListN.{length}
+use lib.ListN.{length, getD}
 use borrow.Author.Tests.{lt-ltb, le-ltb, lt-leb, le-leb}
 use native.Mathlib.Decide.{decLt}
-use Rattle.model.specs.Table.{Table}
+use Rattle.model.specs.declared.Iteration.{Iteration}
+use Rattle.model.specs.Table.{Table, iteration}
 use Rattle.blocks.specs.Sums.{column, some, some-same}
 use Rattle.ranges.specs.declared.Lengths.{Lengths}
+use Rattle.stepping.specs.declared.Report.{Report}
+use Rattle.stepping.specs.declared.Report.the-variants.{Performed, Waiting, Finished}
 use Rattle.stepping.specs.Step.{fused, peeled, closed, wrongCount, wrongState}
 use Rattle.steps.specs.Ready.{Measured}
+
+-- an iteration, as a call reports it
+abbrev pub performed : Iteration → Report
+performed x = Performed (x .number) (x .index)
 
 -- the barrier is closed, where processor b's fused list has `column fused b` iterations
 abbrev pub closedBy : ℕ → List ℕ → List ℕ → Bool
 closedBy P fused counts = some P (λ b. ltb (column counts b) (column fused b))
+
+-- what processor b's next call reports, n of its iterations done: whether the barrier is closed
+abbrev pub nextBy : Table → ℕ → ℕ → Bool → ℕ → Report
+nextBy t P b shut n =
+    let past = n - length (fused t P b) in
+    cond (ltb n (length (fused t P b))) (performed (getD (fused t P b) n (iteration 0 0)))
+    (cond shut Waiting (cond (ltb past (length (peeled t P b))) (performed (getD (peeled t P b) past (iteration 0 0))) Finished))
 
 -- ground 15 of one processor with n iterations done: whether it is not below P, and whether the barrier is closed
 abbrev pub wrongBy : Bool → Bool → ℕ → ℕ → ℕ → Bool

@@ -29,6 +29,11 @@ pub record Measured (t : Table) (P : ℕ) (l : Lengths) : Type 0 where
   pub fused-is : (b : ℕ) → b < P → column (l .fused) b ≡ length (fused t P b)
   pub peeled-is : (b : ℕ) → b < P → column (l .peeled) b ≡ length (peeled t P b)
 
+-- so many iterations do processor b's lists have
+pub record Listed (t : Table) (P b : ℕ) (fused-length peeled-length : ℕ) : Type 0 where
+  pub fused-is : fused-length ≡ length (fused t P b)
+  pub peeled-is : peeled-length ≡ length (peeled t P b)
+
 pub record Ready (t : Table) (P : ℕ) (p : Plan) (l : Lengths) (firsts lasts starts kinds arrays values bases : List ℕ) : Type 0 where
   pub laid : Laid t P p firsts lasts
   pub loaded : Loaded t starts kinds arrays values bases

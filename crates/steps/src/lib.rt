@@ -1,5 +1,4 @@
 // One step of a processor, from a table's bytes, the counts of iterations done and a memory.
-use model::Iteration;
 use plans::Plan;
 use ranges::Lengths;
 use stepping::Report;
@@ -12,9 +11,10 @@ ghost use Rattle.reader.specs.Columns.{columns, tableAt};
 ghost use Rattle.reader.specs.Reading.{accepted};
 ghost use Rattle.iterations.specs.Memory.{total, remembered};
 ghost use Rattle.iterations.specs.Loaded.{Loaded};
-ghost use Rattle.stepping.specs.Step.{performs, turn, stepped};
-ghost use Rattle.steps.specs.Ready.{Small, Ready, Planned};
-ghost use Rattle.steps.specs.Code.{closedBy, wrongBy, wrongIn};
+ghost use Rattle.ranges.specs.Laid.{Laid};
+ghost use Rattle.stepping.specs.Step.{turn, stepped};
+ghost use Rattle.steps.specs.Ready.{Small, Listed, Ready, Planned};
+ghost use Rattle.steps.specs.Code.{closedBy, nextBy, wrongBy, wrongIn};
 ghost use Rattle.steps.specs.Steps.{refusing, Steps};
 
 // How many iterations each processor has done.
@@ -88,57 +88,47 @@ fn wrong_state(c: Counts, l: Lengths, processors: u32) -> bool
     false
 }
 
+// What a call of processor b reports, n of its iterations done: its lists have so many; `shut` if the barrier is closed, which matters past
+// the fused list alone.
+fn next_of(
+    p: Plan,
+    processors: u32,
+    b: u32,
+    firsts: &[u32; 16],
+    lasts: &[u32; 16],
+    fused: u32,
+    peeled: u32,
+    shut: bool,
+    n: u32,
+) -> Report
+    requires { ⌜ (b < processors) × ((t : Table) × Laid t processors p (now firsts) (now lasts) × Listed t processors b fused peeled) ⌝ }
+    ensures { λ r. ⌜ ((t : Table) → Laid t processors p (now (firsts .entry)) (now (lasts .entry)) → Listed t processors b fused peeled → r ≡ nextBy t processors b shut n) ⌝ }
+{
+    if n < fused {
+        let x = ranges::fused_iteration(p, processors, b, firsts, lasts, n as usize);
+        return Report::Performed {
+            number: x.number,
+            index: x.index,
+        };
+    }
+    if shut {
+        return Report::Waiting;
+    }
+    let past = n - fused;
+    if past < peeled {
+        let x = ranges::peeled_iteration(p, processors, b, firsts, lasts, past as usize);
+        return Report::Performed {
+            number: x.number,
+            index: x.index,
+        };
+    }
+    Report::Finished
+}
+
 impl Counts {
-    // One more of processor b.
-    fn counted(self, b: u32) -> Counts
-        requires { ⌜ (b < 64) × (column (self .done) b < 2 ^ 31) ⌝ }
-        ensures { λ r. ⌜ r .done ≡ set (self .done) b (suc (column (self .done) b)) ⌝ }
-    {
-        let at = b as usize;
-        let mut done = self.done;
-        done[at] += 1;
-        Counts { done }
-    }
-
-    // Performs an iteration, and counts it.
-    fn perform(
-        self,
-        b: u32,
-        x: Iteration,
-        starts: &[usize; 17],
-        kinds: &[u8; 528],
-        arrays: &[u32; 528],
-        values: &[u32; 528],
-        bases: &[u32; 17],
-        memory: &mut [f64],
-    ) -> Turned
-        requires { ⌜ (b < 64) × (column (self .done) b < 2 ^ 31) ⌝ }
-        requires { ⌜ ((t : Table) × Loaded t (now starts) (now kinds) (now arrays) (now values) (now bases) × Inside t x × (length (now memory) ≡ total t)) ⌝ }
-        ensures { λ r. ⌜ ((t : Table) (P : ℕ) → Loaded t (now (starts .entry)) (now (kinds .entry)) (now (arrays .entry)) (now (values .entry)) (now (bases .entry)) → Inside t x → record { counts = r .counts .done; memory = now (memory .exit); report = r .report } ≡ performs t P b (self .done) (now (memory .entry)) x) ⌝ }
-    {
-        iterations::iterate(
-            starts,
-            kinds,
-            arrays,
-            values,
-            bases,
-            x.number,
-            x.index,
-            memory,
-        );
-        let counts = self.counted(b);
-        Turned {
-            counts,
-            report: Report::Performed {
-                number: x.number,
-                index: x.index,
-            },
-        }
-    }
-
     // One step of processor b, of a table and plan in columns. The other processors are asked for only past b's fused list.
     pub fn turn(
-        self,
+        mut self,
         p: Plan,
         l: Lengths,
         processors: u32,
@@ -157,29 +147,21 @@ impl Counts {
         ensures { λ r. ⌜ ((t : Table) → Ready t processors p l (now (firsts .entry)) (now (lasts .entry)) (now (starts .entry)) (now (kinds .entry)) (now (arrays .entry)) (now (values .entry)) (now (bases .entry)) → record { counts = r .counts .done; memory = now (memory .exit); report = r .report } ≡ turn t processors b (self .done) (now (memory .entry))) ⌝ }
     {
         let at = b as usize;
-        let done = self.done;
-        let fused = l.fused;
-        let n = done[at];
-        let f = fused[at];
-        if n < f {
-            let x = ranges::fused_iteration(p, processors, b, firsts, lasts, n as usize);
-            return self.perform(b, x, starts, kinds, arrays, values, bases, memory);
-        }
-        if is_closed(self, l, processors) {
-            return Turned {
-                counts: self,
-                report: Report::Waiting,
-            };
-        }
-        let peeled = l.peeled;
-        let past = n - f;
-        if past < peeled[at] {
-            let x = ranges::peeled_iteration(p, processors, b, firsts, lasts, past as usize);
-            return self.perform(b, x, starts, kinds, arrays, values, bases, memory);
+        let n = self.done[at];
+        let f = l.fused[at];
+        let shut = if n < f {
+            true
+        } else {
+            is_closed(self, l, processors)
+        };
+        let report = next_of(p, processors, b, firsts, lasts, f, l.peeled[at], shut, n);
+        if let Report::Performed { number, index } = report {
+            iterations::iterate(starts, kinds, arrays, values, bases, number, index, memory);
+            self.done[at] += 1;
         }
         Turned {
             counts: self,
-            report: Report::Finished,
+            report,
         }
     }
 
