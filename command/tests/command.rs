@@ -4,10 +4,6 @@
 mod common;
 
 use common::{bytes, fed, out_name, run, EXAMPLE};
-use vempaldi_checks::encoder::encode;
-use vempaldi_checks::processors;
-use vempaldi_checks::random::Random;
-use vempaldi_checks::tables::{self, LARGE, MIDDLE, SMALL};
 
 #[test]
 fn plan_prints_the_papers_listing() {
@@ -138,36 +134,6 @@ fn several_files_are_counted_and_the_worst_decides() {
     assert_eq!(told.status, 2);
     assert_eq!(told.out.lines().count(), 1);
     assert!(told.err.contains("examples/no-such-file: ") && told.err.contains("1 not read"), "{}", told.err);
-}
-
-#[test]
-fn a_picture_has_the_parts_and_the_barrier() {
-    let told = run(&["draw", EXAMPLE, "-p", "2"]);
-    assert_eq!(told.status, 0);
-    for said in ["P0: 1-5", "P0: 1-4", "P1: 6-10", "P1: 7-10", "P0: 5-6", "barrier", "shift", "peel"] {
-        assert!(told.out.contains(said), "{said}");
-    }
-    assert!(told.out.starts_with("<svg ") && told.out.ends_with("</svg>\n") && !told.out.contains("<script"));
-    assert_eq!(run(&["draw", EXAMPLE, "-p", "6"]).status, 1);
-}
-
-#[test]
-fn a_picture_has_every_part_of_the_listing_inside_its_frame() {
-    let mut random = Random::new(33);
-    for round in 0..60 {
-        let shape = [SMALL, MIDDLE, LARGE][round % 3];
-        let table = tables::aligned(&mut random, &shape);
-        let count = processors::most(&table).to_string();
-        let bytes = encode(&table);
-        let listing = fed(&["plan", "-", "-p", &count], &bytes).out;
-        let picture = fed(&["draw", "-", "-p", &count], &bytes).out;
-        for word in ["fused", "peeled"] {
-            let lines = listing.lines().filter(|line| line.starts_with(word)).count();
-            // One more stands in the legend.
-            assert_eq!(picture.matches(&format!("class='{word}'")).count(), lines + 1);
-        }
-        assert!(!picture.contains("NaN") && !picture.contains("inf'") && !picture.contains("='-"), "{picture}");
-    }
 }
 
 #[test]
