@@ -15,16 +15,7 @@ says() {
     fi
 }
 
-says 0 'loop 0 0 0
-loop 1 1 1
-block 0 1 5
-block 1 6 10
-fused 0 0 1 5
-fused 0 1 1 4
-fused 1 0 6 10
-fused 1 1 7 10
-peeled 0 1 5 6
-sweeps 6 5' bin/plan 2 examples/example.table
+says 0 "$(cat tests/example.listing)" bin/plan 2 examples/example.table
 says 0 'refused 11 0' bin/plan 6 examples/example.table
 says 0 'refused 10 0' bin/plan 255 examples/example.table
 says 0 'refused 1 0' bin/plan 2 -
