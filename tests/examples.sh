@@ -1,6 +1,6 @@
 #!/usr/bin/env bash
 # tests/examples.sh c|rust|fortran: compiles that example against the library of build/ and runs it on the paper's example for two
-# processors. What it must print is typed from the paper.
+# processors. What it must print is typed from the paper, the listing in tests/example.listing.
 set -eu
 cd "$(dirname "$0")/.."
 library=${VEMPALDI_LIB:-build}
@@ -8,16 +8,7 @@ export CARGO_TARGET_DIR="$PWD/build/cargo"
 made=build/examples
 mkdir -p "$made"
 
-listing='loop 0 0 0
-loop 1 1 1
-block 0 1 5
-block 1 6 10
-fused 0 0 1 5
-fused 0 1 1 4
-fused 1 0 6 10
-fused 1 1 7 10
-peeled 0 1 5 6
-sweeps 6 5'
+listing=$(cat tests/example.listing)
 
 run_c() {
     gcc -std=c11 -Wall -Wextra -Werror -pedantic examples/c/example.c $(pkg-config --cflags --libs "$library/vempaldi.pc") -o "$made/c"

@@ -1,20 +1,69 @@
 #!/usr/bin/env bash
 # Runs every command that README.md prints, in its order and as printed, but for the two that prove the library (the gate has done that).
-set -u
+# Indented lines below a command are what it says: they must be just that, the standard output and then the standard error.
+set -eu
 cd "$(dirname "$0")/.."
-count=0
+mkdir -p build
+declare -A printed
+command='' says='' count=0 compared=0
+
+wrong() {
+    echo "README.md: $1"
+    exit 1
+}
+
+# same WANTED GOT WHAT
+same() {
+    [ "$1" != "$2" ] || return 0
+    diff <(printf '%s\n' "$1") <(printf '%s\n' "$2") || true
+    wrong "$3"
+}
+
+# The command without its comment.
+bare() {
+    printf '%s\n' "$1" | sed 's/  *#.*//'
+}
+
+# The command of the block so far, and what is printed below it.
+finish() {
+    [ -n "$command" ] || return 0
+    count=$((count + 1))
+    if ! sh -c "$command" > build/readme.out 2> build/readme.err < /dev/null; then
+        cat build/readme.out build/readme.err
+        wrong "this command fails: $command"
+    fi
+    if [ -n "$says" ]; then
+        compared=$((compared + 1))
+        same "$says" "$(cat build/readme.out build/readme.err)" "< is what it prints, > what this says: $command"
+    fi
+    printed[$(bare "$command")]=$says
+    command='' says=''
+}
+
 while IFS= read -r line; do
     case $line in
-    .ci/run* | bin/build*) continue ;;
-    bin/* | build/* | gcc\ * | gfortran\ * | CARGO_TARGET_DIR=*) ;;
-    *) continue ;;
+    "    .ci/run"* | "    bin/build"*) finish ;;
+    "    bin/"* | "    build/example-"* | "    gcc "* | "    gfortran "* | "    CARGO_TARGET_DIR="*)
+        finish
+        command=${line#    }
+        ;;
+    "    "*)
+        [ -n "$command" ] || wrong "no command says this: $line"
+        says+=${says:+$'\n'}${line#    }
+        ;;
+    *) finish ;;
     esac
-    count=$((count + 1))
-    if ! sh -c "$line" > build/readme.log 2>&1 < /dev/null; then
-        echo "README.md: this command fails: $line"
-        cat build/readme.log
-        exit 1
-    fi
-done < <(sed -n 's/^    //p' README.md)
-[ "$count" -ge 12 ] || { echo "README.md: only $count commands found"; exit 1; }
-echo "README.md: $count commands work as printed"
+done < README.md
+finish
+
+# The commands on the paper's example are there, with what follows from the paper: its listing; 10 and 10 iterations on three arrays of
+# 12 elements, of which processor 1 has 5 and 4 before the barrier, so that 3 of 12 calls find it waiting.
+paper() {
+    same "${printed[$1]-}" "$2" "< is what it prints, > what the paper has: $1"
+}
+paper "bin/vempaldi plan examples/example.table -p 2" "$(cat tests/example.listing)"
+paper "bin/vempaldi check examples/example.table" "examples/example.table: accepted"
+paper "bin/vempaldi run examples/example.table -p 2 --order 1,1,1,1,1,1,1,1,1,1,1,1" \
+    "examples/example.table: 20 iterations on 2 processors, idle 3: agrees with the plain run, all 36 numbers bit for bit"
+[ "$count" -ge 13 ] || wrong "only $count commands found"
+echo "README.md: $count commands work as printed, $compared of them with what they say"

@@ -76,7 +76,8 @@ fn clear_progress() {
     }
 }
 
-/// Does the work for each file. A file that cannot be read is named, and the others are still done.
+/// Does the work for each file. Of several files one that cannot be read is named, and the others are still done; an output that cannot
+/// be written ends it.
 pub fn each(
     files: &[String],
     words: &Words,
@@ -88,9 +89,12 @@ pub fn each(
         if shown {
             show_progress(&format!("{} of {}, {bad} {}: {name}", at + 1, files.len(), words.bad));
         }
-        match read_table(name).and_then(|bytes| work(name, &bytes)) {
-            Ok(Outcome::Good) => good += 1,
-            Ok(Outcome::Bad) => bad += 1,
+        match read_table(name) {
+            Ok(bytes) => match work(name, &bytes)? {
+                Outcome::Good => good += 1,
+                _ => bad += 1,
+            },
+            Err(failure) if files.len() == 1 => return Err(failure),
             Err(failure) => {
                 say(&format!("vempaldi: {failure}"));
                 unread += 1;
@@ -101,11 +105,11 @@ pub fn each(
     if files.len() > 1 {
         say(&counted(words, good, bad, unread));
     }
-    match (bad, unread) {
-        (_, 1..) => Err(Failure::Some(unread)),
-        (0, _) => Ok(Outcome::Good),
-        _ => Ok(Outcome::Bad),
-    }
+    Ok(match (bad, unread) {
+        (_, 1..) => Outcome::Unread,
+        (1.., _) => Outcome::Bad,
+        _ => Outcome::Good,
+    })
 }
 
 fn counted(words: &Words, good: usize, bad: usize, unread: usize) -> String {

@@ -9,19 +9,20 @@ use crate::plan::{listing, refused};
 use crate::records::{decode, Table};
 use crate::scale::Scale;
 use crate::svg::Picture;
+use crate::wording::counted;
 use vempaldi::{Amounts, Block, Refusal};
 
 const MARGIN: f64 = 16.0;
 /// Room at the left for loops, shifts and peels.
-const LEFT: f64 = 330.0;
-const SHIFT_AT: f64 = 262.0;
-const PEEL_AT: f64 = 308.0;
+const LEFT: f64 = 386.0;
+const SHIFT_AT: f64 = 318.0;
+const PEEL_AT: f64 = 364.0;
+/// Room for a statement: as far as a shift of four digits.
+const STATEMENT: f64 = SHIFT_AT - 22.0 - MARGIN;
 const ROW: f64 = 34.0;
 const BAR: f64 = 22.0;
 const LEAST_WIDTH: f64 = 640.0;
 const BLOCK_WIDTH: f64 = 84.0;
-/// Longer statements are cut.
-const STATEMENT: usize = 40;
 
 const STYLE: &str = "\
 text { font: 12px sans-serif; fill: #222; }
@@ -35,7 +36,7 @@ text { font: 12px sans-serif; fill: #222; }
 .own { stroke: #aab; stroke-width: 1; }
 .end { stroke: #8891a3; stroke-width: 1; stroke-dasharray: 3 3; }
 .barrier { stroke: #a01c1c; stroke-width: 4; }
-.said { fill: #a01c1c; font-weight: bold; }
+.said { fill: #a01c1c; font-weight: bold; stroke: #eef0f4; stroke-width: 4px; paint-order: stroke; }
 .fused { fill: #2f6db3; stroke: #fff; }
 .peeled { fill: #e8891c; stroke: #fff; }
 .later { fill: none; stroke: #e8891c; stroke-width: 1.2; stroke-dasharray: 3 2; }
@@ -78,7 +79,7 @@ pub fn draw(options: &Options) -> Result<Outcome, Failure> {
 fn plan(name: &str, bytes: &[u8], processors: u32) -> Result<Plan, Refusal> {
     let lines = listing(bytes, processors)?;
     Ok(Plan {
-        name: name.rsplit('/').next().unwrap_or(name).to_string(),
+        name: title(name),
         table: decode(bytes).0,
         amounts: vempaldi::shifts_and_peels(bytes)?,
         blocks: vempaldi::blocks(bytes, processors)?,
@@ -138,29 +139,30 @@ impl Plan {
 
     fn head(&self, picture: &mut Picture) {
         let count = self.blocks.len();
-        let plural = if count == 1 { "" } else { "s" };
-        picture.text(MARGIN, 28.0, "title", &format!("{}: {count} processor{plural}", self.name));
+        picture.text(MARGIN, 28.0, "title", &format!("{}: {}", self.name, counted(count, "processor")));
         let (first, last) = (self.blocks[0].first, self.blocks[count - 1].last);
+        let rule = if count == 1 { "it holds for two processors or more" } else { "no block may be shorter" };
         let facts = format!(
-            "indices {first} to {last}; threshold {} (no block may be shorter); sweeps over arrays {} before fusion, {} after",
+            "indices {first} to {last}; threshold {} ({rule}); sweeps over arrays {} before fusion, {} after",
             self.threshold, self.sweeps.before, self.sweeps.after
         );
         picture.text(MARGIN, 48.0, "small", &facts);
     }
 
     fn columns(&self, picture: &mut Picture, scale: &Scale, layout: &Layout) {
-        for (b, block) in self.blocks.iter().enumerate() {
-            let span = scale.span(block.first, block.last);
+        let spans: Vec<(f64, f64)> = self.blocks.iter().map(|block| scale.span(block.first, block.last)).collect();
+        for (b, span) in spans.iter().enumerate() {
             let class = if b % 2 == 0 { "even" } else { "odd" };
             picture.rectangle(span.0, layout.header - 16.0, span.1, layout.foot - layout.header + 16.0, class);
-            let names = [format!("processor {b}"), format!("P{b}"), format!("{b}")];
-            picture.fitting(span, layout.header, "strong", 13.0, &names);
-            let indices = [format!("{} to {}", block.first, block.last), format!("{}-{}", block.first, block.last)];
-            picture.fitting(span, layout.header + 16.0, "small", 11.0, &indices);
             if b > 0 {
                 picture.line((span.0, layout.header - 16.0), (span.0, layout.foot), "end");
             }
         }
+        let named = |name: fn(usize) -> String| (0..spans.len()).map(name).collect();
+        let names = [named(|b| format!("processor {b}")), named(|b| format!("P{b}")), named(|b| b.to_string())];
+        picture.fitting_all(&spans, layout.header, "strong", 13.0, &names);
+        let bounds = |word: &str| self.blocks.iter().map(|block| format!("{}{word}{}", block.first, block.last)).collect();
+        picture.fitting_all(&spans, layout.header + 16.0, "small", 11.0, &[bounds(" to "), bounds("-")]);
         picture.text(MARGIN, layout.fused - 10.0, "strong", "before the barrier");
         picture.text(SHIFT_AT, layout.fused - 10.0, "strong mid", "shift");
         picture.text(PEEL_AT, layout.fused - 10.0, "strong mid", "peel");
@@ -173,7 +175,7 @@ impl Plan {
             let y = top + ROW * k as f64;
             picture.text(MARGIN, y + 12.0, "strong", &format!("loop {k}"));
             let said = assignment(one).unwrap_or_default();
-            picture.text(MARGIN, y + 26.0, "small", &cut(&said));
+            picture.cut((MARGIN, STATEMENT), y + 26.0, "small", 11.0, &said);
             picture.text(SHIFT_AT, y + 16.0, "mid", &self.amounts[k].shift.to_string());
             picture.text(PEEL_AT, y + 16.0, "mid", &self.amounts[k].peel.to_string());
             let span = scale.span(one.first, one.last);
@@ -222,9 +224,10 @@ fn barrier(picture: &mut Picture, layout: &Layout, right: f64) {
     picture.text(LEFT, layout.barrier + 18.0, "said", said);
 }
 
-fn cut(said: &str) -> String {
-    match said.char_indices().nth(STATEMENT) {
-        Some((at, _)) => format!("{}..", &said[..at]),
-        None => said.to_string(),
+/// What the picture is of. A longer name would leave the frame.
+fn title(name: &str) -> String {
+    match name {
+        "-" => "standard input".to_string(),
+        _ => name.rsplit('/').next().unwrap_or(name).chars().take(60).collect(),
     }
 }

@@ -10,9 +10,6 @@ pub fn join(options: &Options) -> Result<Outcome, Failure> {
     let [left, right] = &options.files[..] else {
         return Err(Failure::Usage("join takes two files".to_string()));
     };
-    if left == "-" && right == "-" {
-        return Err(Failure::Usage("the standard input can be one of the two tables only".to_string()));
-    }
     let first = batch::read_table(left)?;
     let second = batch::read_table(right)?;
     match vempaldi::join(&first, &second) {

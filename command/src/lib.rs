@@ -19,6 +19,7 @@ mod run;
 mod scale;
 mod svg;
 mod text;
+mod wording;
 
 pub use parse::{make, Made, TextError};
 pub use records::{decode, Item, Loop, Table};
@@ -26,23 +27,35 @@ pub use text::dump;
 
 use options::Options;
 use outcome::{Failure, Outcome};
+use std::ffi::OsString;
+use wording::quoted;
 
 /// Runs the command with the words behind its name. The result is the exit status.
-pub fn main(words: &[String]) -> i32 {
-    let told = match words.first().map(String::as_str) {
-        None => Err(Failure::Usage("no command".to_string())),
-        Some("--help" | "-h" | "help") => help::print(),
-        Some("--version") => help::version(),
-        Some(command) => dispatch(command, &words[1..]),
+pub fn main(words: impl Iterator<Item = OsString>) -> i32 {
+    let words: Result<Vec<String>, OsString> = words.map(OsString::into_string).collect();
+    let told = match words {
+        Ok(words) => begin(&words),
+        Err(word) => Err(Failure::Usage(format!("{word:?} is not UTF-8"))),
     };
     match told {
         Ok(outcome) => outcome.status(),
         Err(failure) => {
-            eprintln!("vempaldi: {failure}");
+            batch::say(&format!("vempaldi: {failure}"));
             outcome::TROUBLE
         }
     }
 }
+
+fn begin(words: &[String]) -> Result<Outcome, Failure> {
+    match words.first().map(String::as_str) {
+        None => Err(Failure::Usage(format!("no command is given; {COMMANDS}"))),
+        Some("--help" | "-h" | "help") => help::print(),
+        Some("--version") => help::version(),
+        Some(command) => dispatch(command, &words[1..]),
+    }
+}
+
+const COMMANDS: &str = "there are check, plan, join, run, dump, make and draw";
 
 fn dispatch(command: &str, words: &[String]) -> Result<Outcome, Failure> {
     if words.iter().any(|word| word == "--help" || word == "-h") {
@@ -57,6 +70,6 @@ fn dispatch(command: &str, words: &[String]) -> Result<Outcome, Failure> {
         "dump" => text::dump_files(&options.only(&[])?),
         "make" => parse::make_file(&options.only(&["-o"])?),
         "draw" => draw::draw(&options.only(&["-p", "-o"])?),
-        other => Err(Failure::Usage(format!("no command {other}"))),
+        other => Err(Failure::Usage(format!("no command {}; {COMMANDS}", quoted(other)))),
     }
 }

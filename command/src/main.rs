@@ -1,6 +1,5 @@
 use std::process::exit;
 
 fn main() {
-    let words: Vec<String> = std::env::args().skip(1).collect();
-    exit(vempaldi_command::main(&words));
+    exit(vempaldi_command::main(std::env::args_os().skip(1)));
 }

@@ -4,6 +4,7 @@ use crate::batch;
 use crate::orders::Draw;
 use crate::outcome::Failure;
 use crate::records::Table;
+use crate::wording::{counted, quoted};
 
 pub enum Memory {
     Index,
@@ -14,13 +15,13 @@ pub enum Memory {
 
 impl Memory {
     pub fn read(word: &str) -> Result<Memory, Failure> {
-        let unknown = || Failure::Usage(format!("--memory {word} is no memory"));
+        let unknown = || Failure::Usage(format!("--memory {} is not one of index, zero, random:SEED or @FILE", quoted(word)));
         match word {
             "index" => Ok(Memory::Index),
             "zero" => Ok(Memory::Zero),
             _ => match (word.strip_prefix("random:"), word.strip_prefix('@')) {
                 (Some(seed), _) => seed.parse().map(Memory::Random).map_err(|_| unknown()),
-                (_, Some(file)) => batch::read_whole(file).map(|bytes| Memory::Numbers(numbers(&bytes))),
+                (_, Some(file)) => numbers(file, &batch::read_whole(file)?).map(Memory::Numbers),
                 _ => Err(unknown()),
             },
         }
@@ -50,14 +51,14 @@ fn any(drawn: &mut Draw) -> f64 {
     }
 }
 
-/// A last number that is cut short counts as one more, so that the file is not taken for a shorter one.
-fn numbers(bytes: &[u8]) -> Vec<f64> {
-    let whole = |eight: &[u8]| {
-        let mut all = [0; 8];
-        all[..eight.len()].copy_from_slice(eight);
-        f64::from_le_bytes(all)
-    };
-    bytes.chunks(8).map(whole).collect()
+/// A file whose last number is cut short is no memory: neither without that number nor with a part of it.
+fn numbers(file: &str, bytes: &[u8]) -> Result<Vec<f64>, Failure> {
+    let whole = bytes.chunks_exact(8);
+    if !whole.remainder().is_empty() {
+        let count = counted(bytes.len(), "byte");
+        return Err(Failure::Usage(format!("--memory @{file}: {count}, not a whole count of numbers of 8 bytes")));
+    }
+    Ok(whole.map(|eight| f64::from_le_bytes(eight.try_into().expect("eight bytes"))).collect())
 }
 
 pub fn bytes(memory: &[f64]) -> Vec<u8> {

@@ -1,6 +1,7 @@
 //! The words behind a command: files and options, in any order.
 
 use crate::outcome::Failure;
+use crate::wording::quoted;
 
 #[derive(Default)]
 pub struct Options {
@@ -25,12 +26,23 @@ impl Options {
             } else if ALONE.contains(&word.as_str()) {
                 options.given.push((word.clone(), String::new()));
             } else if word.starts_with('-') && word != "-" {
-                return Err(Failure::Usage(format!("no option {word}")));
+                return Err(Failure::Usage(format!("no option {}", quoted(word))));
             } else {
                 options.files.push(word.clone());
             }
         }
+        options.input_once()?;
         Ok(options)
+    }
+
+    /// The standard input has one table, order or memory: a second reader would find nothing.
+    fn input_once(&self) -> Result<(), Failure> {
+        let files = self.files.iter().filter(|file| *file == "-").count();
+        let values = self.given.iter().filter(|(_, value)| value == "@-").count();
+        match files + values {
+            0 | 1 => Ok(()),
+            _ => Err(Failure::Usage("the standard input can be read once only".to_string())),
+        }
     }
 
     /// Refuses options that the command at hand does not have.
@@ -52,7 +64,7 @@ impl Options {
 
     pub fn processors(&self) -> Result<u32, Failure> {
         let value = self.value("-p").ok_or_else(|| Failure::Usage("-p N is missing".to_string()))?;
-        value.parse().map_err(|_| Failure::Usage(format!("-p {value} is not a number of processors")))
+        value.parse().map_err(|_| Failure::Usage(format!("-p {} is not a number of processors, 1 to 64", quoted(value))))
     }
 
     /// At least one file.

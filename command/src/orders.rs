@@ -2,6 +2,7 @@
 
 use crate::batch;
 use crate::outcome::Failure;
+use crate::wording::quoted;
 
 pub enum Order {
     Turns,
@@ -22,7 +23,8 @@ impl Order {
     }
 
     fn of_value(word: &str) -> Result<Order, Failure> {
-        let unknown = || Failure::Usage(format!("--order {word} is no order"));
+        let forms = "turns, falling, none, random:SEED, numbers from 0 to 255 with commas between, or @FILE";
+        let unknown = || Failure::Usage(format!("--order {} is not one of {forms}", quoted(word)));
         if let Some(seed) = word.strip_prefix("random:") {
             seed.parse().map(Order::Random).map_err(|_| unknown())
         } else if let Some(file) = word.strip_prefix('@') {

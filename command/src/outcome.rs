@@ -12,6 +12,8 @@ pub enum Outcome {
     Good,
     /// Refused, or the memories differ.
     Bad,
+    /// Some of several files could not be read; each was named when it was met.
+    Unread,
 }
 
 impl Outcome {
@@ -19,6 +21,7 @@ impl Outcome {
         match self {
             Outcome::Good => 0,
             Outcome::Bad => 1,
+            Outcome::Unread => TROUBLE,
         }
     }
 }
@@ -27,17 +30,14 @@ impl Outcome {
 pub enum Failure {
     Usage(String),
     Io(String, io::Error),
-    /// Some of several files could not be read; each was named when it was met.
-    Some(usize),
 }
 
 impl fmt::Display for Failure {
     fn fmt(&self, out: &mut fmt::Formatter<'_>) -> fmt::Result {
         match self {
             Failure::Usage(what) => write!(out, "{what} (vempaldi --help says how)"),
+            Failure::Io(name, error) if name.is_empty() => write!(out, "'': {error}"),
             Failure::Io(name, error) => write!(out, "{name}: {error}"),
-            Failure::Some(1) => write!(out, "one file could not be read"),
-            Failure::Some(count) => write!(out, "{count} files could not be read"),
         }
     }
 }

@@ -5,6 +5,7 @@ use crate::options::Options;
 use crate::outcome::{Failure, Outcome};
 use crate::records::OPERATIONS;
 use crate::refusals::describe;
+use crate::wording::quoted;
 use std::fmt;
 use vempaldi::{Ground, Refusal};
 
@@ -30,6 +31,10 @@ pub struct Made {
 pub fn make_file(options: &Options) -> Result<Outcome, Failure> {
     let name = options.one_file()?;
     let bytes = batch::read_whole(name)?;
+    if vempaldi::check(&bytes).is_ok() {
+        batch::say(&format!("{name}: this is a table, not a text (vempaldi dump gives the text of a table)"));
+        return Ok(Outcome::Bad);
+    }
     let made = match make(&String::from_utf8_lossy(&bytes)) {
         Ok(made) => made,
         Err(error) => {
@@ -47,7 +52,7 @@ pub fn make_file(options: &Options) -> Result<Outcome, Failure> {
 
 /// The table of a text. Its numbers are only asked to fit their fields; whether the table is accepted is the library's to say.
 pub fn make(text: &str) -> Result<Made, TextError> {
-    let mut maker = Maker { names: Vec::new(), in_loop: false, line: 0, made: Made { bytes: Vec::new(), lines: Vec::new() } };
+    let mut maker = Maker { names: Vec::new(), in_loop: false, line: 1, made: Made { bytes: Vec::new(), lines: Vec::new() } };
     for (at, line) in text.lines().enumerate() {
         maker.line = at + 1;
         let said = line.split('#').next().unwrap_or("").trim();
@@ -88,7 +93,7 @@ impl Maker {
             Some("array") => self.array(&said["array".len()..]),
             Some("loop") => self.a_loop(&said["loop".len()..]),
             Some(_) if self.in_loop => self.items(said),
-            Some(word) => Err(format!("'{word}' where a line begins with 'array' or 'loop'")),
+            Some(word) => Err(format!("{} where a line begins with 'array' or 'loop'", quoted(word))),
         }
     }
 
@@ -101,12 +106,12 @@ impl Maker {
         let words: Vec<&str> = said.split_whitespace().collect();
         let [name, length] = words[..] else { return Err("an array is 'array NAME LENGTH'".to_string()) };
         if !is_name(name) {
-            return Err(format!("'{name}' is not a name: a letter, then letters, digits or _"));
+            return Err(format!("{} is not a name: a letter, then letters, digits or _", quoted(name)));
         }
         if self.names.iter().any(|known| known == name) {
             return Err(format!("there is an array {name} already"));
         }
-        let length: u32 = length.parse().map_err(|_| format!("'{length}' is not a length"))?;
+        let length: u32 = length.parse().map_err(|_| format!("{} is not a length", quoted(length)))?;
         self.names.push(name.to_string());
         self.record(&[&[1][..], &length.to_le_bytes()].concat());
         Ok(())
@@ -118,8 +123,8 @@ impl Maker {
         let (bounds, store) = head.split_once("->").ok_or(form)?;
         let bounds: Vec<&str> = bounds.split_whitespace().collect();
         let [first, last] = bounds[..] else { return Err(form.to_string()) };
-        let first: u32 = first.parse().map_err(|_| format!("'{first}' is not an index"))?;
-        let last: u32 = last.parse().map_err(|_| format!("'{last}' is not an index"))?;
+        let first: u32 = first.parse().map_err(|_| format!("{} is not an index", quoted(first)))?;
+        let last: u32 = last.parse().map_err(|_| format!("{} is not an index", quoted(last)))?;
         let store = self.reference(store.trim())?;
         self.record(&[&[2][..], &first.to_le_bytes(), &last.to_le_bytes(), &store].concat());
         self.in_loop = true;
@@ -134,7 +139,7 @@ impl Maker {
         if let Some(code) = OPERATIONS.iter().position(|name| *name == word) {
             self.record(&[5, code as u8 + 1]);
         } else if word.starts_with(|first: char| first.is_ascii_digit()) {
-            let value: u32 = word.parse().map_err(|_| format!("'{word}' is not a whole number up to 4294967295"))?;
+            let value: u32 = word.parse().map_err(|_| format!("{} is not a whole number up to 4294967295", quoted(word)))?;
             self.record(&[&[4][..], &value.to_le_bytes()].concat());
         } else {
             let reference = self.reference(word)?;
@@ -147,13 +152,15 @@ impl Maker {
     fn reference(&self, word: &str) -> Result<[u8; 3], String> {
         let parts = word.strip_suffix(']').and_then(|open| open.split_once("[i"));
         let Some((name, offset)) = parts else {
-            return Err(format!("'{word}' is no item: NAME[i+OFFSET], a whole number, or one of + - * / neg"));
+            return Err(format!("{} is no item: NAME[i+OFFSET], a whole number, or one of + - * / neg", quoted(word)));
         };
-        let array = self.names.iter().position(|known| known == name).ok_or_else(|| format!("no array {name}"))?;
+        let array = self.names.iter().position(|known| known == name).ok_or_else(|| format!("no array {}", quoted(name)))?;
         let offset: i16 = match offset {
             "" => 0,
-            signed if signed.starts_with(['+', '-']) => signed.parse().map_err(|_| format!("'{signed}' is not an offset"))?,
-            other => return Err(format!("'{other}' is not an offset: +3 or -3")),
+            signed if signed.starts_with(['+', '-']) => {
+                signed.parse().map_err(|_| format!("{} is not an offset", quoted(signed)))?
+            }
+            other => return Err(format!("{} is not an offset: +3 or -3", quoted(other))),
         };
         let low_high = offset.to_le_bytes();
         Ok([u8::try_from(array).unwrap_or(u8::MAX), low_high[0], low_high[1]])

@@ -1,6 +1,7 @@
 //! Refusals in words, with the record that a byte or a loop's number stands for.
 
 use crate::records::{kind_name, records, Record};
+use crate::wording::counted;
 use vempaldi::{Ground, Refusal};
 
 /// All but the file's name: number, word, record, byte and ground.
@@ -13,7 +14,14 @@ pub fn describe(table: &[u8], refusal: &Refusal) -> String {
         _ if ground.has_byte() => format!(" at {}", byte(table, refusal.place as usize)),
         _ => String::new(),
     };
-    format!("{head}{place}: {}", ground.text())
+    let more = if is_text(table, refusal) { " (this looks like text: vempaldi make gives the table of a text)" } else { "" };
+    format!("{head}{place}: {}{more}", ground.text())
+}
+
+/// Whether the refusal is that of a text where a table is due.
+fn is_text(table: &[u8], refusal: &Refusal) -> bool {
+    let printable = |byte: &u8| !byte.is_ascii_control() || b"\t\n\r".contains(byte);
+    refusal.ground == Ground::Kind && refusal.place == 0 && table.iter().all(printable)
 }
 
 /// The record whose kind byte stands at a place.
@@ -48,5 +56,5 @@ pub fn advice(table: &[u8], refusal: &Refusal) -> Option<String> {
     }
     let most = (1..=vempaldi::MOST_PROCESSORS).rev().find(|&p| vempaldi::blocks(table, p).is_ok())?;
     let threshold = vempaldi::threshold(table).ok()?;
-    Some(format!("the threshold is {threshold}; there is a plan for {most} processors at most"))
+    Some(format!("the threshold is {threshold}; there is a plan for {} at most", counted(most as usize, "processor")))
 }

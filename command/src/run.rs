@@ -7,7 +7,8 @@ use crate::orders::Order;
 use crate::outcome::{Failure, Outcome};
 use crate::plan::refused;
 use crate::records::{decode, Table};
-use vempaldi::Refusal;
+use crate::wording::counted;
+use vempaldi::{Ground, Refusal};
 
 const WORDS: Words = Words { good: "agree", bad: "refused or different" };
 
@@ -31,11 +32,23 @@ pub fn run(options: &Options) -> Result<Outcome, Failure> {
         }
         let (table, _) = decode(bytes);
         let order = order.bytes(processors, table.iterations());
-        match both(bytes, processors, &order, memory.numbers(&table)) {
+        let start = memory.numbers(&table);
+        let lent = start.len();
+        match both(bytes, processors, &order, start) {
             Ok(both) => say(options, name, &table, processors, &both),
-            Err(refusal) => Ok(refused(name, bytes, &refusal)),
+            Err(refusal) => {
+                let outcome = refused(name, bytes, &refusal);
+                if refusal.ground == Ground::Memory {
+                    batch::say(&lengths(name, table.elements(), lent));
+                }
+                Ok(outcome)
+            }
         }
     })
+}
+
+fn lengths(name: &str, elements: usize, lent: usize) -> String {
+    format!("{name}: the table has {}, the memory {}", counted(elements, "element"), counted(lent, "number"))
 }
 
 fn both(table: &[u8], processors: u32, order: &[u8], start: Vec<f64>) -> Result<Both, Refusal> {
@@ -52,8 +65,8 @@ fn say(options: &Options, name: &str, table: &Table, processors: u32, both: &Bot
         None => format!("agrees with the plain run, all {} numbers bit for bit", both.run.len()),
         Some(&at) => format!("DIFFERS from the plain run in {} numbers, first {}", different.len(), pair(table, both, at)),
     };
-    let iterations = table.iterations();
-    let line = format!("{name}: {iterations} iterations on {processors} processors, idle {}: {verdict}\n", both.idle);
+    let (iterations, processors) = (counted(table.iterations(), "iteration"), counted(processors as usize, "processor"));
+    let line = format!("{name}: {iterations} on {processors}, idle {}: {verdict}\n", both.idle);
     batch::print(line.as_bytes())?;
     if options.has("--values") {
         batch::print(values(table, &both.run).as_bytes())?;

@@ -1,54 +1,9 @@
-//! Runs the command as a user does. What is expected is typed from the paper, and for LL18 and Jacobi from the thesis that gives
-//! their shifts, peels and sweeps.
+//! What each command does. What is expected is typed from the paper, and for LL18 and Jacobi from the thesis that gives their shifts,
+//! peels and sweeps.
 
-use std::io::Write;
-use std::path::PathBuf;
-use std::process::{Command, Stdio};
-use vempaldi_checks::encoder::encode;
-use vempaldi_checks::processors;
-use vempaldi_checks::random::Random;
-use vempaldi_checks::tables::{self, LARGE, MIDDLE, SMALL};
+mod common;
 
-struct Told {
-    status: i32,
-    out: String,
-    err: String,
-}
-
-fn root() -> PathBuf {
-    PathBuf::from(env!("CARGO_MANIFEST_DIR")).join("..")
-}
-
-/// Runs in the repository's directory with these bytes as the standard input.
-fn fed(words: &[&str], input: &[u8]) -> Told {
-    let mut command = Command::new(env!("CARGO_BIN_EXE_vempaldi"));
-    let command = command.args(words).current_dir(root());
-    let piped = command.stdin(Stdio::piped()).stdout(Stdio::piped()).stderr(Stdio::piped());
-    let mut child = piped.spawn().expect("started");
-    // A command that does not read its input closes it early.
-    child.stdin.take().expect("piped").write_all(input).ok();
-    let output = child.wait_with_output().expect("ended");
-    Told {
-        status: output.status.code().expect("a status"),
-        out: String::from_utf8_lossy(&output.stdout).into_owned(),
-        err: String::from_utf8_lossy(&output.stderr).into_owned(),
-    }
-}
-
-fn run(words: &[&str]) -> Told {
-    fed(words, &[])
-}
-
-fn bytes(name: &str) -> Vec<u8> {
-    std::fs::read(root().join(name)).expect("an example")
-}
-
-/// A fresh name for an output.
-fn out_name(name: &str) -> String {
-    std::env::temp_dir().join(format!("vempaldi-{}-{name}", std::process::id())).display().to_string()
-}
-
-const EXAMPLE: &str = "examples/example.table";
+use common::{bytes, fed, out_name, run, EXAMPLE};
 
 #[test]
 fn plan_prints_the_papers_listing() {
@@ -109,7 +64,7 @@ fn make_gives_the_examples_bytes_and_names_wrong_lines() {
         std::fs::remove_file(&out).expect("removed");
     }
     let told = fed(&["make", "-"], b"array A 12\n\nloop 1 10 -> A[i]: B[i]\n");
-    assert_eq!((told.status, told.err.as_str()), (1, "-:3: no array B\n"));
+    assert_eq!((told.status, told.err.as_str()), (1, "-:3: no array 'B'\n"));
     let told = fed(&["make", "-"], b"array A 12\nloop 1 10 -> A[i]:\n  1\n  +\n");
     assert!(told.err.starts_with("-:4: refused 6 body"), "{}", told.err);
 }
@@ -179,36 +134,6 @@ fn several_files_are_counted_and_the_worst_decides() {
     assert_eq!(told.status, 2);
     assert_eq!(told.out.lines().count(), 1);
     assert!(told.err.contains("examples/no-such-file: ") && told.err.contains("1 not read"), "{}", told.err);
-}
-
-#[test]
-fn a_picture_has_the_parts_and_the_barrier() {
-    let told = run(&["draw", EXAMPLE, "-p", "2"]);
-    assert_eq!(told.status, 0);
-    for said in ["P0: 1-5", "P0: 1-4", "P1: 6-10", "P1: 7-10", "P0: 5-6", "barrier", "shift", "peel"] {
-        assert!(told.out.contains(said), "{said}");
-    }
-    assert!(told.out.starts_with("<svg ") && told.out.ends_with("</svg>\n") && !told.out.contains("<script"));
-    assert_eq!(run(&["draw", EXAMPLE, "-p", "6"]).status, 1);
-}
-
-#[test]
-fn a_picture_has_every_part_of_the_listing_inside_its_frame() {
-    let mut random = Random::new(33);
-    for round in 0..60 {
-        let shape = [SMALL, MIDDLE, LARGE][round % 3];
-        let table = tables::aligned(&mut random, &shape);
-        let count = processors::most(&table).to_string();
-        let bytes = encode(&table);
-        let listing = fed(&["plan", "-", "-p", &count], &bytes).out;
-        let picture = fed(&["draw", "-", "-p", &count], &bytes).out;
-        for word in ["fused", "peeled"] {
-            let lines = listing.lines().filter(|line| line.starts_with(word)).count();
-            // One more stands in the legend.
-            assert_eq!(picture.matches(&format!("class='{word}'")).count(), lines + 1);
-        }
-        assert!(!picture.contains("NaN") && !picture.contains("inf'") && !picture.contains("='-"), "{picture}");
-    }
 }
 
 #[test]
