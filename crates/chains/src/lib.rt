@@ -2,12 +2,13 @@
 
 ghost use mathlib.Core.Path.{_≡_};
 ghost use mathlib.Core.Bool.{_||_};
-ghost use Prim.Native.Nat.{_+_, _-_, _<_, max};
+ghost use Prim.Native.Nat.{_+_, _-_, _<_, _≤_, max};
 ghost use lib.ListN.{length};
 ghost use Rattle.chains.specs.Dependence.{dependence, backward, forward};
 ghost use Rattle.chains.specs.Walk.{required, shifts, peels};
 ghost use Rattle.chains.specs.Threshold.{threshold};
 ghost use Rattle.chains.specs.Columns.{columns, refAt, refs, requiredAt, WellFormed};
+ghost use Rattle.chains.specs.Stores.{NextStores};
 use model::Reference;
 
 // The amounts of shifting and peeling, for each loop a shift and a peel; 0 past the last loop.
@@ -93,6 +94,24 @@ fn take_up(
         return raise(before, shifts[k], peels[k], x.offset, y.offset);
     }
     before
+}
+
+// For each place the first from it on that stores. Where none does it is the last place of all, so that the walk can look at it.
+fn next_stores(stores: &[u8]) -> [u16; 528]
+    requires { ⌜ length (now stores) ≤ 528 ⌝ }
+    ensures { λ r. ⌜ NextStores (now (stores .entry)) r ⌝ }
+{
+    let mut nexts = [0u16; 528];
+    let mut next = above(stores.len(), 1);
+    let mut j = stores.len();
+    while 0 < j {
+        j -= 1;
+        if stores[j] == 1 {
+            next = j;
+        }
+        nexts[j] = next as u16;
+    }
+    nexts
 }
 
 // What the dependences that end at reference i require of its loop. Only references of earlier loops can start one.
