@@ -1,31 +1,25 @@
 -- The walk as the code makes it: what is left to do, from what there is, gives the whole.
-use Prim.Native.Nat.{ℕ, suc, _+_, _-_, max, _≤_, _<_}
+use Prim.Native.Nat.{ℕ, zero, suc, _+_, _-_, max, _≤_, _<_}
 use mathlib.Core.Path.{_≡_, refl, sym, ap, _∙_}
 use mathlib.Core.Bool.{true, false}
 use mathlib.Core.List.{List, [], _∷_}
 use mathlib.Core.List.{List·Memᴰ as Mem, List·Memᴰ·head as mhere, List·Memᴰ·tail as mthere}
 use native.Mathlib.Nat.{max-zero, zero-max, sub-zero}
-use native.Mathlib.Decide.{ℕ-discrete}
+use native.Mathlib.Decide.{ℕ-discrete, decLt}
 use native.Mathlib.Numerals.{add-one}
 use native.Mathlib.Omega.{arith}
+use borrow.Author.Tests.{ne-eqb}
 use lib.ListN.{length, getD, set, replicate, length-set}
 use Rattle.model.specs.declared.Reference.{Reference}
 use Rattle.chains.specs.Dependence.{dependence, backward, forward}
 use Rattle.chains.specs.Maximum.{maximum}
-use Rattle.chains.specs.Walk.{required, required-met, required-none, required-late, raised, raised-same, walk, numbers, zeros}
+use Rattle.chains.specs.Walk.{required, required-met, required-none, required-late, required-reads, raised, raised-same, walk, numbers, zeros}
 use Rattle.chains.specs.Bounds.{Small, AtMost, raised-small}
 use Rattle.chains.specs.Columns.{Columns, refAt, refsFrom, refs, requiredAt, WellFormed, refsFrom-late, refs-mem, refs-place}
+use Rattle.chains.specs.Stores.{NextStore}
 
 max-right : (a b c : ℕ) → max (max a b) c ≡ max a (max b c)
 max-right a b c = omega arith
-
--- two places with different numbers are different places
-pub apart : (ls : List ℕ) (j i : ℕ) → j ≤ i → getD ls j 0 < getD ls i 0 → j < i
-apart ls j i h l = go (ℕ-discrete j i)
-  where
-    go : Dec (j ≡ i) → j < i
-    go (yes e) = let f = ap (λ (n : ℕ). getD ls n 0) e in absurd (omega arith)
-    go (no e) = omega arith
 
 module _ (amount : Reference → Reference → ℕ) (s : List ℕ) (y : Reference) where
   -- a pair that is a dependence, and one that is not
@@ -50,24 +44,80 @@ module _ (c : Columns) where
   pub Left : (Reference → ℕ) → ℕ → ℕ → Type 0
   Left f j a = max a (maximum f (refsFrom c j (length (c .loops) - j))) ≡ maximum f (refs c)
 
-  pub left-start : (f : Reference → ℕ) → Left f 0 0
+  left-start : (f : Reference → ℕ) → Left f 0 0
   unfolding Left refs
   left-start f = rw sub-zero (zero-max _)
 
-  pub left-next : (f : Reference → ℕ) (j a b : ℕ) (x : Reference) → j < length (c .loops) → x ≡ refAt c j → b ≡ max a (f x) → Left f j a → Left f (j + 1) b
+  left-next : (f : Reference → ℕ) (j a b : ℕ) (x : Reference) → j < length (c .loops) → x ≡ refAt c j → b ≡ max a (f x) → Left f j a → Left f (j + 1) b
   unfolding Left refsFrom maximum
   left-next f j a b x h p q l =
       let e : length (c .loops) - j ≡ suc (length (c .loops) - suc j) = omega arith in
       let v = rw e at l in
       rw (q, p, add-one) (max-right a (f (refAt c j)) (maximum f (refsFrom c (suc j) (length (c .loops) - suc j))) ∙ v)
 
-  pub left-end : (amount : Reference → Reference → ℕ) (s : List ℕ) → WellFormed c → (i j a : ℕ) (y : Reference) → y ≡ refAt c i
+  -- references that require nothing are passed over
+  left-past : (f : Reference → ℕ) (j k a : ℕ) → j ≤ k → k ≤ length (c .loops) → ((m : ℕ) → j ≤ m → m < k → f (refAt c m) ≡ 0) → Left f j a → Left f k a
+  left-past f j zero a l h none p = let e : j ≡ 0 = omega arith in rw e at p
+  left-past f j (suc k) a l h none p = go (ℕ-discrete j (suc k)) (left-past f j k a)
+    where
+      go : Dec (j ≡ suc k) → (j ≤ k → k ≤ length (c .loops) → ((m : ℕ) → j ≤ m → m < k → f (refAt c m) ≡ 0) → Left f j a → Left f k a) → Left f (suc k) a
+      go (yes e) ih = rw e at p
+      go (no e) ih =
+          let z = none k (omega arith) (omega arith) in
+          rw add-one at (left-next f k a a (refAt c k) h refl (rw z (sym (max-zero a))) (ih (omega arith) (omega arith) (λ m b d. none m b (omega arith)) p))
+
+  left-end : (amount : Reference → Reference → ℕ) (s : List ℕ) → WellFormed c → (i j a : ℕ) (y : Reference) → y ≡ refAt c i
       → getD (c .loops) i 0 ≤ getD (c .loops) j 0 → Left (required amount s y) j a → a ≡ requiredAt amount c s i
   unfolding Left
   left-end amount s formed i j a y p g l =
       let none = maximum-late amount s (refAt c i) (refsFrom c j (length (c .loops) - j)) (refsFrom-late c formed (getD (c .loops) i 0) j g) in
       let v = rw p at l in
       omega (arith, v, none)
+
+  -- place j is the next to be looked at for y; a and b are the shift and the peel required so far
+  pub record Remaining (shifts peels : List ℕ) (y : Reference) (j a b : ℕ) : Type 0 where
+    pub inside : j < length (c .loops)
+    pub shift : Left (required backward shifts y) j a
+    pub peel : Left (required forward peels y) j b
+
+  module _ (formed : WellFormed c) (shifts peels : List ℕ) (i : ℕ) (h : i < length (c .loops)) (y : Reference) (p : y ≡ refAt c i) where
+    pub remaining-start : Remaining shifts peels y 0 0 0
+    remaining-start = record { inside = omega arith; shift = left-start _; peel = left-start _ }
+
+    -- a reference of an earlier loop stands at an earlier place
+    remaining-before : (j a b : ℕ) → Remaining shifts peels y j a b → getD (c .loops) j 0 < getD (c .loops) i 0 → j < i
+    remaining-before j a b r l = go (decLt j i)
+      where
+        go : Dec (j < i) → j < i
+        go (yes e) = e
+        go (no e) = absurd (omega (arith, formed .rising i j (omega arith) (r .inside)))
+
+    pub remaining-next : (j a b : ℕ) → Remaining shifts peels y j a b → getD (c .loops) j 0 < getD (c .loops) i 0 → (x : Reference) → x ≡ refAt c j
+        → (d e : ℕ) → (d ≡ max a (required backward shifts y x)) × (e ≡ max b (required forward peels y x)) → Remaining shifts peels y (j + 1) d e
+    remaining-next j a b r l x q d e t = record {
+      inside = omega (arith, remaining-before j a b r l);
+      shift = left-next _ j a d x (r .inside) q (t .0) (r .shift);
+      peel = left-next _ j b e x (r .inside) q (t .1) (r .peel);
+    }
+
+    -- where y reads, no place up to the next store requires anything
+    pub remaining-store : (getD (c .stores) i 0 ≡ 1 → ⊥) → (j a b k : ℕ) → Remaining shifts peels y j a b → NextStore (c .stores) j k → Remaining shifts peels y k a b
+    remaining-store read j a b k r n = record {
+      inside = within;
+      shift = left-past _ j k a (n .from) (omega (arith, within)) (none backward shifts) (r .shift);
+      peel = left-past _ j k b (n .from) (omega (arith, within)) (none forward peels) (r .peel);
+    }
+      where
+        within : k < length (c .loops)
+        within = omega (arith, n .inside, formed .stores)
+
+        none : (amount : Reference → Reference → ℕ) (s : List ℕ) (m : ℕ) → j ≤ m → m < k → required amount s y (refAt c m) ≡ 0
+        none amount s m u v = rw p (required-reads amount s (refAt c i) (refAt c m) (ne-eqb _ _ (n .reads m u v)) (ne-eqb _ _ read))
+
+    -- from the first reference of y's own loop on none requires anything
+    pub remaining-end : (j a b : ℕ) → Remaining shifts peels y j a b → getD (c .loops) i 0 ≤ getD (c .loops) j 0
+        → (a ≡ requiredAt backward c shifts i) × (b ≡ requiredAt forward c peels i)
+    remaining-end j a b r g = (left-end backward shifts formed i j a y p g (r .shift), left-end forward peels formed i j b y p g (r .peel))
 
   -- a bound on the offsets is one on the amounts
   pub offsets-small : ((k : ℕ) → getD (c .offsets) k 0 < 65536) → AtMost 65535 backward (refs c) × AtMost 65535 forward (refs c)

@@ -44,11 +44,12 @@ refs c = refsFrom c 0 (length (c .loops))
 abbrev pub requiredAt : (Reference → Reference → ℕ) → Columns → List ℕ → ℕ → ℕ
 requiredAt amount c s i = maximum (required amount s (refAt c i)) (refs c)
 
--- what the code asks: lists of one length, the loop numbers below 16 and never falling
+-- what the code asks: lists of one length, at most 528, the loop numbers below 16 and never falling
 pub record WellFormed (c : Columns) : Type 0 where
   pub arrays : length (c .arrays) ≡ length (c .loops)
   pub offsets : length (c .offsets) ≡ length (c .loops)
   pub stores : length (c .stores) ≡ length (c .loops)
+  pub few : length (c .loops) ≤ 528
   pub sixteen : (i : ℕ) → getD (c .loops) i 0 < 16
   pub rising : (i j : ℕ) → i ≤ j → j < length (c .loops) → getD (c .loops) i 0 ≤ getD (c .loops) j 0
 

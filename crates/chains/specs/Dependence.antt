@@ -2,7 +2,7 @@
 use Prim.Native.Nat.{ℕ, _+_, _-_, _<_}
 use mathlib.Core.Path.{_≡_, refl}
 use mathlib.Core.Logic.{_↔_, _⊎_, inl, inr, ⊎-elim}
-use mathlib.Core.Bool.{Bool, true, false, _&&_, _||_, false≢true, or-true}
+use mathlib.Core.Bool.{Bool, true, false, _&&_, _||_, false≢true, or-true, and-false}
 use mathlib.Core.List.{List}
 use mathlib.Core.List.{List·Memᴰ as Mem}
 use native.Mathlib.Omega.{arith}
@@ -55,6 +55,11 @@ dependence-touch x y = (given, made)
 -- the one law of it that chains and the walk need
 pub earlier : (x y : Reference) → dependence x y ≡ true → x .number < y .number
 earlier x y e = dependence-touch x y .0 e .0
+
+-- two reads make none
+pub none-of-reads : (x y : Reference) → x .stores ≡ false → y .stores ≡ false → dependence x y ≡ false
+unfolding dependence
+none-of-reads x y e f = rw (e, f, and-false (eqb (x .array) (y .array))) (and-false (ltb (x .number) (y .number)))
 
 -- iteration i of x's loop and iteration j of y's are at one element where, and only where, j is i + d
 pub meet-amounts : (x y : Reference) (i j : ℕ) → (i + x .offset ≡ j + y .offset) ↔ (j + backward x y ≡ i + forward x y)

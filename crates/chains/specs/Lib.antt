@@ -18,5 +18,7 @@ pub mod Bounds
 pub mod Tables
 -- references as the code has them, a list for each field
 pub mod Columns
+-- where the next store is
+pub mod Stores
 -- later loops change no number of an earlier one
 pub mod Join

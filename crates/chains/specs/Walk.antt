@@ -11,7 +11,7 @@ use lib.ListN.{length, getD, set, length-set, replicate}
 use lib.Seq.{getD-set-same, getD-set-other}
 use Rattle.order.specs.Lists.{Before}
 use Rattle.model.specs.declared.Reference.{Reference}
-use Rattle.chains.specs.Dependence.{dependence, backward, forward, Dependence, earlier}
+use Rattle.chains.specs.Dependence.{dependence, backward, forward, Dependence, earlier, none-of-reads}
 use Rattle.chains.specs.Maximum.{maximum, max-of, maximum-of}
 
 -- what the dependence from x to y, if it is one, requires of y's loop, where s has the numbers of the earlier loops
@@ -70,6 +70,10 @@ module _ (amount : Reference → Reference → ℕ) where
       go : (b : Bool) → dependence x y ≡ b → cond b (getD s (x .number) 0 + amount x y) 0 ≡ 0
       go true e = let h = earlier x y e in absurd (omega arith)
       go false e = refl
+
+  -- two reads require nothing
+  pub required-reads : (s : List ℕ) (y x : Reference) → x .stores ≡ false → y .stores ≡ false → required amount s y x ≡ 0
+  required-reads s y x e f = required-none s y x (none-of-reads x y e f)
 
 module _ (amount : Reference → Reference → ℕ) (rs : List Reference) where
   pub length-raised : (s : List ℕ) (y : Reference) → length (raised amount rs s y) ≡ length s

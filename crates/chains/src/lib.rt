@@ -2,12 +2,13 @@
 
 ghost use mathlib.Core.Path.{_≡_};
 ghost use mathlib.Core.Bool.{_||_};
-ghost use Prim.Native.Nat.{_+_, _-_, _<_, max};
-ghost use lib.ListN.{length};
+ghost use Prim.Native.Nat.{_+_, _-_, _<_, _≤_, max};
+ghost use lib.ListN.{length, getD};
 ghost use Rattle.chains.specs.Dependence.{dependence, backward, forward};
 ghost use Rattle.chains.specs.Walk.{required, shifts, peels};
 ghost use Rattle.chains.specs.Threshold.{threshold};
 ghost use Rattle.chains.specs.Columns.{columns, refAt, refs, requiredAt, WellFormed};
+ghost use Rattle.chains.specs.Stores.{NextStores};
 use model::Reference;
 
 // The amounts of shifting and peeling, for each loop a shift and a peel; 0 past the last loop.
@@ -95,8 +96,26 @@ fn take_up(
     before
 }
 
+// For each place the first from it on that stores. Where none does it is the last place of all, so that the walk can look at it.
+fn next_stores(stores: &[u8]) -> [u16; 528]
+    requires { ⌜ length (now stores) ≤ 528 ⌝ }
+    ensures { λ r. ⌜ NextStores (now (stores .entry)) r ⌝ }
+{
+    let mut nexts = [0u16; 528];
+    let mut next = above(stores.len(), 1);
+    let mut j = stores.len();
+    while 0 < j {
+        j -= 1;
+        if stores[j] == 1 {
+            next = j;
+        }
+        nexts[j] = next as u16;
+    }
+    nexts
+}
+
 // What the dependences that end at reference i require of its loop. Only references of earlier loops can start one.
-fn required_at(
+fn required_from_all(
     loops: &[u8],
     arrays: &[u8],
     offsets: &[u16],
@@ -121,6 +140,54 @@ fn required_at(
     a
 }
 
+// The same for a read. Two reads make no dependence, so only stores can start one, and the walk goes from store to store.
+fn required_from_stores(
+    loops: &[u8],
+    arrays: &[u8],
+    offsets: &[u16],
+    stores: &[u8],
+    i: usize,
+    nexts: &[u16; 528],
+    shifts: &[u32; 16],
+    peels: &[u32; 16],
+) -> Requirement
+    requires { ⌜ WellFormed (columns (now loops) (now arrays) (now offsets) (now stores)) × (i < length (now loops)) × NextStores (now stores) (now nexts) × (getD (now stores) i 0 ≡ 1 → ⊥) ⌝ }
+    ensures { λ r. ⌜ r .shift ≡ requiredAt backward (columns (now (loops .entry)) (now (arrays .entry)) (now (offsets .entry)) (now (stores .entry))) (now (shifts .entry)) i ⌝ }
+    ensures { λ r. ⌜ r .peel ≡ requiredAt forward (columns (now (loops .entry)) (now (arrays .entry)) (now (offsets .entry)) (now (stores .entry))) (now (peels .entry)) i ⌝ }
+{
+    let y = reference(loops, arrays, offsets, stores, i);
+    let number = loops[i];
+    let mut a = Requirement { shift: 0, peel: 0 };
+    let mut j = nexts[0] as usize;
+    while loops[j] < number {
+        let x = reference(loops, arrays, offsets, stores, j);
+        a = take_up(x, y, shifts, peels, a);
+        j = nexts[j + 1] as usize;
+    }
+    a
+}
+
+// The same for any reference, with no pair of two reads.
+fn required_at(
+    loops: &[u8],
+    arrays: &[u8],
+    offsets: &[u16],
+    stores: &[u8],
+    i: usize,
+    nexts: &[u16; 528],
+    shifts: &[u32; 16],
+    peels: &[u32; 16],
+) -> Requirement
+    requires { ⌜ WellFormed (columns (now loops) (now arrays) (now offsets) (now stores)) × (i < length (now loops)) × NextStores (now stores) (now nexts) ⌝ }
+    ensures { λ r. ⌜ r .shift ≡ requiredAt backward (columns (now (loops .entry)) (now (arrays .entry)) (now (offsets .entry)) (now (stores .entry))) (now (shifts .entry)) i ⌝ }
+    ensures { λ r. ⌜ r .peel ≡ requiredAt forward (columns (now (loops .entry)) (now (arrays .entry)) (now (offsets .entry)) (now (stores .entry))) (now (peels .entry)) i ⌝ }
+{
+    if stores[i] == 1 {
+        return required_from_all(loops, arrays, offsets, stores, i, shifts, peels);
+    }
+    required_from_stores(loops, arrays, offsets, stores, i, nexts, shifts, peels)
+}
+
 // A loop's number, once n is required of it.
 fn updated(number: u32, n: usize) -> u32
     requires { ⌜ n < 4294967296 ⌝ }
@@ -129,17 +196,19 @@ fn updated(number: u32, n: usize) -> u32
     larger(number as usize, n) as u32
 }
 
-// A single walk over the pairs of references of two loops, each pair once: the later reference in byte order, and for each the
-// references of earlier loops. Of the shifts and peels a step changes only the later loop's.
+// A single walk over pairs of references of two loops, each pair at most once: the later reference in byte order, and for each the
+// references of earlier loops. Pairs of two reads, which make no dependence, are left out: in a full table they are about 15 of 16. Of the
+// shifts and peels a step changes only the later loop's.
 pub fn shifts_and_peels(loops: &[u8], arrays: &[u8], offsets: &[u16], stores: &[u8]) -> Amounts
     requires { ⌜ WellFormed (columns (now loops) (now arrays) (now offsets) (now stores)) ⌝ }
     ensures { λ r. ⌜ (r .shifts ≡ shifts (refs (columns (now (loops .entry)) (now (arrays .entry)) (now (offsets .entry)) (now (stores .entry))))) × (r .peels ≡ peels (refs (columns (now (loops .entry)) (now (arrays .entry)) (now (offsets .entry)) (now (stores .entry))))) ⌝ }
 {
+    let nexts = next_stores(stores);
     let mut ss = [0u32; 16];
     let mut ps = [0u32; 16];
     let mut i = 0;
     while i < loops.len() {
-        let a = required_at(loops, arrays, offsets, stores, i, &ss, &ps);
+        let a = required_at(loops, arrays, offsets, stores, i, &nexts, &ss, &ps);
         let k = loops[i] as usize;
         ss[k] = updated(ss[k], a.shift);
         ps[k] = updated(ps[k], a.peel);

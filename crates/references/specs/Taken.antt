@@ -69,6 +69,7 @@ module _ (c : Columns) (n : ℕ) (long : Long c) (few : n ≤ 528) where
       arrays = cut-long (c .arrays) (long .arrays) ∙ sym (cut-long (c .loops) (long .loops));
       offsets = cut-long (c .offsets) (long .offsets) ∙ sym (cut-long (c .loops) (long .loops));
       stores = cut-long (c .stores) (long .stores) ∙ sym (cut-long (c .loops) (long .loops));
+      few = omega (arith, cut-long (c .loops) (long .loops));
       sixteen = λ i. below i (decLt i n);
       rising = λ i j a b. up i j a (omega (arith, b, cut-long (c .loops) (long .loops))) (ℕ-discrete i j);
     }
