@@ -1,7 +1,7 @@
 -- The walk as the code makes it: what is left to do, from what there is, gives the whole.
 use Prim.Native.Nat.{ℕ, zero, suc, _+_, _-_, max, _≤_, _<_}
 use mathlib.Core.Path.{_≡_, refl, sym, ap, _∙_}
-use mathlib.Core.Bool.{true, false}
+use mathlib.Core.Bool.{Bool, true, false}
 use mathlib.Core.List.{List, [], _∷_}
 use mathlib.Core.List.{List·Memᴰ as Mem, List·Memᴰ·head as mhere, List·Memᴰ·tail as mthere}
 use native.Mathlib.Nat.{max-zero, zero-max, sub-zero}
@@ -16,7 +16,7 @@ use Rattle.chains.specs.Maximum.{maximum}
 use Rattle.chains.specs.Walk.{required, required-met, required-none, required-late, required-reads, raised, raised-same, walk, numbers, zeros}
 use Rattle.chains.specs.Bounds.{Small, AtMost, raised-small}
 use Rattle.chains.specs.Columns.{Columns, refAt, refsFrom, refs, requiredAt, WellFormed, refsFrom-late, refs-mem, refs-place}
-use Rattle.chains.specs.Stores.{NextStore}
+use Rattle.chains.specs.Stores.{NextStore, NextStores, nextPlace}
 
 max-right : (a b c : ℕ) → max (max a b) c ≡ max a (max b c)
 max-right a b c = omega arith
@@ -101,7 +101,7 @@ module _ (c : Columns) where
     }
 
     -- where y reads, no place up to the next store requires anything
-    pub remaining-store : (getD (c .stores) i 0 ≡ 1 → ⊥) → (j a b k : ℕ) → Remaining shifts peels y j a b → NextStore (c .stores) j k → Remaining shifts peels y k a b
+    remaining-store : y .stores ≡ false → (j a b k : ℕ) → Remaining shifts peels y j a b → NextStore (c .stores) j k → Remaining shifts peels y k a b
     remaining-store read j a b k r n = record {
       inside = within;
       shift = left-past _ j k a (n .from) (omega (arith, within)) (none backward shifts) (r .shift);
@@ -112,7 +112,16 @@ module _ (c : Columns) where
         within = omega (arith, n .inside, formed .stores)
 
         none : (amount : Reference → Reference → ℕ) (s : List ℕ) (m : ℕ) → j ≤ m → m < k → required amount s y (refAt c m) ≡ 0
-        none amount s m u v = rw p (required-reads amount s (refAt c i) (refAt c m) (ne-eqb _ _ (n .reads m u v)) (ne-eqb _ _ read))
+        none amount s m u v = required-reads amount s y (refAt c m) (ne-eqb _ _ (n .reads m u v)) read
+
+    -- so the walk goes on from where it looks next
+    pub remaining-look : (ns : List ℕ) → NextStores (c .stores) ns → (j a b k : ℕ) → Remaining shifts peels y j a b → k ≡ nextPlace (y .stores) ns j
+        → Remaining shifts peels y k a b × (j ≤ k)
+    remaining-look ns nexts j a b k r e = go (y .stores) refl e
+      where
+        go : (x : Bool) → y .stores ≡ x → k ≡ nextPlace x ns j → Remaining shifts peels y k a b × (j ≤ k)
+        go true q z = (rw z r, omega arith)
+        go false q z = let n = nexts j (omega (arith, r .inside, formed .stores)) in (rw z (remaining-store q j a b _ r n), omega (arith, n .from))
 
     -- from the first reference of y's own loop on none requires anything
     pub remaining-end : (j a b : ℕ) → Remaining shifts peels y j a b → getD (c .loops) i 0 ≤ getD (c .loops) j 0

@@ -1,6 +1,7 @@
--- Where the next store is, in a column that has 1 at a store.
+-- Where the next store is, in a column that has 1 at a store, and where the walk of a reference looks next.
 use Prim.Native.Nat.{ℕ, suc, _≤_, _<_}
 use mathlib.Core.Path.{_≡_}
+use mathlib.Core.Bool.{Bool, cond}
 use mathlib.Core.List.{List}
 use lib.ListN.{getD, length}
 
@@ -14,3 +15,7 @@ pub record NextStore (ss : List ℕ) (j k : ℕ) : Type 0 where
 -- ns has it for each place
 abbrev pub NextStores : List ℕ → List ℕ → Type 0
 NextStores ss ns = (j : ℕ) → j < length ss → NextStore ss j (getD ns j 0)
+
+-- where the walk of a reference looks from place j on: there, if it stores, and else at the next store
+abbrev pub nextPlace : Bool → List ℕ → ℕ → ℕ
+nextPlace stores ns j = cond stores j (getD ns j 0)

@@ -3,12 +3,12 @@
 ghost use mathlib.Core.Path.{_≡_};
 ghost use mathlib.Core.Bool.{_||_};
 ghost use Prim.Native.Nat.{_+_, _-_, _<_, _≤_, max};
-ghost use lib.ListN.{length, getD};
+ghost use lib.ListN.{length};
 ghost use Rattle.chains.specs.Dependence.{dependence, backward, forward};
 ghost use Rattle.chains.specs.Walk.{required, shifts, peels};
 ghost use Rattle.chains.specs.Threshold.{threshold};
 ghost use Rattle.chains.specs.Columns.{columns, refAt, refs, requiredAt, WellFormed};
-ghost use Rattle.chains.specs.Stores.{NextStores};
+ghost use Rattle.chains.specs.Stores.{NextStores, nextPlace};
 use model::Reference;
 
 // The amounts of shifting and peeling, for each loop a shift and a peel; 0 past the last loop.
@@ -114,60 +114,21 @@ fn next_stores(stores: &[u8]) -> [u16; 528]
     nexts
 }
 
+fn wide(x: u16) -> usize
+    ensures { λ r. ⌜ r ≡ x ⌝ }
+{
+    x as usize
+}
+
+// Where the walk of a reference looks from place j on. Two reads make no dependence, so the walk of a read goes from store to store.
+fn next_place(store: bool, nexts: &[u16; 528], j: usize) -> usize
+    requires { ⌜ j < 528 ⌝ }
+    ensures { λ r. ⌜ r ≡ nextPlace store (now (nexts .entry)) j ⌝ }
+{
+    if store { j } else { wide(nexts[j]) }
+}
+
 // What the dependences that end at reference i require of its loop. Only references of earlier loops can start one.
-fn required_from_all(
-    loops: &[u8],
-    arrays: &[u8],
-    offsets: &[u16],
-    stores: &[u8],
-    i: usize,
-    shifts: &[u32; 16],
-    peels: &[u32; 16],
-) -> Requirement
-    requires { ⌜ WellFormed (columns (now loops) (now arrays) (now offsets) (now stores)) × (i < length (now loops)) ⌝ }
-    ensures { λ r. ⌜ r .shift ≡ requiredAt backward (columns (now (loops .entry)) (now (arrays .entry)) (now (offsets .entry)) (now (stores .entry))) (now (shifts .entry)) i ⌝ }
-    ensures { λ r. ⌜ r .peel ≡ requiredAt forward (columns (now (loops .entry)) (now (arrays .entry)) (now (offsets .entry)) (now (stores .entry))) (now (peels .entry)) i ⌝ }
-{
-    let y = reference(loops, arrays, offsets, stores, i);
-    let number = loops[i];
-    let mut a = Requirement { shift: 0, peel: 0 };
-    let mut j = 0;
-    while loops[j] < number {
-        let x = reference(loops, arrays, offsets, stores, j);
-        a = take_up(x, y, shifts, peels, a);
-        j += 1;
-    }
-    a
-}
-
-// The same for a read. Two reads make no dependence, so only stores can start one, and the walk goes from store to store.
-fn required_from_stores(
-    loops: &[u8],
-    arrays: &[u8],
-    offsets: &[u16],
-    stores: &[u8],
-    i: usize,
-    nexts: &[u16; 528],
-    shifts: &[u32; 16],
-    peels: &[u32; 16],
-) -> Requirement
-    requires { ⌜ WellFormed (columns (now loops) (now arrays) (now offsets) (now stores)) × (i < length (now loops)) × NextStores (now stores) (now nexts) × (getD (now stores) i 0 ≡ 1 → ⊥) ⌝ }
-    ensures { λ r. ⌜ r .shift ≡ requiredAt backward (columns (now (loops .entry)) (now (arrays .entry)) (now (offsets .entry)) (now (stores .entry))) (now (shifts .entry)) i ⌝ }
-    ensures { λ r. ⌜ r .peel ≡ requiredAt forward (columns (now (loops .entry)) (now (arrays .entry)) (now (offsets .entry)) (now (stores .entry))) (now (peels .entry)) i ⌝ }
-{
-    let y = reference(loops, arrays, offsets, stores, i);
-    let number = loops[i];
-    let mut a = Requirement { shift: 0, peel: 0 };
-    let mut j = nexts[0] as usize;
-    while loops[j] < number {
-        let x = reference(loops, arrays, offsets, stores, j);
-        a = take_up(x, y, shifts, peels, a);
-        j = nexts[j + 1] as usize;
-    }
-    a
-}
-
-// The same for any reference, with no pair of two reads.
 fn required_at(
     loops: &[u8],
     arrays: &[u8],
@@ -182,10 +143,16 @@ fn required_at(
     ensures { λ r. ⌜ r .shift ≡ requiredAt backward (columns (now (loops .entry)) (now (arrays .entry)) (now (offsets .entry)) (now (stores .entry))) (now (shifts .entry)) i ⌝ }
     ensures { λ r. ⌜ r .peel ≡ requiredAt forward (columns (now (loops .entry)) (now (arrays .entry)) (now (offsets .entry)) (now (stores .entry))) (now (peels .entry)) i ⌝ }
 {
-    if stores[i] == 1 {
-        return required_from_all(loops, arrays, offsets, stores, i, shifts, peels);
+    let y = reference(loops, arrays, offsets, stores, i);
+    let number = loops[i];
+    let mut a = Requirement { shift: 0, peel: 0 };
+    let mut j = next_place(y.stores, nexts, 0);
+    while loops[j] < number {
+        let x = reference(loops, arrays, offsets, stores, j);
+        a = take_up(x, y, shifts, peels, a);
+        j = next_place(y.stores, nexts, j + 1);
     }
-    required_from_stores(loops, arrays, offsets, stores, i, nexts, shifts, peels)
+    a
 }
 
 // A loop's number, once n is required of it.
