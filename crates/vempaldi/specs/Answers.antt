@@ -17,7 +17,7 @@ use Rattle.numbers.specs.Given.{Given}
 use Rattle.entries.specs.Entries.{Told as EntriesTold}
 use Rattle.printing.specs.declared.Printed.{Printed}
 use Rattle.printing.specs.Printing.{Prints}
-use Rattle.joining.specs.declared.Outcome.{Outcome}
+use Rattle.outputs.specs.declared.Outcome.{Outcome}
 use Rattle.joining.specs.Told.{Told as JoinedTold}
 
 abbrev pub answered : ℕ → ℕ → ℕ → List ℕ → List ℕ

@@ -2,7 +2,8 @@
 ghost use mathlib.Core.Path.{_≡_};
 ghost use lib.ListN.{length};
 ghost use Rattle.serial.specs.Serial.{table as accepts};
-ghost use Rattle.joining.specs.Joining.{joining, final};
+ghost use Rattle.outputs.specs.Given.{final};
+ghost use Rattle.joining.specs.Joining.{joining};
 ghost use Rattle.numbers.specs.Given as Given;
 ghost use Rattle.entries.specs.Entries.{amounts, thresholds, sweepsGiven, blocksGiven, fusedGiven, peeledGiven};
 ghost use Rattle.printing.specs.Printing.{text};
