@@ -3,11 +3,8 @@ use Prim.Native.Nat.{ℕ, zero, suc, _+_, _-_, _*_, _^_, _≤_, _<_}
 use native.Mathlib.Omega.{arith}
 use native.Mathlib.Numerals.{add-one}
 use mathlib.Core.Path.{_≡_, refl, sym, ap, subst, _∙_}
-use mathlib.Core.Bool.{Bool, true, false}
 use mathlib.Core.List.{List, [], _∷_, _++_, append-nil, append-assoc}
-use lib.Dec.{ltb}
 use lib.ListN.{length, getD, take, length-append}
-use borrow.Author.Tests.{lt-ltb, le-ltb}
 use Rattle.order.specs.Lists.{joined}
 use Rattle.model.specs.Table.{Table, count, iteration}
 use Rattle.model.specs.declared.Iteration.{Iteration}
@@ -18,10 +15,11 @@ use Rattle.lists.specs.Lists.{ranges}
 use Rattle.lists.specs.Search.{Aligned}
 use Rattle.lists.specs.Below.{lengths}
 use Rattle.chains.specs.Walk.{shifts, peels}
-use Rattle.text.specs.Written.{written, Put, put-none, put-then, put-most, written-front}
-use Rattle.numbers.specs.declared.Outcome.{Outcome}
+use Rattle.text.specs.Written.{Put, put-none, put-then, put-most, written-front}
+use Rattle.outputs.specs.declared.Outcome.{Outcome}
+use Rattle.outputs.specs.Given.{Given, after, final, numberOf, placeOf, countOf}
+use Rattle.outputs.specs.Gives.{refusing, writing, outcomeOf, Gives, says-given, gives-short, gives-written, never-nine}
 use Rattle.numbers.specs.Numbers.{four, encoded, encoded-length, encoded-append}
-use Rattle.numbers.specs.Given.{Given, refused, numbers, pick, final, numberOf, placeOf, countOf}
 use Rattle.tables.specs.Verdict.{Tells}
 use Rattle.tables.specs.Verdict as Verdict
 use Rattle.plans.specs.declared.Measured.{Measured}
@@ -31,8 +29,8 @@ use Rattle.blocks.specs.declared.Part.{Part}
 use Rattle.ranges.specs.Laid.{Laid, Some, laid, laid-for}
 use Rattle.ranges.specs.Code.{rangeOf, listOf, listIn}
 use Rattle.ranges.specs.Held.{listed-small, aligned, list-held, size-in}
-use Rattle.entries.specs.Entries.{after, amountsOf, blocksOf, pairsOf, Told}
-use Rattle.entries.specs.Code.{Gives, blockEnds, Fitting, listGiven}
+use Rattle.entries.specs.Entries.{numbers, amountsOf, blocksOf, pairsOf, Told}
+use Rattle.entries.specs.Code.{blockEnds, Fitting, listGiven}
 
 -- A ROW OF NUMBERS
 module _ (f : ℕ → List ℕ) where
@@ -109,9 +107,6 @@ module _ (size : ℕ) (l : List Iteration) (e : size ≡ length l) where
       ap (λ (w : List ℕ). length (encoded w)) (sym (list-pairs l)) ∙ pairs-length (length l) (loopAt l) (indexAt l) ∙ ap (λ (n : ℕ). 8 * n) (sym e)
 
 -- AN ENTRY'S OUTCOME
-abbrev pub refusing : ℕ → ℕ → ℕ → Outcome
-refusing number place read = record { number = number; place = place; read = read; written = 0 }
-
 -- what a refused table gives, whatever was asked
 refused-after : (a : Answer) (more : Table → Given) → (Verdict.numberOf a ≡ 0 → ⊥)
     → (numberOf (after a more) ≡ Verdict.numberOf a) × (placeOf (after a more) ≡ Verdict.placeOf a) × (countOf (after a more) ≡ 0)
@@ -120,26 +115,9 @@ unfolding final
 refused-after (accepted t) more n = absurd (n refl)
 refused-after (Answer.refused g p) more n = (refl, refl, refl, λ out. refl)
 
--- the numbers do not fit; they are written
-pub gives-short : (xs out : List ℕ) → length out < length (encoded xs) → Gives xs out out (refusing 13 0 0)
-unfolding numbers final
-gives-short xs out l = let e = lt-ltb (length out) (length (encoded xs)) l in record { tells = rw e; leaves = rw e }
-
-pub gives-written : (xs out left : List ℕ) (past most : ℕ) → length (encoded xs) ≤ length out → Put out 0 (encoded xs) most left past
-    → Gives xs out left (record { number = 0; place = 0; read = 0; written = past })
-unfolding numbers final
-gives-written xs out left past most l p =
-    let e = le-ltb (length out) (length (encoded xs)) l in
-    let q : past ≡ length (encoded xs) = omega (arith, p .place) in
-    record { tells = rw (e, q); leaves = rw e (p .bytes ∙ written-front out (encoded xs) l) }
-
-not-nine : (room : ℕ) (xs : List ℕ) → numberOf (numbers room xs) ≡ 9 → ⊥
-unfolding numbers
-not-nine room xs = go (ltb room (length (encoded xs)))
-  where
-    go : (b : Bool) → numberOf (pick b (refused 13 0) (Given.written (encoded xs))) ≡ 9 → ⊥
-    go true z = omega (arith, z)
-    go false z = omega (arith, z)
+-- bytes that were put from the first on
+pub gives-put : (bs out left : List ℕ) (past most : ℕ) → length bs ≤ length out → Put out 0 bs most left past → Gives bs out left (writing past)
+gives-put bs out left past most l p = gives-written bs out left past l (omega (arith, p .place)) (p .bytes ∙ written-front out bs l)
 
 -- AN ENTRY that asks for the numbers f of a table, where the answer is a
 module _ (s : List ℕ) (a : Answer) (f : Table → List ℕ) (out : List ℕ) where
@@ -159,24 +137,24 @@ module _ (s : List ℕ) (a : Answer) (f : Table → List ℕ) (out : List ℕ) w
       )
 
   module _ (t : Table) (is : a ≡ accepted t) where
-    pub entry-given : (left : List ℕ) (o : Outcome) → Gives (f t) out left o → Told s given o × (left ≡ final given out)
+    pub entry-given : (left : List ℕ) (o : Outcome) → Gives (encoded (f t)) out left o → Told s given o × (left ≡ final given out)
     entry-given left o g =
         let e : given ≡ numbers (length out) (f t) = ap (λ (x : Answer). after x (λ u. numbers (length out) (f u))) is in
         rw (e, g .tells) (
           record {
-            says = record { number = refl; place = refl; count = refl };
-            named = λ u q z. absurd (not-nine (length out) (f t) z);
+            says = says-given (outcomeOf (numbers (length out) (f t))) (numbers (length out) (f t)) refl;
+            named = λ u q z. absurd (never-nine (length out) (encoded (f t)) z);
             unnamed = λ z. refl;
           },
           g .leaves,
         )
 
     pub entry-short : length out < length (encoded (f t)) → Told s given (refusing 13 0 0) × (out ≡ final given out)
-    entry-short l = entry-given out (refusing 13 0 0) (gives-short (f t) out l)
+    entry-short l = entry-given out (refusing 13 0 0) (gives-short (encoded (f t)) out l)
 
     pub entry-written : length (encoded (f t)) ≤ length out → (left : List ℕ) (past most : ℕ) → Put out 0 (encoded (f t)) most left past
-        → Told s given (record { number = 0; place = 0; read = 0; written = past }) × (left ≡ final given out)
-    entry-written l left past most p = entry-given left _ (gives-written (f t) out left past most l p)
+        → Told s given (writing past) × (left ≡ final given out)
+    entry-written l left past most p = entry-given left (writing past) (gives-put (encoded (f t)) out left past most l p)
 
 -- the pairs that the code writes are the table's shifts and peels
 module _ (s : List ℕ) (c : Columns) (m : Measured) (h : Measures s m c) (none : m .outline .number ≡ 0) where
@@ -224,7 +202,7 @@ module _ (s : List ℕ) (P : ℕ) (p : Plan) (c : Columns) (made : Made (planned
   pub blocks-ask : (P ≤ 64) × (p .first + p .count < 2 ^ 31)
   blocks-ask = let l = laid s P p c made in (l .few, omega (arith, l .first-is, l .count-is, l .small-span))
 
-  pub blocks-given : (out left : List ℕ) (o : Outcome) → Gives (blockEnds (p .first) (p .count) P) out left o
+  pub blocks-given : (out left : List ℕ) (o : Outcome) → Gives (encoded (blockEnds (p .first) (p .count) P)) out left o
       → Told s (given s (planned s P) (blocksOf P) out) o × (left ≡ final (given s (planned s P) (blocksOf P) out) out)
   blocks-given out left o g =
       entry-given s (planned s P) (blocksOf P) out (tableAt c (p .arrays) (p .loops)) (made .is) left o
@@ -262,13 +240,13 @@ module _ (P : ℕ) (p : Plan) (firsts lasts : List ℕ) (part : Part) (b : ℕ) 
     size-is : length (encoded (pairsOf (listIn part t P b))) ≡ 8 * size
     size-is = list-size size (listIn part t P b) (sized .0 ∙ size-in t P p firsts lasts h part b froms pasts long e)
 
-    pub list-short : length out < 8 * size → Gives (pairsOf (listIn part t P b)) out out (refusing 13 0 0)
-    list-short l = gives-short (pairsOf (listIn part t P b)) out (omega (arith, size-is))
+    pub list-short : length out < 8 * size → Gives (encoded (pairsOf (listIn part t P b))) out out (refusing 13 0 0)
+    list-short l = gives-short (encoded (pairsOf (listIn part t P b))) out (omega (arith, size-is))
 
     pub list-written : 8 * size ≤ length out → (left : List ℕ) (past most : ℕ) → Put out 0 (encoded (pairsOf kept)) most left past
-        → Gives (pairsOf (listIn part t P b)) out left (record { number = 0; place = 0; read = 0; written = past })
+        → Gives (encoded (pairsOf (listIn part t P b))) out left (writing past)
     list-written l left past most q =
-        gives-written (pairsOf (listIn part t P b)) out left past most (omega (arith, size-is))
+        gives-put (encoded (pairsOf (listIn part t P b))) out left past most (omega (arith, size-is))
         (subst (λ (w : List Iteration). Put out 0 (encoded (pairsOf w)) most left past)
         (list-held t P p firsts lasts h part b froms pasts long e) q)
 
@@ -277,7 +255,7 @@ module _ (s : List ℕ) (P b : ℕ) (p : Plan) (c : Columns) (made : Made (plann
   list-asks = let (h, l) = laid-for s P b p c made in (l, (tableAt c (p .arrays) (p .loops), h))
 
   pub list-given : (part : Part) (out left : List ℕ) (o : Outcome)
-      → ((t : Table) → Laid t P p (c .firsts) (c .lasts) → Gives (pairsOf (listIn part t P b)) out left o)
+      → ((t : Table) → Laid t P p (c .firsts) (c .lasts) → Gives (encoded (pairsOf (listIn part t P b))) out left o)
       → Told s (listGiven part s P b (length out)) o × (left ≡ final (listGiven part s P b (length out)) out)
   list-given part out left o g =
       entry-given s (plannedFor s P b) (λ t. pairsOf (listIn part t P b)) out (tableAt c (p .arrays) (p .loops)) (made .is) left o

@@ -7,21 +7,11 @@ use Rattle.order.specs.Lists.{joined}
 use Rattle.model.specs.declared.Iteration.{Iteration}
 use Rattle.model.specs.Table.{iteration}
 use Rattle.blocks.specs.Blocks.{edge}
-use Rattle.numbers.specs.declared.Outcome.{Outcome}
-use Rattle.numbers.specs.Given.{Given, numbers, final, numberOf, placeOf, countOf}
+use Rattle.outputs.specs.Given.{Given, after}
 use Rattle.plans.specs.Plans.{plannedFor}
 use Rattle.blocks.specs.declared.Part.{Part}
 use Rattle.ranges.specs.Code.{listIn}
-use Rattle.entries.specs.Entries.{after, pairsOf}
-
--- no read is named
-abbrev pub outcomeOf : Given → Outcome
-outcomeOf g = record { number = numberOf g; place = placeOf g; read = 0; written = countOf g }
-
--- the numbers xs, or 13 where they don't fit: what is told, and what is left of the lent bytes
-pub record Gives (xs out left : List ℕ) (o : Outcome) : Type 0 where
-  pub tells : o ≡ outcomeOf (numbers (length out) xs)
-  pub leaves : left ≡ final (numbers (length out) xs) out
+use Rattle.entries.specs.Entries.{numbers, pairsOf}
 
 -- the first and the last index of P blocks of `count` indices from `first` on
 abbrev pub blockEnds : ℕ → ℕ → ℕ → List ℕ

@@ -7,11 +7,12 @@ use mathlib.Core.List.{List, [], _∷_}
 use Rattle.order.specs.Lists.{joined}
 use Rattle.model.specs.Table.{Table, count}
 use Rattle.model.specs.declared.Iteration.{Iteration}
-use Rattle.reader.specs.Reading.{Answer, accepted, reading}
+use Rattle.reader.specs.Reading.{accepted, reading}
 use Rattle.serial.specs.Serial.{table}
 use Rattle.serial.specs.Meeting.{Collides}
-use Rattle.numbers.specs.declared.Outcome.{Outcome}
-use Rattle.numbers.specs.Given.{Given, refused, numbers, Says}
+use Rattle.numbers.specs.Numbers.{encoded}
+use Rattle.outputs.specs.declared.Outcome.{Outcome}
+use Rattle.outputs.specs.Given.{Given, after, fitted, Says}
 use Rattle.plans.specs.Plans.{shiftOf, peelOf, thresholdOf, planOf, planned, plannedFor}
 use Rattle.blocks.specs.Span.{tableSpan}
 use Rattle.blocks.specs.Blocks.{start-next, size-least, short-not}
@@ -20,10 +21,9 @@ use Rattle.lists.specs.Fusion.{fusedList, peeledList}
 use Rattle.sweeps.specs.Sweeps.{before}
 use Rattle.sweeps.specs.Sweeps as Sweeps
 
--- an answer's refusal, or the numbers of the table
-abbrev pub after : Answer → (Table → Given) → Given
-after (Answer.refused n p) more = refused n p
-after (accepted t) more = more t
+-- the numbers asked for, four bytes each, or 13 where they don't fit
+abbrev pub numbers : ℕ → List ℕ → Given
+numbers room xs = fitted room (encoded xs)
 
 -- shift and peel of each loop
 abbrev pub amountsOf : Table → List ℕ

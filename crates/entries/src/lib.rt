@@ -2,7 +2,9 @@
 use blocks::Part;
 use blocks::block_of as block_in;
 use model::Iteration;
-use numbers::Outcome;
+use outputs::Outcome;
+use outputs::refusal;
+use outputs::written;
 use plans::Plan;
 use sweeps::sweeps_of as sweeps_in;
 ghost use mathlib.Core.Path.{_≡_};
@@ -15,22 +17,12 @@ ghost use Rattle.blocks.specs.Blocks.{edge};
 ghost use Rattle.lists.specs.Search.{Aligned};
 ghost use Rattle.text.specs.Written.{Put};
 ghost use Rattle.numbers.specs.Numbers.{four, encoded};
-ghost use Rattle.numbers.specs.Given.{final};
+ghost use Rattle.outputs.specs.Given.{final};
+ghost use Rattle.outputs.specs.Gives.{Gives};
 ghost use Rattle.ranges.specs.Laid.{Laid, Some};
 ghost use Rattle.ranges.specs.Code.{listOf, listIn};
 ghost use Rattle.entries.specs.Entries.{pairsOf, amounts, thresholds, sweepsGiven, blocksGiven, fusedGiven, peeledGiven, Told};
-ghost use Rattle.entries.specs.Code.{Gives, blockEnds, Fitting, listGiven};
-
-fn refusal(number: usize, place: usize, read: usize) -> Outcome
-    ensures { λ r. ⌜ r ≡ record { number = number; place = place; read = read; written = 0 } ⌝ }
-{
-    Outcome {
-        number,
-        place,
-        read,
-        written: 0,
-    }
-}
+ghost use Rattle.entries.specs.Code.{blockEnds, Fitting, listGiven};
 
 // The first n of two columns, pair by pair.
 fn write_pairs(out: &mut [u8], n: usize, xs: &[u32; 16], ys: &[u32; 16]) -> usize
@@ -80,12 +72,7 @@ pub fn shifts_and_peels(s: &[u8], out: &mut [u8]) -> Outcome
     let shifts = a.shifts;
     let peels = a.peels;
     let n = write_pairs(out, loops, &shifts, &peels);
-    Outcome {
-        number: 0,
-        place: 0,
-        read: 0,
-        written: n,
-    }
+    written(n)
 }
 
 // The threshold.
@@ -120,12 +107,7 @@ pub fn threshold(s: &[u8], out: &mut [u8]) -> Outcome
     let a = m.amounts;
     let x = chains::threshold_of(a) as u32;
     let n = numbers::put_number(out, 0, x);
-    Outcome {
-        number: 0,
-        place: 0,
-        read: 0,
-        written: n,
-    }
+    written(n)
 }
 
 // Sweeps before and after fusion.
@@ -158,23 +140,7 @@ pub fn sweeps(s: &[u8], out: &mut [u8]) -> Outcome
     }
     let w = sweeps_in(o.loops, &starts, &kinds, &arrays);
     let n = numbers::put_pair(out, 0, w.before, w.after);
-    Outcome {
-        number: 0,
-        place: 0,
-        read: 0,
-        written: n,
-    }
-}
-
-fn written(n: usize) -> Outcome
-    ensures { λ r. ⌜ r ≡ record { number = 0; place = 0; read = 0; written = n } ⌝ }
-{
-    Outcome {
-        number: 0,
-        place: 0,
-        read: 0,
-        written: n,
-    }
+    written(n)
 }
 
 // The last index of a range that is past at `past`.
@@ -214,7 +180,7 @@ fn write_blocks(out: &mut [u8], first: u32, count: u32, processors: u32) -> usiz
 // The blocks, or 13.
 fn give_blocks(out: &mut [u8], first: u32, count: u32, processors: u32) -> Outcome
     requires { ⌜ (processors ≤ 64) × (first + count < 2 ^ 31) ⌝ }
-    ensures { λ r. ⌜ Gives (blockEnds first count processors) (now (out .entry)) (now (out .exit)) r ⌝ }
+    ensures { λ r. ⌜ Gives (encoded (blockEnds first count processors)) (now (out .entry)) (now (out .exit)) r ⌝ }
 {
     if out.len() < 8 * (processors as usize) {
         return refusal(13, 0, 0);
@@ -294,7 +260,7 @@ fn give_list(
     lasts: &[u32; 16],
 ) -> Outcome
     requires { ⌜ (b < processors) × Some processors p (now firsts) (now lasts) ⌝ }
-    ensures { λ r. ⌜ ((t : Table) → Laid t processors p (now (firsts .entry)) (now (lasts .entry)) → Gives (pairsOf (listIn part t processors b)) (now (out .entry)) (now (out .exit)) r) ⌝ }
+    ensures { λ r. ⌜ ((t : Table) → Laid t processors p (now (firsts .entry)) (now (lasts .entry)) → Gives (encoded (pairsOf (listIn part t processors b))) (now (out .entry)) (now (out .exit)) r) ⌝ }
 {
     let r = ranges::ranges_of(part, p, processors, b, firsts, lasts);
     let l = p.loops;

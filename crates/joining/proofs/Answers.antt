@@ -9,35 +9,24 @@ use lib.Seq.{length-take-le, paste}
 use lib.Dec.{ltb}
 use borrow.Author.Tests.{lt-ltb, le-ltb}
 use Rattle.reader.specs.Accepting.{not-both}
-use Rattle.joining.specs.declared.Outcome.{Outcome}
-use Rattle.joining.specs.Joining.{Joined, refused, written, _if_else_, alike, alike-same, bytes, bytes-length, fitted, joining, final}
-use Rattle.joining.specs.Told.{Says, Told, Refusal, Held}
-use Rattle.joining.proofs.Sides.{Is}
+use Rattle.outputs.specs.declared.Outcome.{Outcome}
+use Rattle.outputs.specs.Given.{Given, refused, _if_else_, fitted, final, Says}
+use Rattle.outputs.specs.Gives.{refusing, writing, outcomeOf, Gives, says-given, gives-short, gives-written}
+use Rattle.joining.specs.Joining.{alike, alike-same, bytes, bytes-length, joining}
+use Rattle.joining.specs.Told.{Told, Refusal, Held}
 use Rattle.joining.proofs.Walks.{copied-both}
 
-says-plain : (o : Outcome) (n : ℕ) → Is o n 0 0 → Says o (refused n 0)
-says-plain o n (a, b, c, d) = record { number = a; place = b; written = d }
-
 says-refused : (s : List ℕ) (o : Outcome) → Refusal s o → Says o (refused (o .number) (o .place))
-says-refused s o h = record { number = refl; place = refl; written = h .nothing }
+says-refused s o h = record { number = refl; place = refl; count = h .nothing }
 
 -- WRITING
 module _ (left right out : List ℕ) (arrays : ℕ) where
-  -- what writing answers and leaves
-  abbrev pub Wrote : Outcome → List ℕ → Type 0
-  Wrote o then =
-      (Says o (fitted (length out) (bytes left right arrays)) × (o .read ≡ 0))
-      × (then ≡ final (fitted (length out) (bytes left right arrays)) out)
-
   abbrev size : ℕ
   size = length left - 1 + (length right - 5 * arrays)
 
   module _ (some : 0 < length left) where
-    pub too-long : (o : Outcome) → length out < size → Is o 13 0 0 → Wrote o out
-    unfolding fitted final
-    too-long o h p =
-        let l : length out < length (bytes left right arrays) = omega (arith, bytes-length left right arrays some) in
-        rw (lt-ltb _ _ l) ((says-plain o 13 p, p .2), refl)
+    pub too-long : length out < size → Gives (bytes left right arrays) out out (refusing 13 0 0)
+    too-long h = gives-short (bytes left right arrays) out (omega (arith, bytes-length left right arrays some))
 
     both-copied : (one two : List ℕ) → one ≡ paste out 0 (take (length left - 1) left) (length (take (length left - 1) left))
         → two ≡ paste one (length left - 1) (drop (5 * arrays) right) (length (drop (5 * arrays) right))
@@ -49,12 +38,10 @@ module _ (left right out : List ℕ) (arrays : ℕ) where
 
     pub wrote : (one two ys : List ℕ) → size ≤ length out → ys ≡ drop (5 * arrays) right
         → one ≡ paste out 0 (take (length left - 1) left) (length (take (length left - 1) left))
-        → two ≡ paste one (length left - 1) ys (length ys) → Wrote (record { number = 0; place = 0; read = 0; written = size }) two
-    unfolding fitted final
+        → two ≡ paste one (length left - 1) ys (length ys) → Gives (bytes left right arrays) out two (writing size)
     wrote one two ys h is f g =
         let n = bytes-length left right arrays some in
-        let l : length (bytes left right arrays) ≤ length out = omega (arith, n) in
-        rw (le-ltb _ _ l) ((record { number = refl; place = refl; written = sym n }, refl), both-copied one two f (rw is at g))
+        gives-written (bytes left right arrays) out two size (omega (arith, n)) (sym n) (both-copied one two f (rw is at g))
 
 -- BOTH TABLES
 module _ (left right out : List ℕ) where
@@ -98,29 +85,29 @@ module _ (left right out : List ℕ) where
           let len : length (take arrays ours) ≡ arrays = length-take-le arrays ours (omega (arith, l .sized, l .few-arrays)) in
           rw (l .is, r .is, ← (l .lens), ← (r .lens), l .counted, r .counted, len)
 
-      result : (o : Outcome) (then : List ℕ) (j : Joined) → joining left right (length out) ≡ j → Says o j → o .read ≡ 0 → then ≡ final j out → Result o then
-      result o then j e s z f = (
+      result : (o : Outcome) (then : List ℕ) (g : Given) → joining left right (length out) ≡ g → o ≡ outcomeOf g → then ≡ final g out → Result o then
+      result o then g e s f = (
         record {
-          says = rw e s;
-          in-left = λ t g h. absurd (not-both (sym h ∙ l .is));
-          in-right = λ t u g h k. absurd (not-both (sym k ∙ r .is));
-          unnamed = λ g. z;
+          says = rw e (says-given o g s);
+          in-left = λ t i h. absurd (not-both (sym h ∙ l .is));
+          in-right = λ t u i h k. absurd (not-both (sym k ∙ r .is));
+          unnamed = λ i. ap (λ (x : Outcome). x .read) s;
         },
         rw e f,
       )
 
-      pub unlike-arrays : (o : Outcome) → Is o 14 0 0 → false ≡ alike (take arrays ours) (take a theirs) → Result o out
+      pub unlike-arrays : (o : Outcome) → o ≡ refusing 14 0 0 → false ≡ alike (take arrays ours) (take a theirs) → Result o out
       unfolding final
-      unlike-arrays o p e = result o out (refused 14 0) (both ∙ rw (← e)) (says-plain o 14 p) (p .2) refl
+      unlike-arrays o p e = result o out (refused 14 0) (both ∙ rw (← e)) p refl
 
       module _ (like : true ≡ alike (take arrays ours) (take a theirs)) where
-        pub many-loops : (o : Outcome) → Is o 4 0 0 → 16 < loops + n → Result o out
+        pub many-loops : (o : Outcome) → o ≡ refusing 4 0 0 → 16 < loops + n → Result o out
         unfolding final
-        many-loops o p h = result o out (refused 4 0) (both ∙ rw (← like, lt-ltb _ _ h)) (says-plain o 4 p) (p .2) refl
+        many-loops o p h = result o out (refused 4 0) (both ∙ rw (← like, lt-ltb _ _ h)) p refl
 
-        pub joined : (o : Outcome) (then : List ℕ) → loops + n ≤ 16 → Wrote left right out arrays o then → Result o then
-        joined o then h ((s, z), f) =
-            result o then (fitted (length out) (bytes left right arrays)) (both ∙ rw (← like, le-ltb _ _ h)) s z f
+        pub joined : (o : Outcome) (then : List ℕ) → loops + n ≤ 16 → Gives (bytes left right arrays) out then o → Result o then
+        joined o then h g =
+            result o then (fitted (length out) (bytes left right arrays)) (both ∙ rw (← like, le-ltb _ _ h)) (g .tells) (g .leaves)
 
         -- right's arrays are as many as left's, so there is something of it past them
         pub enough : (0 < length left) × (arrays ≤ 16) × (5 * arrays ≤ length right)

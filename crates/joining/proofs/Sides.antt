@@ -11,30 +11,27 @@ use Rattle.serial.specs.declared.Checked.the-variants.{Refused, Serial, Accepte
 use Rattle.serial.specs.Serial.{table, answer, Left}
 use Rattle.serial.specs.Parallel.{accepted-parallel}
 use Rattle.serial.specs.Named.{named-collides}
-use Rattle.joining.specs.declared.Outcome.{Outcome}
+use Rattle.outputs.specs.declared.Outcome.{Outcome}
+use Rattle.outputs.specs.Gives.{refusing}
 use Rattle.joining.specs.Told.{Refusal, Held}
 
--- an answer with nothing written
-abbrev pub Is : Outcome → ℕ → ℕ → ℕ → Type 0
-Is o n p r = (o .number ≡ n) × (o .place ≡ p) × (o .read ≡ r) × (o .written ≡ 0)
-
 module _ (s : List ℕ) (c : Columns) where
-  pub side-refused : (g p n : ℕ) (o : Outcome) → answer (Refused g p) c ≡ table s → Left (Refused g p) c s → n ≡ g → Is o n p 0 → Refusal s o
+  pub side-refused : (g p n : ℕ) (o : Outcome) → answer (Refused g p) c ≡ table s → Left (Refused g p) c s → n ≡ g → o ≡ refusing n p 0 → Refusal s o
   unfolding answer
-  side-refused g p n o e l f (a, b, r, w) = record {
-    is = rw (a, b, f) (sym e);
+  side-refused g p n o e l f q = record {
+    is = rw (q, f) (sym e);
     named = λ t h. absurd (not-both (sym l ∙ h));
-    unnamed = λ h. r;
-    nothing = w;
+    unnamed = λ h. rw q;
+    nothing = rw q;
   }
 
-  pub side-serial : (k n : ℕ) (o : Outcome) → answer (Serial k n) c ≡ table s → Left (Serial k n) c s → Is o 9 k n → Refusal s o
+  pub side-serial : (k n : ℕ) (o : Outcome) → answer (Serial k n) c ≡ table s → Left (Serial k n) c s → o ≡ refusing 9 k n → Refusal s o
   unfolding answer
-  side-serial k n o e l (a, b, r, w) = record {
-    is = rw (a, b) (sym e);
-    named = λ t h. rw (b, r) (named-collides s c k n l t h);
-    unnamed = λ h. absurd (h a);
-    nothing = w;
+  side-serial k n o e l q = record {
+    is = rw q (sym e);
+    named = λ t h. rw q (named-collides s c k n l t h);
+    unnamed = λ h. absurd (h (rw q));
+    nothing = rw q;
   }
 
   pub side-accepted : (a l r : ℕ) → answer (Accepted a l r) c ≡ table s → Left (Accepted a l r) c s → Held s (c .lens) a l

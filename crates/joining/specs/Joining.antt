@@ -11,21 +11,7 @@ use borrow.Author.Tests.{eqb-true, eq-eqb, ltb-false, not-false}
 use Rattle.model.specs.Table.{Table, count}
 use Rattle.reader.specs.Reading.{Answer, accepted}
 use Rattle.serial.specs.Serial.{table}
-
--- a refusal with its number and its place, or the bytes written
-pub data Joined : Type 0 where
-  refused : (number place : ℕ) → Joined
-  written : List ℕ → Joined
-
-infixr 20 _if_else_
-abbrev pub _if_else_ : Joined → Bool → Joined → Joined
-_if_else_ a true b = a
-_if_else_ a false b = b
-
--- what follows the reading of a table: its refusal, or more
-abbrev pub after : Answer → (Table → Joined) → Joined
-after (Answer.refused n p) more = refused n p
-after (accepted t) more = more t
+use Rattle.outputs.specs.Given.{Given, refused, written, _if_else_, after, fitted, refused-written, passed}
 
 -- two lists of arrays' lengths are the same
 unfoldable pub alike : List ℕ → List ℕ → Bool
@@ -38,23 +24,14 @@ alike (n ∷ ns) (m ∷ ms) = eqb n m && alike ns ms
 unfoldable pub bytes : List ℕ → List ℕ → ℕ → List ℕ
 bytes left right arrays = take (length left - 1) left ++ drop (5 * arrays) right
 
--- 13 where the bytes don't fit the lent ones
-unfoldable pub fitted : ℕ → List ℕ → Joined
-fitted room bs = refused 13 0 if ltb room (length bs) else written bs
-
 -- left, then right, each through 9; then 14; 4 for too many loops in all; 13
-unfoldable pub joining : List ℕ → List ℕ → ℕ → Joined
+unfoldable pub joining : List ℕ → List ℕ → ℕ → Given
 joining left right room =
     after (table left) λ t.
     after (table right) λ u.
     refused 14 0 if not (alike (t .lengths) (u .lengths)) else
     refused 4 0 if ltb 16 (count t + count u) else
     fitted room (bytes left right (length (t .lengths)))
-
--- what the lent output then holds: as found, or the bytes and what stood past them
-unfoldable pub final : Joined → List ℕ → List ℕ
-final (refused n p) out = out
-final (written bs) out = bs ++ drop (length bs) out
 
 -- LAWS
 -- alike means equal
@@ -90,14 +67,6 @@ pub record Written (left right : List ℕ) (room : ℕ) (bs : List ℕ) : Type 0
   pub few : count ours + count theirs ≤ 16
   pub fits : length bs ≤ room
   pub made : bs ≡ bytes left right (length (ours .lengths))
-
-refused-written : {n p : ℕ} {bs : List ℕ} → refused n p ≡ written bs → ⊥
-refused-written e = let z : _≡_ {A = ℕ} 0 1 = cc in omega arith
-
--- a test before what is written
-passed : (n p : ℕ) (b : Bool) (more : Joined) (bs : List ℕ) → (refused n p if b else more) ≡ written bs → (b ≡ false) × (more ≡ written bs)
-passed n p true more bs e = absurd (refused-written e)
-passed n p false more bs e = (refl, e)
 
 pub written-known : (left right : List ℕ) (room : ℕ) (bs : List ℕ) → joining left right room ≡ written bs → Written left right room bs
 unfolding joining fitted

@@ -21,7 +21,8 @@ use Rattle.reader.specs.Accepting.{Rest, ended, passed, rest-there, rest-accept
 use Rattle.serial.specs.declared.Collision.the-variants.{Nothing}
 use Rattle.serial.specs.Serial.{table, loopHit}
 use Rattle.serial.specs.Parallel.{Parallel, parallel-accepted, accepted-parallel}
-use Rattle.joining.specs.Joining.{bytes, bytes-length, joining, written, written-known}
+use Rattle.outputs.specs.Given.{written}
+use Rattle.joining.specs.Joining.{bytes, bytes-length, joining, written-known}
 use Rattle.joining.specs.Beside.{Opening, opening, rest-opened, rest-end, Behind, behind-first, behind-clear, behind-more}
 
 -- how many bytes of the left table are kept: all but its end

@@ -7,28 +7,11 @@ use Rattle.model.specs.Table.{Table, count}
 use Rattle.reader.specs.Reading.{Answer, accepted, reading}
 use Rattle.serial.specs.Serial.{table}
 use Rattle.serial.specs.Meeting.{Collides}
-use Rattle.joining.specs.declared.Outcome.{Outcome}
+use Rattle.outputs.specs.declared.Outcome.{Outcome}
+use Rattle.outputs.specs.Given.{Says}
 use Rattle.joining.specs.declared.Side.{Side}
 use Rattle.joining.specs.declared.Side.the-variants.{Refused, Accepted}
-use Rattle.joining.specs.Joining.{Joined, refused, written, joining}
-
--- the number of a refusal, 0 where bytes are written; its place; how many bytes are written
-abbrev pub numberOf : Joined → ℕ
-numberOf (refused n p) = n
-numberOf (written bs) = 0
-
-abbrev pub placeOf : Joined → ℕ
-placeOf (refused n p) = p
-placeOf (written bs) = 0
-
-abbrev pub countOf : Joined → ℕ
-countOf (refused n p) = 0
-countOf (written bs) = length bs
-
-pub record Says (o : Outcome) (j : Joined) : Type 0 where
-  pub number : o .number ≡ numberOf j
-  pub place : o .place ≡ placeOf j
-  pub written : o .written ≡ countOf j
+use Rattle.joining.specs.Joining.{joining}
 
 -- the answer, and the read that 9 names, in the table of the side that meets it; which, if several do, is left free
 pub record Told (left right : List ℕ) (room : ℕ) (o : Outcome) : Type 0 where

@@ -1,20 +1,16 @@
 // Joins two loop tables: left's arrays, left's loops, right's loops and one end.
+use outputs::Outcome;
+use outputs::refusal;
+use outputs::written;
 use serial::Checked;
 ghost use mathlib.Core.Path.{_≡_};
 ghost use Prim.Native.Nat.{_+_, _*_, _≤_, _<_};
-ghost use mathlib.Core.List.{_++_};
-ghost use lib.ListN.{length, take, drop};
+ghost use lib.ListN.{length, take};
 ghost use lib.Seq.{paste};
-ghost use Rattle.joining.specs.Joining.{alike, bytes, fitted, joining, final};
-ghost use Rattle.joining.specs.Told.{Says, Told, Held, Known};
-
-// The number of the refusal, 0 where the tables are joined; its place; the read that 9 names, else 0; how many bytes are written.
-pub struct Outcome {
-    pub number: usize,
-    pub place: usize,
-    pub read: usize,
-    pub written: usize,
-}
+ghost use Rattle.outputs.specs.Given.{final};
+ghost use Rattle.outputs.specs.Gives.{Gives};
+ghost use Rattle.joining.specs.Joining.{alike, bytes, joining};
+ghost use Rattle.joining.specs.Told.{Told, Held, Known};
 
 // One of the two tables: refused, or how many arrays and loops it has.
 enum Side {
@@ -26,18 +22,6 @@ fn wide(x: u32) -> usize
     ensures { λ r. ⌜ r ≡ x ⌝ }
 {
     x as usize
-}
-
-// Nothing is written.
-fn refusal(number: usize, place: usize, read: usize) -> Outcome
-    ensures { λ r. ⌜ (r .number ≡ number) × (r .place ≡ place) × (r .read ≡ read) × (r .written ≡ 0) ⌝ }
-{
-    Outcome {
-        number,
-        place,
-        read,
-        written: 0,
-    }
 }
 
 // Reads a table through 9. Of its columns only the arrays' lengths are kept.
@@ -105,8 +89,7 @@ fn copy(from: &[u8], to: &mut [u8], at: usize)
 // Writes left without its end, and right without its arrays; or 13, with nothing written.
 fn write(left: &[u8], right: &[u8], arrays: usize, out: &mut [u8]) -> Outcome
     requires { ⌜ (0 < length (now left)) × (arrays ≤ 16) × (5 * arrays ≤ length (now right)) ⌝ }
-    ensures { λ r. ⌜ Says r (fitted (length (now (out .entry))) (bytes (now (left .entry)) (now (right .entry)) arrays)) × (r .read ≡ 0) ⌝ }
-    ensures { λ r. ⌜ now (out .exit) ≡ final (fitted (length (now (out .entry))) (bytes (now (left .entry)) (now (right .entry)) arrays)) (now (out .entry)) ⌝ }
+    ensures { λ r. ⌜ Gives (bytes (now (left .entry)) (now (right .entry)) arrays) (now (out .entry)) (now (out .exit)) r ⌝ }
 {
     let kept = left.len() - 1;
     let skipped = 5 * arrays;
@@ -116,12 +99,7 @@ fn write(left: &[u8], right: &[u8], arrays: usize, out: &mut [u8]) -> Outcome
     }
     copy(&left[..kept], out, 0);
     copy(&right[skipped..], out, kept);
-    Outcome {
-        number: 0,
-        place: 0,
-        read: 0,
-        written: count,
-    }
+    written(count)
 }
 
 // The left table has been read: `arrays` arrays, whose lengths are in `ours`, and `loops` loops.

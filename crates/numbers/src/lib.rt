@@ -1,17 +1,8 @@
 // Numbers in lent bytes: four bytes each, little-endian.
-ghost use mathlib.Core.Path.{_≡_};
 ghost use mathlib.Core.List.{_++_};
 ghost use Prim.Native.Nat.{_+_, _<_, _^_};
 ghost use Rattle.text.specs.Written.{Put};
 ghost use Rattle.numbers.specs.Numbers.{four};
-
-// The number of the refusal, 0 for none; its place; the read that 9 names, else 0; how many bytes are written.
-pub struct Outcome {
-    pub number: usize,
-    pub place: usize,
-    pub read: usize,
-    pub written: usize,
-}
 
 // One number.
 pub fn put_number(out: &mut [u8], at: usize, x: u32) -> usize

@@ -12,12 +12,11 @@ use Rattle.stepping.specs.declared.Report.the-variants.{Refused, Performed, Wai
 use Rattle.stepping.specs.Step.{step}
 use Rattle.tables.specs.declared.Verdict.{Verdict}
 use Rattle.tables.specs.Verdict.{Told}
-use Rattle.numbers.specs.declared.Outcome.{Outcome as Entry}
-use Rattle.numbers.specs.Given.{Given}
+use Rattle.outputs.specs.declared.Outcome.{Outcome}
+use Rattle.outputs.specs.Given.{Given}
 use Rattle.entries.specs.Entries.{Told as EntriesTold}
 use Rattle.printing.specs.declared.Printed.{Printed}
 use Rattle.printing.specs.Printing.{Prints}
-use Rattle.joining.specs.declared.Outcome.{Outcome}
 use Rattle.joining.specs.Told.{Told as JoinedTold}
 
 abbrev pub answered : ℕ → ℕ → ℕ → List ℕ → List ℕ
@@ -38,7 +37,7 @@ pub record JoinTold (left right : List ℕ) (room : ℕ) (found answer : List �
 
 -- the answer of an entry on plans, and how many bytes were written
 pub record EntryTold (s : List ℕ) (given : Given) (found answer : List ℕ) (count : ℕ) : Type 0 where
-  pub outcome : Entry
+  pub outcome : Outcome
   pub told : EntriesTold s given outcome
   pub is : answer ≡ answered (outcome .number) (outcome .place) (outcome .read) found
   pub written : count ≡ outcome .written

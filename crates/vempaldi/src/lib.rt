@@ -2,8 +2,8 @@
 ghost use mathlib.Core.Path.{_≡_};
 ghost use lib.ListN.{length};
 ghost use Rattle.serial.specs.Serial.{table as accepts};
-ghost use Rattle.joining.specs.Joining.{joining, final};
-ghost use Rattle.numbers.specs.Given as Given;
+ghost use Rattle.outputs.specs.Given.{final};
+ghost use Rattle.joining.specs.Joining.{joining};
 ghost use Rattle.entries.specs.Entries.{amounts, thresholds, sweepsGiven, blocksGiven, fusedGiven, peeledGiven};
 ghost use Rattle.printing.specs.Printing.{text};
 use stepping::Report;
@@ -53,7 +53,7 @@ pub extern "C" fn vempaldi_shifts_and_peels(
     answer: &mut [u64; 3],
 ) -> u64
     ensures { λ r. ⌜ EntryTold (now (table .entry)) (amounts (now (table .entry)) (length (now (out .entry)))) (now (answer .entry)) (now (answer .exit)) r ⌝ }
-    ensures { λ r. ⌜ now (out .exit) ≡ Given.final (amounts (now (table .entry)) (length (now (out .entry)))) (now (out .entry)) ⌝ }
+    ensures { λ r. ⌜ now (out .exit) ≡ final (amounts (now (table .entry)) (length (now (out .entry)))) (now (out .entry)) ⌝ }
 {
     let o = entries::shifts_and_peels(table, out);
     write_answer(answer, o.number, o.place, o.read);
@@ -79,7 +79,7 @@ pub extern "C" fn vempaldi_listing(
 #[no_mangle]
 pub extern "C" fn vempaldi_threshold(table: &[u8], out: &mut [u8], answer: &mut [u64; 3]) -> u64
     ensures { λ r. ⌜ EntryTold (now (table .entry)) (thresholds (now (table .entry)) (length (now (out .entry)))) (now (answer .entry)) (now (answer .exit)) r ⌝ }
-    ensures { λ r. ⌜ now (out .exit) ≡ Given.final (thresholds (now (table .entry)) (length (now (out .entry)))) (now (out .entry)) ⌝ }
+    ensures { λ r. ⌜ now (out .exit) ≡ final (thresholds (now (table .entry)) (length (now (out .entry)))) (now (out .entry)) ⌝ }
 {
     let o = entries::threshold(table, out);
     write_answer(answer, o.number, o.place, o.read);
@@ -90,7 +90,7 @@ pub extern "C" fn vempaldi_threshold(table: &[u8], out: &mut [u8], answer: &mut 
 #[no_mangle]
 pub extern "C" fn vempaldi_sweeps(table: &[u8], out: &mut [u8], answer: &mut [u64; 3]) -> u64
     ensures { λ r. ⌜ EntryTold (now (table .entry)) (sweepsGiven (now (table .entry)) (length (now (out .entry)))) (now (answer .entry)) (now (answer .exit)) r ⌝ }
-    ensures { λ r. ⌜ now (out .exit) ≡ Given.final (sweepsGiven (now (table .entry)) (length (now (out .entry)))) (now (out .entry)) ⌝ }
+    ensures { λ r. ⌜ now (out .exit) ≡ final (sweepsGiven (now (table .entry)) (length (now (out .entry)))) (now (out .entry)) ⌝ }
 {
     let o = entries::sweeps(table, out);
     write_answer(answer, o.number, o.place, o.read);
@@ -106,7 +106,7 @@ pub extern "C" fn vempaldi_blocks(
     answer: &mut [u64; 3],
 ) -> u64
     ensures { λ r. ⌜ EntryTold (now (table .entry)) (blocksGiven (now (table .entry)) processors (length (now (out .entry)))) (now (answer .entry)) (now (answer .exit)) r ⌝ }
-    ensures { λ r. ⌜ now (out .exit) ≡ Given.final (blocksGiven (now (table .entry)) processors (length (now (out .entry)))) (now (out .entry)) ⌝ }
+    ensures { λ r. ⌜ now (out .exit) ≡ final (blocksGiven (now (table .entry)) processors (length (now (out .entry)))) (now (out .entry)) ⌝ }
 {
     let o = entries::blocks(table, processors, out);
     write_answer(answer, o.number, o.place, o.read);
@@ -123,7 +123,7 @@ pub extern "C" fn vempaldi_fused_list(
     answer: &mut [u64; 3],
 ) -> u64
     ensures { λ r. ⌜ EntryTold (now (table .entry)) (fusedGiven (now (table .entry)) processors processor (length (now (out .entry)))) (now (answer .entry)) (now (answer .exit)) r ⌝ }
-    ensures { λ r. ⌜ now (out .exit) ≡ Given.final (fusedGiven (now (table .entry)) processors processor (length (now (out .entry)))) (now (out .entry)) ⌝ }
+    ensures { λ r. ⌜ now (out .exit) ≡ final (fusedGiven (now (table .entry)) processors processor (length (now (out .entry)))) (now (out .entry)) ⌝ }
 {
     let o = entries::fused_list(table, processors, processor, out);
     write_answer(answer, o.number, o.place, o.read);
@@ -140,7 +140,7 @@ pub extern "C" fn vempaldi_peeled_list(
     answer: &mut [u64; 3],
 ) -> u64
     ensures { λ r. ⌜ EntryTold (now (table .entry)) (peeledGiven (now (table .entry)) processors processor (length (now (out .entry)))) (now (answer .entry)) (now (answer .exit)) r ⌝ }
-    ensures { λ r. ⌜ now (out .exit) ≡ Given.final (peeledGiven (now (table .entry)) processors processor (length (now (out .entry)))) (now (out .entry)) ⌝ }
+    ensures { λ r. ⌜ now (out .exit) ≡ final (peeledGiven (now (table .entry)) processors processor (length (now (out .entry)))) (now (out .entry)) ⌝ }
 {
     let o = entries::peeled_list(table, processors, processor, out);
     write_answer(answer, o.number, o.place, o.read);

@@ -2,7 +2,6 @@ use Rattle.serial.specs.Serial.{table}
 use native.Mathlib.Omega.{arith}
 use denote.Ref.{now}
 use Rattle.reader.specs.Columns.{columns, tableAt}
-use Rattle.text.specs.Written.{put-length}
 use Rattle.sweeps.specs.Sweeps.{before}
 use Rattle.entries.specs.Entries.{amounts, amountsOf}
 use Rattle.entries.proofs.Laws.{entry-refused, entry-short, entry-written, amounts-size, amounts-put}
@@ -49,20 +48,23 @@ returns-2 c = let z = c .before .before .before .before .before .measure .last i
 write-pairs-requires : tie.Need-write-pairs-requires
 write-pairs-requires c κs = c .before .before .before .before .before .before .before .before .before .before .measure .ensures .outlined .held (c .before .before .before .before .before .before .before .if1 .left) .2 .few-loops
 
+written-requires : tie.Need-written-requires
+written-requires c κs = search needs
+
 same-length : tie.Need-same-length
-same-length c = put-length (c .before .before .write-pairs .ensures)
+same-length c = search needs
 
 returns-3 : tie.Need-returns-3
 unfolding amounts
-returns-3 c = let z = c .before .before .before .before .before .before .before .before .before .before .before .before .before .measure .last in
+returns-3 c = let z = c .before .before .before .before .before .before .before .before .before .before .before .before .before .before .measure .last in
     let d = columns (z .1 .0) (z .1 .1 .0) (z .1 .1 .1 .0) (z .1 .1 .1 .1 .0) (z .1 .1 .1 .1 .1 .0) (z .1 .1 .1 .1 .1 .1 .0) (z .1 .1 .1 .1 .1 .1 .1 .0) in
-    let s = now (c .before .before .before .before .before .before .before .before .before .before .before .before .before .before .before .before .before .before .before .before .before .before .before .args .s) in
-    let out = now (c .before .before .before .before .before .before .before .before .before .before .before .before .before .before .before .before .before .before .before .before .before .before .before .args .out) in
-    let m = c .before .before .before .before .before .before .before .before .before .before .before .before .before .measure .result in
-    let h = c .before .before .before .before .before .before .before .before .before .before .before .before .before .measure .ensures in
+    let s = now (c .before .before .before .before .before .before .before .before .before .before .before .before .before .before .before .before .before .before .before .before .before .before .before .before .args .s) in
+    let out = now (c .before .before .before .before .before .before .before .before .before .before .before .before .before .before .before .before .before .before .before .before .before .before .before .before .args .out) in
+    let m = c .before .before .before .before .before .before .before .before .before .before .before .before .before .before .measure .result in
+    let h = c .before .before .before .before .before .before .before .before .before .before .before .before .before .before .measure .ensures in
     let o = m .outline in
     let g = h .outlined in
-    entry-written s (table s) amountsOf out (tableAt d (o .arrays) (o .loops)) (g .held (c .before .before .before .before .before .before .before .before .before .before .if1 .left) .0) (rw (amounts-size s d m h (c .before .before .before .before .before .before .before .before .before .before .if1 .left)) (c .before .before .before .before .before .before .before .before .before .if2 .left)) _ _ _ (amounts-put s d m h (c .before .before .before .before .before .before .before .before .before .before .if1 .left) out _ _ _ (c .before .before .write-pairs .ensures))
+    rw (c .written .ensures) (entry-written s (table s) amountsOf out (tableAt d (o .arrays) (o .loops)) (g .held (c .before .before .before .before .before .before .before .before .before .before .before .if1 .left) .0) (rw (amounts-size s d m h (c .before .before .before .before .before .before .before .before .before .before .before .if1 .left)) (c .before .before .before .before .before .before .before .before .before .before .if2 .left)) _ _ _ (amounts-put s d m h (c .before .before .before .before .before .before .before .before .before .before .before .if1 .left) out _ _ _ (c .before .before .before .write-pairs .ensures)))
 
 pub shifts-and-peels-spec : {M : Type 1} → statement M
 shifts-and-peels-spec =
@@ -75,5 +77,6 @@ shifts-and-peels-spec =
     refusal-requires-2
     returns-2
     write-pairs-requires
+    written-requires
     same-length
     returns-3)

@@ -3,7 +3,6 @@ use mathlib.Core.Path.{ap}
 use denote.Ref.{now}
 use mathlib.Core.List.{[], _∷_}
 use Rattle.reader.specs.Columns.{columns, tableAt}
-use Rattle.text.specs.Written.{put-length}
 use Rattle.sweeps.specs.Sweeps.{before, after, sweeps as sweepsOf}
 use Rattle.sweeps.specs.declared.Sweeps.{Sweeps}
 use Rattle.sweeps.specs.Rows.{kept-placed}
@@ -51,18 +50,21 @@ sweeps-of-requires c κs = let z = c .before .before .before .before .before .be
 put-pair-requires : tie.Need-put-pair-requires
 put-pair-requires c κs = search needs
 
+written-requires : tie.Need-written-requires
+written-requires c κs = search needs
+
 same-length : tie.Need-same-length
-same-length c = put-length (c .before .before .put-pair .ensures)
+same-length c = search needs
 
 returns-3 : tie.Need-returns-3
 unfolding sweepsGiven sweepsOf
-returns-3 c = let z = c .before .before .before .before .before .before .before .before .before .before .before .read-through .last in
+returns-3 c = let z = c .before .before .before .before .before .before .before .before .before .before .before .before .read-through .last in
     let d = columns (z .1 .0) (z .1 .1 .0) (z .1 .1 .1 .0) (z .1 .1 .1 .1 .0) (z .1 .1 .1 .1 .1 .0) (z .1 .1 .1 .1 .1 .1 .0) (z .1 .1 .1 .1 .1 .1 .1 .0) in
-    let s = now (c .before .before .before .before .before .before .before .before .before .before .before .before .before .before .before .before .before .before .before .before .before .args .s) in
-    let out = now (c .before .before .before .before .before .before .before .before .before .before .before .before .before .before .before .before .before .before .before .before .before .args .out) in
-    let o = c .before .before .before .before .before .before .before .before .before .before .before .read-through .result in
-    let e = c .before .before .before .before .sweeps-of .ensures (d .lens) (d .firsts) (d .lasts) (d .values) (o .arrays) in
-    entry-written s (table s) (λ t. before t ∷ after t ∷ []) out (tableAt d (o .arrays) (o .loops)) (c .before .before .before .before .before .before .before .before .before .before .before .read-through .ensures .held (c .before .before .before .before .before .before .before .before .before .if1 .left) .0) (rw (two-size _ _) (c .before .before .before .before .before .before .before .before .if2 .left)) _ _ _ (two-put _ _ _ _ out _ _ (ap (λ (w : Sweeps). w .before) e) (ap (λ (w : Sweeps). w .after) e) (c .before .before .put-pair .ensures))
+    let s = now (c .before .before .before .before .before .before .before .before .before .before .before .before .before .before .before .before .before .before .before .before .before .before .args .s) in
+    let out = now (c .before .before .before .before .before .before .before .before .before .before .before .before .before .before .before .before .before .before .before .before .before .before .args .out) in
+    let o = c .before .before .before .before .before .before .before .before .before .before .before .before .read-through .result in
+    let e = c .before .before .before .before .before .sweeps-of .ensures (d .lens) (d .firsts) (d .lasts) (d .values) (o .arrays) in
+    rw (c .written .ensures) (entry-written s (table s) (λ t. before t ∷ after t ∷ []) out (tableAt d (o .arrays) (o .loops)) (c .before .before .before .before .before .before .before .before .before .before .before .before .read-through .ensures .held (c .before .before .before .before .before .before .before .before .before .before .if1 .left) .0) (rw (two-size _ _) (c .before .before .before .before .before .before .before .before .before .if2 .left)) _ _ _ (two-put _ _ _ _ out _ _ (ap (λ (w : Sweeps). w .before) e) (ap (λ (w : Sweeps). w .after) e) (c .before .before .before .put-pair .ensures)))
 
 pub sweeps-spec : {M : Type 1} → statement M
 sweeps-spec =
@@ -75,5 +77,6 @@ sweeps-spec =
     returns-2
     sweeps-of-requires
     put-pair-requires
+    written-requires
     same-length
     returns-3)

@@ -4,7 +4,6 @@ use mathlib.Core.Path.{_∙_}
 use denote.Ref.{now}
 use mathlib.Core.List.{[], _∷_}
 use Rattle.reader.specs.Columns.{columns, tableAt}
-use Rattle.text.specs.Written.{put-length}
 use Rattle.plans.specs.Plans.{thresholdOf}
 use Rattle.plans.proofs.Laws.{threshold-is, threshold-fits}
 use Rattle.sweeps.specs.Sweeps.{before}
@@ -64,21 +63,24 @@ cast-x c = let z = c .before .before .before .before .before .before .measure .l
 put-number-requires : tie.Need-put-number-requires
 put-number-requires c κs = search needs
 
+written-requires : tie.Need-written-requires
+written-requires c κs = search needs
+
 same-length : tie.Need-same-length
-same-length c = put-length (c .before .before .put-number .ensures)
+same-length c = search needs
 
 returns-3 : tie.Need-returns-3
 unfolding thresholds
-returns-3 c = let z = c .before .before .before .before .before .before .before .before .before .before .measure .last in
+returns-3 c = let z = c .before .before .before .before .before .before .before .before .before .before .before .measure .last in
     let d = columns (z .1 .0) (z .1 .1 .0) (z .1 .1 .1 .0) (z .1 .1 .1 .1 .0) (z .1 .1 .1 .1 .1 .0) (z .1 .1 .1 .1 .1 .1 .0) (z .1 .1 .1 .1 .1 .1 .1 .0) in
-    let s = now (c .before .before .before .before .before .before .before .before .before .before .before .before .before .before .before .before .before .before .before .before .args .s) in
-    let out = now (c .before .before .before .before .before .before .before .before .before .before .before .before .before .before .before .before .before .before .before .before .args .out) in
-    let m = c .before .before .before .before .before .before .before .before .before .before .measure .result in
-    let h = c .before .before .before .before .before .before .before .before .before .before .measure .ensures in
+    let s = now (c .before .before .before .before .before .before .before .before .before .before .before .before .before .before .before .before .before .before .before .before .before .args .s) in
+    let out = now (c .before .before .before .before .before .before .before .before .before .before .before .before .before .before .before .before .before .before .before .before .before .args .out) in
+    let m = c .before .before .before .before .before .before .before .before .before .before .before .measure .result in
+    let h = c .before .before .before .before .before .before .before .before .before .before .before .measure .ensures in
     let o = m .outline in
     let g = h .outlined in
-    let e = c .before .before .before .before .threshold-of .ensures ∙ threshold-is s d m h (c .before .before .before .before .before .before .before .if1 .left) in
-    entry-written s (table s) (λ t. thresholdOf t ∷ []) out (tableAt d (o .arrays) (o .loops)) (g .held (c .before .before .before .before .before .before .before .if1 .left) .0) (rw (one-size _) (c .before .before .before .before .before .before .if2 .left)) _ _ _ (one-put _ _ out _ _ e (c .before .before .put-number .ensures))
+    let e = c .before .before .before .before .before .threshold-of .ensures ∙ threshold-is s d m h (c .before .before .before .before .before .before .before .before .if1 .left) in
+    rw (c .written .ensures) (entry-written s (table s) (λ t. thresholdOf t ∷ []) out (tableAt d (o .arrays) (o .loops)) (g .held (c .before .before .before .before .before .before .before .before .if1 .left) .0) (rw (one-size _) (c .before .before .before .before .before .before .before .if2 .left)) _ _ _ (one-put _ _ out _ _ e (c .before .before .before .put-number .ensures)))
 
 pub threshold-spec : {M : Type 1} → statement M
 threshold-spec =
@@ -92,5 +94,6 @@ threshold-spec =
     threshold-of-requires
     cast-x
     put-number-requires
+    written-requires
     same-length
     returns-3)

@@ -26,7 +26,7 @@ refusal-requires c κs = search needs
 
 returns : tie.Need-returns
 returns c = let a = c .before .before .before .before .before .args in
-    too-long (now (a .left)) (now (a .right)) (now (a .out)) (a .arrays) (c .before .before .before .before .before .pre .0) (c .refusal .result) (omega (arith, c .before .if1 .taken)) (c .refusal .ensures)
+    rw (c .refusal .ensures) (too-long (now (a .left)) (now (a .right)) (now (a .out)) (a .arrays) (c .before .before .before .before .before .pre .0) (omega (arith, c .before .if1 .taken)))
 
 slice-aggregate-copy : tie.Need-slice-aggregate-copy
 slice-aggregate-copy c = let a = c .before .before .before .before .before .args in
@@ -48,15 +48,18 @@ part-copy-end c = search needs
 copy-requires-2 : tie.Need-copy-requires-2
 copy-requires-2 c κs = search needs
 
+written-requires : tie.Need-written-requires
+written-requires c κs = search needs
+
 same-length : tie.Need-same-length
 same-length c = search needs
 
 returns-2 : tie.Need-returns-2
-returns-2 c = let a = c .before .before .before .before .before .before .before .before .before .before .before .before .before .before .args in
+returns-2 c = let a = c .before .before .before .before .before .before .before .before .before .before .before .before .before .before .before .args in
     let r = now (a .right) in
     let n = 5 * a .arrays in
-    wrote (now (a .left)) (now (a .right)) (now (a .out)) (a .arrays) (c .before .before .before .before .before .before .before .before .before .before .before .before .before .before .pre .0) (c .before .before .before .before .before .before .before .copy .last .1 .0) (c .before .before .copy2 .last .1 .0) (take (length r - n) (drop n r)) (omega (arith, c .before .before .before .before .before .before .before .before .before .before .if1 .left))
-    (take-all (length r - n) (drop n r) (omega (arith, length-drop n r))) (c .before .before .before .before .before .before .before .copy .ensures) (c .before .before .copy2 .ensures)
+    rw (c .written .ensures) (wrote (now (a .left)) (now (a .right)) (now (a .out)) (a .arrays) (c .before .before .before .before .before .before .before .before .before .before .before .before .before .before .before .pre .0) (c .before .before .before .before .before .before .before .before .copy .last .1 .0) (c .before .before .before .copy2 .last .1 .0) (take (length r - n) (drop n r)) (omega (arith, c .before .before .before .before .before .before .before .before .before .before .before .if1 .left))
+    (take-all (length r - n) (drop n r) (omega (arith, length-drop n r))) (c .before .before .before .before .before .before .before .before .copy .ensures) (c .before .before .before .copy2 .ensures))
 
 pub write-spec : {M : Type 1} → statement M
 write-spec =
@@ -74,5 +77,6 @@ write-spec =
     part-copy-start
     part-copy-end
     copy-requires-2
+    written-requires
     same-length
     returns-2)
