@@ -242,7 +242,7 @@ pub fn nth_at_sum(froms: &[u32], pasts: &[u32], shifts: &[u32], t: usize, n: usi
 }
 
 // How long a range is.
-pub fn length_of(f: u32, p: u32) -> usize
+fn length_of(f: u32, p: u32) -> usize
     ensures { λ r. ⌜ (r ≡ p - f) × (r < 2 ^ 32) ⌝ }
 {
     if f < p { (p - f) as usize } else { 0 }

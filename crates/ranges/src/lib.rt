@@ -4,7 +4,7 @@ use blocks::Range;
 use model::Iteration;
 use plans::Plan;
 ghost use mathlib.Core.Path.{_≡_};
-ghost use Prim.Native.Nat.{ℕ, suc, _+_, _≤_, _<_, _^_};
+ghost use Prim.Native.Nat.{ℕ, suc, _+_, _-_, _≤_, _<_, _^_};
 ghost use lib.ListN.{length, getD};
 ghost use Rattle.model.specs.Table.{Table, count, iteration};
 ghost use Rattle.blocks.specs.Sums.{column};
@@ -179,6 +179,13 @@ pub fn peeled_iteration(
     iteration_of(Part::Peeled, p, processors, b, firsts, lasts, n)
 }
 
+// How many indices a range has.
+fn indices_of(r: Range) -> u32
+    ensures { λ n. ⌜ n ≡ r .past - r .from ⌝ }
+{
+    if r.from < r.past { r.past - r.from } else { 0 }
+}
+
 // How long the list of the ranges in block b is.
 fn length_of(
     part: Part,
@@ -199,7 +206,7 @@ fn length_of(
     let mut k: usize = 0;
     while k < p.loops {
         let r = range_at(part, blk, processors, b, firsts, lasts, &shifts, &peels, k);
-        sum += lists::length_of(r.from, r.past) as u32;
+        sum += indices_of(r);
         k += 1;
     }
     sum

@@ -26,14 +26,11 @@ loop-holds c = (omega arith, refl)
 range-at-requires : tie.Need-range-at-requires Inv-loop μ-loop
 range-at-requires c κs = part-asks (c .before .before .before .before .before .before .before .before .before .args .processors) (c .before .before .before .before .before .before .before .before .before .args .p) (now (c .before .before .before .before .before .before .before .before .before .args .firsts)) (now (c .before .before .before .before .before .before .before .before .before .args .lasts)) (c .before .before .before .before .before .before .before .before .before .pre .1) (c .before .before .before .before .before .before .before .before .before .args .b) (c .before .before .before .before .loop .k) _ (c .before .before .before .before .before .before .before .before .before .pre .0) (c .before .before .if1 .taken) (c .before .before .before .before .before .before .before .before .block-of .ensures)
 
-length-of-requires : tie.Need-length-of-requires Inv-loop μ-loop
-length-of-requires c κs = search needs
-
-cast-sum : tie.Need-cast-sum Inv-loop μ-loop
-cast-sum c = omega (arith, c .length-of .ensures .1)
+indices-of-requires : tie.Need-indices-of-requires Inv-loop μ-loop
+indices-of-requires c κs = search needs
 
 add-sum : tie.Need-add-sum Inv-loop μ-loop
-add-sum c = omega (arith, sum-next (c .before .before .before .before .before .before .before .before .before .before .before .args .processors) (c .before .before .before .before .before .before .before .before .before .before .before .args .p) (now (c .before .before .before .before .before .before .before .before .before .before .before .args .firsts)) (now (c .before .before .before .before .before .before .before .before .before .before .before .args .lasts)) (c .before .before .before .before .before .before .before .before .before .before .before .pre .1) (c .before .before .before .before .before .before .before .before .before .before .before .args .part) (c .before .before .before .before .before .before .before .before .before .before .before .args .b) (c .before .before .before .before .before .before .loop .k) (c .before .before .before .before .before .before .loop .sum) _ _ (c .before .before .before .before .if1 .taken) (c .before .before .before .before .before .before .loop .inv .1) (range-held (c .before .before .before .before .before .before .before .before .before .before .before .args .part) (c .before .before .before .before .before .before .before .before .before .before .before .args .p) (c .before .before .before .before .before .before .before .before .before .before .before .args .processors) (now (c .before .before .before .before .before .before .before .before .before .before .before .args .firsts)) (now (c .before .before .before .before .before .before .before .before .before .before .before .args .lasts)) (c .before .before .before .before .before .before .before .before .before .before .before .args .b) (c .before .before .before .before .before .before .loop .k) _ _ (c .before .before .before .before .before .before .before .before .before .before .block-of .ensures) (c .before .range-at .ensures)) (c .length-of .ensures .0) .1)
+add-sum c = omega (arith, sum-next (c .before .before .before .before .before .before .before .before .before .before .before .args .processors) (c .before .before .before .before .before .before .before .before .before .before .before .args .p) (now (c .before .before .before .before .before .before .before .before .before .before .before .args .firsts)) (now (c .before .before .before .before .before .before .before .before .before .before .before .args .lasts)) (c .before .before .before .before .before .before .before .before .before .before .before .pre .1) (c .before .before .before .before .before .before .before .before .before .before .before .args .part) (c .before .before .before .before .before .before .before .before .before .before .before .args .b) (c .before .before .before .before .before .before .loop .k) (c .before .before .before .before .before .before .loop .sum) _ _ (c .before .before .before .before .if1 .taken) (c .before .before .before .before .before .before .loop .inv .1) (range-held (c .before .before .before .before .before .before .before .before .before .before .before .args .part) (c .before .before .before .before .before .before .before .before .before .before .before .args .p) (c .before .before .before .before .before .before .before .before .before .before .before .args .processors) (now (c .before .before .before .before .before .before .before .before .before .before .before .args .firsts)) (now (c .before .before .before .before .before .before .before .before .before .before .before .args .lasts)) (c .before .before .before .before .before .before .before .before .before .before .before .args .b) (c .before .before .before .before .before .before .loop .k) _ _ (c .before .before .before .before .before .before .before .before .before .before .block-of .ensures) (c .before .range-at .ensures)) (c .indices-of .ensures) .1)
 
 add-k : tie.Need-add-k Inv-loop μ-loop
 add-k c = omega (arith, few-loops (c .before .before .before .before .before .before .before .before .before .before .before .args .processors) (c .before .before .before .before .before .before .before .before .before .before .before .args .p) (now (c .before .before .before .before .before .before .before .before .before .before .before .args .firsts)) (now (c .before .before .before .before .before .before .before .before .before .before .before .args .lasts)) (c .before .before .before .before .before .before .before .before .before .before .before .pre .1), c .before .before .before .before .if1 .taken)
@@ -42,7 +39,7 @@ loop-less : tie.Need-loop-less Inv-loop μ-loop
 loop-less c = omega (arith, c .before .before .before .before .if1 .taken)
 
 loop-again : tie.Need-loop-again Inv-loop μ-loop
-loop-again c = (omega (arith, c .before .before .before .before .if1 .taken), sum-next (c .before .before .before .before .before .before .before .before .before .before .before .args .processors) (c .before .before .before .before .before .before .before .before .before .before .before .args .p) (now (c .before .before .before .before .before .before .before .before .before .before .before .args .firsts)) (now (c .before .before .before .before .before .before .before .before .before .before .before .args .lasts)) (c .before .before .before .before .before .before .before .before .before .before .before .pre .1) (c .before .before .before .before .before .before .before .before .before .before .before .args .part) (c .before .before .before .before .before .before .before .before .before .before .before .args .b) (c .before .before .before .before .before .before .loop .k) (c .before .before .before .before .before .before .loop .sum) _ _ (c .before .before .before .before .if1 .taken) (c .before .before .before .before .before .before .loop .inv .1) (range-held (c .before .before .before .before .before .before .before .before .before .before .before .args .part) (c .before .before .before .before .before .before .before .before .before .before .before .args .p) (c .before .before .before .before .before .before .before .before .before .before .before .args .processors) (now (c .before .before .before .before .before .before .before .before .before .before .before .args .firsts)) (now (c .before .before .before .before .before .before .before .before .before .before .before .args .lasts)) (c .before .before .before .before .before .before .before .before .before .before .before .args .b) (c .before .before .before .before .before .before .loop .k) _ _ (c .before .before .before .before .before .before .before .before .before .before .block-of .ensures) (c .before .range-at .ensures)) (c .length-of .ensures .0) .0)
+loop-again c = (omega (arith, c .before .before .before .before .if1 .taken), sum-next (c .before .before .before .before .before .before .before .before .before .before .before .args .processors) (c .before .before .before .before .before .before .before .before .before .before .before .args .p) (now (c .before .before .before .before .before .before .before .before .before .before .before .args .firsts)) (now (c .before .before .before .before .before .before .before .before .before .before .before .args .lasts)) (c .before .before .before .before .before .before .before .before .before .before .before .pre .1) (c .before .before .before .before .before .before .before .before .before .before .before .args .part) (c .before .before .before .before .before .before .before .before .before .before .before .args .b) (c .before .before .before .before .before .before .loop .k) (c .before .before .before .before .before .before .loop .sum) _ _ (c .before .before .before .before .if1 .taken) (c .before .before .before .before .before .before .loop .inv .1) (range-held (c .before .before .before .before .before .before .before .before .before .before .before .args .part) (c .before .before .before .before .before .before .before .before .before .before .before .args .p) (c .before .before .before .before .before .before .before .before .before .before .before .args .processors) (now (c .before .before .before .before .before .before .before .before .before .before .before .args .firsts)) (now (c .before .before .before .before .before .before .before .before .before .before .before .args .lasts)) (c .before .before .before .before .before .before .before .before .before .before .before .args .b) (c .before .before .before .before .before .before .loop .k) _ _ (c .before .before .before .before .before .before .before .before .before .before .block-of .ensures) (c .before .range-at .ensures)) (c .indices-of .ensures) .0)
 
 returns : tie.Need-returns Inv-loop μ-loop
 returns c = sum-end (c .before .before .before .before .before .before .before .args .processors) (c .before .before .before .before .before .before .before .args .p) (now (c .before .before .before .before .before .before .before .args .firsts)) (now (c .before .before .before .before .before .before .before .args .lasts)) (c .before .before .before .before .before .before .before .pre .1) (c .before .before .before .before .before .before .before .args .part) (c .before .before .before .before .before .before .before .args .b) _ (c .before .before .loop .k) (c .before .before .loop .inv .0) (c .if1 .left) (c .before .before .loop .inv .1)
@@ -56,8 +53,7 @@ length-of-spec =
     block-of-requires
     loop-holds
     range-at-requires
-    length-of-requires
-    cast-sum
+    indices-of-requires
     add-sum
     add-k
     loop-less
