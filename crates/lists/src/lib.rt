@@ -231,12 +231,12 @@ fn extended(l: Line, f: u32, p: u32, s: u32, w: u32) -> Line
     if p <= f {
         return l;
     }
-    let shift = wide(s);
-    let start = wide(f) + shift;
-    let weight = wide(w);
+    let shift = s as usize;
+    let start = f as usize + shift;
+    let weight = w as usize;
     Line {
         from: greater(l.from, start),
-        past: lesser(l.past, wide(p) + shift),
+        past: lesser(l.past, p as usize + shift),
         slope: l.slope + weight,
         offset: l.offset + weight * start,
     }
