@@ -341,11 +341,14 @@ pub fn nth_at_sum(froms: &[u32], pasts: &[u32], shifts: &[u32], t: usize, n: usi
     }
 }
 
-// How long a range is.
-fn length_of(f: u32, p: u32) -> usize
-    ensures { λ r. ⌜ (r ≡ p - f) × (r < 2 ^ 32) ⌝ }
+// How long the range of loop k is.
+fn length_of(froms: &[u32], pasts: &[u32], k: usize) -> usize
+    requires { ⌜ (k < length (now froms)) × (k < length (now pasts)) ⌝ }
+    ensures { λ r. ⌜ (r ≡ column (now (pasts .entry)) k - column (now (froms .entry)) k) × (r < 2 ^ 32) ⌝ }
 {
-    if f < p { (p - f) as usize } else { 0 }
+    let from = wide(froms[k]);
+    let past = wide(pasts[k]);
+    if from < past { past - from } else { 0 }
 }
 
 // How long the fused list is, whatever the shifts, and the peeled list of the same ranges.
@@ -356,7 +359,7 @@ pub fn total_length(froms: &[u32], pasts: &[u32]) -> usize
     let mut sum: usize = 0;
     let mut k: usize = 0;
     while k < froms.len() {
-        sum += length_of(froms[k], pasts[k]);
+        sum += length_of(froms, pasts, k);
         k += 1;
     }
     sum
@@ -381,7 +384,7 @@ pub fn peeled_nth(froms: &[u32], pasts: &[u32], n: usize) -> Iteration
     let mut left = n;
     let mut k: usize = 0;
     while k < froms.len() {
-        let h = length_of(froms[k], pasts[k]);
+        let h = length_of(froms, pasts, k);
         if left < h {
             return Iteration {
                 number: k,
