@@ -6,7 +6,7 @@ ghost use Prim.Native.Nat.{ℕ, _+_, _-_, _*_, _^_, _≤_, _<_, min, max};
 ghost use lib.ListN.{length, getD};
 ghost use Rattle.model.specs.Table.{iteration};
 ghost use Rattle.blocks.specs.Sums.{column};
-ghost use Rattle.lists.specs.Lists.{loopAt, sumAt, ranges, fusedColumns, peeledColumns};
+ghost use Rattle.lists.specs.Lists.{here, sumAt, ranges, fusedColumns, peeledColumns};
 ghost use Rattle.lists.specs.Below.{clip, weighted, lengths};
 ghost use Rattle.lists.specs.Search.{belowColumns, boundColumns, Aligned, Sized, Bracket, Located};
 ghost use Rattle.lists.specs.Lines.{Extended, Linear, OnLine};
@@ -306,12 +306,14 @@ pub fn position_of(
     find(froms, pasts, shifts, weights, most, at.sum, n)
 }
 
-// 1 where a loop has an iteration at the sum t, else 0.
-fn held(f: u32, p: u32, s: u32, t: usize) -> usize
-    ensures { λ r. ⌜ ((k : ℕ) → r ≡ length (loopAt (record { from = f; past = p }) s t k)) ⌝ }
+// 1 where loop k has an iteration at the sum t, else 0.
+fn held(froms: &[u32], pasts: &[u32], shifts: &[u32], t: usize, k: usize) -> usize
+    requires { ⌜ Aligned (now froms) (now pasts) (now shifts) × (k < length (now froms)) ⌝ }
+    ensures { λ r. ⌜ r ≡ length (here (ranges (now (froms .entry)) (now (pasts .entry))) (column (now (shifts .entry))) t k) ⌝ }
 {
-    if wide(f) + wide(s) <= t {
-        if t < wide(p) + wide(s) { 1 } else { 0 }
+    let shift = wide(shifts[k]);
+    if wide(froms[k]) + shift <= t {
+        if t < wide(pasts[k]) + shift { 1 } else { 0 }
     } else {
         0
     }
@@ -325,7 +327,7 @@ pub fn nth_at_sum(froms: &[u32], pasts: &[u32], shifts: &[u32], t: usize, n: usi
     let mut left = n;
     let mut k: usize = 0;
     while k < froms.len() {
-        let h = held(froms[k], pasts[k], shifts[k], t);
+        let h = held(froms, pasts, shifts, t, k);
         if left < h {
             return Iteration {
                 number: k,
