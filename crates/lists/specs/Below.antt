@@ -48,6 +48,20 @@ module _ (K : ℕ) (r : ℕ → Range) (s w : ℕ → ℕ) where
       total-add K (weighted r s w (suc t)) (weighted r s w t) (λ k. w k * length (here r s t k))
       (λ k l. rw (clip-next (r k) (s k) t k) (mul-add (w k) (clip (r k) (s k) t) (length (here r s t k))))
 
+  below-up : (t d u : ℕ) → u ≡ t + d → below K r s w t ≤ below K r s w u
+  below-up t zero u e = let q : u ≡ t = omega arith in rw q (omega arith)
+  below-up t (suc d) u e =
+      let q : u ≡ suc (t + d) = omega arith in
+      rw q (omega (arith, below-up t d (t + d) refl, below-next (t + d)))
+
+  -- if more are below u than below t, t comes first
+  pub below-first : (t u n : ℕ) → below K r s w t ≤ n → n < below K r s w u → t < u
+  below-first t u n g h = go (decLt t u)
+    where
+      go : Dec (t < u) → t < u
+      go (yes l) = l
+      go (no l) = absurd (omega (arith, below-up u (t - u) t (omega arith)))
+
   -- past the bound there is nothing
   pub below-bound : below K r s w (sumBound K r s) ≡ total K (λ k. w k * (r k .past - r k .from))
   unfolding below weighted sumBound

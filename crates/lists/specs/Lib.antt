@@ -8,5 +8,7 @@ pub mod Order
 pub mod Below
 -- what the search for the n-th iteration keeps
 pub mod Search
+-- the sums where all loops are at work
+pub mod Lines
 -- the lists of all processors: each iteration of a table in one of them
 pub mod Fusion

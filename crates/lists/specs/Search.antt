@@ -15,12 +15,15 @@ use Rattle.blocks.specs.Sums.{total, largest, column}
 use Rattle.lists.specs.Joined.{length-ones, walk-here, walk-next, walk-out}
 use Rattle.lists.specs.Lists.{here, sumAt, sumBound, loopOver, over, byLoops, ranges, fusedColumns}
 use Rattle.lists.specs.Order.{loop-at}
-use Rattle.lists.specs.Below.{weighted, below, below-zero, by-sums-nth, by-sums-below}
+use Rattle.lists.specs.Below.{weighted, below, by-sums-nth, by-sums-below}
 use Rattle.lists.specs.declared.Position.{Position}
 use Rattle.lists.specs.declared.Search.{Search}
 
 abbrev pub belowColumns : List ℕ → List ℕ → List ℕ → List ℕ → ℕ → ℕ
 belowColumns fs ps ss ws t = below (length fs) (ranges fs ps) (column ss) (column ws) t
+
+abbrev pub boundColumns : List ℕ → List ℕ → List ℕ → ℕ
+boundColumns fs ps ss = sumBound (length fs) (ranges fs ps) (column ss)
 
 -- a past and a shift for each loop
 pub record Aligned (fs ps ss : List ℕ) : Type 0 where
@@ -50,8 +53,8 @@ pub record Located (fs ps ss ws : List ℕ) (most n : ℕ) (r : Position) : Type
   pub high : n < belowColumns fs ps ss ws (suc (r .sum))
   pub before : r .before ≡ n - belowColumns fs ps ss ws (r .sum)
 
-pub weight-product : (w x : ℕ) → w ≤ 65536 → x < 2 ^ 32 → w * x ≤ 2 ^ 48
-weight-product w x g h = let l : x ≤ 2 ^ 32 = omega arith in mul-le-mul g l
+pub weight-product : (w x m : ℕ) → w ≤ 65536 → x < m → w * x ≤ 65536 * m
+weight-product w x m g h = let l : x ≤ m = omega arith in mul-le-mul g l
 
 -- WALKS over the loops, that have come to the end
 module _ (K : ℕ) (r : ℕ → Range) (s w : ℕ → ℕ) where
@@ -62,10 +65,6 @@ module _ (K : ℕ) (r : ℕ → Range) (s w : ℕ → ℕ) where
   pub bound-all : (k : ℕ) → K ≤ k → k ≤ K → largest k (λ j. r j .past + s j) ≡ sumBound K r s
   unfolding sumBound
   bound-all k g h = let e : k ≡ K = omega arith in ap (λ (n : ℕ). largest n (λ j. r j .past + s j)) e
-
-  pub below-pos : (n m : ℕ) → n < below K r s w m → 0 < m
-  below-pos n zero h = absurd (omega (arith, below-zero K r s w))
-  below-pos n (suc m) h = omega arith
 
 -- WALKS over the loops, that stop at loop k
 module _ (K : ℕ) (r : ℕ → Range) (s : ℕ → ℕ) (t k n left : ℕ) where
@@ -135,15 +134,14 @@ module _ (fs ps ss : List ℕ) (few : length fs ≤ 16) where
   pub ones-sized : Aligned fs ps ss → Sized fs ps ss ones
   ones-sized a = record { loops = few; pasts = a .pasts; shifts = a .shifts; weights = few; small = ones-small }
 
-  pub ones-below : (n most : ℕ) → n < length (fusedColumns fs ps ss) → most ≡ sumBound (length fs) (ranges fs ps) (column ss)
-      → n < belowColumns fs ps ss ones most
-  ones-below n most h e = rw e (omega (arith, by-sums-below (length fs) (ranges fs ps) (column ss) (column ones) ones-at))
+  pub ones-below : (n : ℕ) → n < length (fusedColumns fs ps ss) → n < belowColumns fs ps ss ones (boundColumns fs ps ss)
+  ones-below n h = omega (arith, by-sums-below (length fs) (ranges fs ps) (column ss) (column ones) ones-at)
 
-  pub ones-found : (n most : ℕ) (p : Position) (x : Iteration) → most ≡ sumBound (length fs) (ranges fs ps) (column ss)
-      → Located fs ps ss ones most n p → x ≡ getD (sumAt (length fs) (ranges fs ps) (column ss) (p .sum)) (p .before) (iteration 0 0)
+  pub ones-found : (n : ℕ) (p : Position) (x : Iteration) → Located fs ps ss ones (boundColumns fs ps ss) n p
+      → x ≡ getD (sumAt (length fs) (ranges fs ps) (column ss) (p .sum)) (p .before) (iteration 0 0)
       → x ≡ getD (fusedColumns fs ps ss) n (iteration 0 0)
-  ones-found n most p x e h q =
+  ones-found n p x h q =
       (rw (h .before) at q)
       ∙ sym
       (by-sums-nth (length fs) (ranges fs ps) (column ss) (column ones) ones-at (iteration 0 0) (p .sum) n
-      (omega (arith, h .inside)) (h .low) (h .high))
+      (h .inside) (h .low) (h .high))

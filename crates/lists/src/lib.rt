@@ -2,13 +2,14 @@
 // Loop k has the range from froms[k] up to pasts[k], pasts[k] not in it, and the shift shifts[k].
 
 ghost use mathlib.Core.Path.{_≡_};
-ghost use Prim.Native.Nat.{ℕ, _+_, _-_, _*_, _^_, _≤_, _<_, max};
+ghost use Prim.Native.Nat.{_+_, _-_, _*_, _^_, _≤_, _<_, min, max};
 ghost use lib.ListN.{length, getD};
 ghost use Rattle.model.specs.Table.{iteration};
 ghost use Rattle.blocks.specs.Sums.{column};
-ghost use Rattle.lists.specs.Lists.{loopAt, sumAt, sumBound, ranges, fusedColumns, peeledColumns};
+ghost use Rattle.lists.specs.Lists.{here, sumAt, ranges, fusedColumns, peeledColumns};
 ghost use Rattle.lists.specs.Below.{clip, weighted, lengths};
-ghost use Rattle.lists.specs.Search.{belowColumns, Aligned, Sized, Bracket, Located};
+ghost use Rattle.lists.specs.Search.{belowColumns, boundColumns, Aligned, Sized, Bracket, Located};
+ghost use Rattle.lists.specs.Lines.{Extended, Linear, OnLine};
 use model::Iteration;
 
 // A sum, and how many iterations of that sum come before the one that is sought.
@@ -25,6 +26,15 @@ pub struct Search {
     pub guess: usize,
 }
 
+// The sums from `from` to `past`, at which every loop that has iterations is at work. There the count is a straight line:
+// slope * t - offset iterations have a sum below t.
+pub struct Line {
+    pub from: usize,
+    pub past: usize,
+    pub slope: usize,
+    pub offset: usize,
+}
+
 fn wide(x: u32) -> usize
     ensures { λ r. ⌜ r ≡ x ⌝ }
 {
@@ -35,6 +45,12 @@ fn greater(x: usize, y: usize) -> usize
     ensures { λ r. ⌜ r ≡ max x y ⌝ }
 {
     if x < y { y } else { x }
+}
+
+fn lesser(x: usize, y: usize) -> usize
+    ensures { λ r. ⌜ r ≡ min x y ⌝ }
+{
+    if x < y { x } else { y }
 }
 
 // How many indices from f up to p, p not among them, have a sum with s below t.
@@ -94,7 +110,7 @@ fn past_sum(pasts: &[u32], shifts: &[u32], k: usize) -> usize
 // A bound of all sums.
 pub fn sum_bound(froms: &[u32], pasts: &[u32], shifts: &[u32]) -> usize
     requires { ⌜ Aligned (now froms) (now pasts) (now shifts) ⌝ }
-    ensures { λ r. ⌜ (r ≡ sumBound (length (now (froms .entry))) (ranges (now (froms .entry)) (now (pasts .entry))) (column (now (shifts .entry)))) × (r < 2 ^ 33) ⌝ }
+    ensures { λ r. ⌜ (r ≡ boundColumns (now (froms .entry)) (now (pasts .entry)) (now (shifts .entry))) × (r < 2 ^ 33) ⌝ }
 {
     let mut most: usize = 0;
     let mut k: usize = 0;
@@ -178,13 +194,14 @@ fn narrow(
     }
 }
 
-// Where the n-th iteration stands, counted by weights, if `most` is a bound of the sums.
-pub fn find(
+// Where the n-th iteration stands, counted by weights, if `most` is a bound of the sums. The search begins at the guess.
+fn find(
     froms: &[u32],
     pasts: &[u32],
     shifts: &[u32],
     weights: &[u32],
     most: usize,
+    guess: usize,
     n: usize,
 ) -> Position
     requires { ⌜ Sized (now froms) (now pasts) (now shifts) (now weights) ⌝ }
@@ -195,7 +212,7 @@ pub fn find(
         low: 0,
         high: most,
         under: 0,
-        guess: 0,
+        guess,
     };
     while s.low + 1 < s.high {
         s = narrow(froms, pasts, shifts, weights, n, s);
@@ -206,12 +223,97 @@ pub fn find(
     }
 }
 
-// 1 where a loop has an iteration at the sum t, else 0.
-fn held(f: u32, p: u32, s: u32, t: usize) -> usize
-    ensures { λ r. ⌜ ((k : ℕ) → r ≡ length (loopAt (record { from = f; past = p }) s t k)) ⌝ }
+// The line with one loop more, of the weight w. A loop with no iteration is at work nowhere, and left out.
+fn extended(l: Line, f: u32, p: u32, s: u32, w: u32) -> Line
+    requires { ⌜ (w ≤ 65536) × (l .slope ≤ 2 ^ 20) × (l .offset ≤ 2 ^ 53) ⌝ }
+    ensures { λ r. ⌜ Extended l (record { from = f; past = p }) s w r ⌝ }
 {
-    if wide(f) + wide(s) <= t {
-        if t < wide(p) + wide(s) { 1 } else { 0 }
+    if p <= f {
+        return l;
+    }
+    let shift = s as usize;
+    let start = f as usize + shift;
+    let weight = w as usize;
+    Line {
+        from: greater(l.from, start),
+        past: lesser(l.past, p as usize + shift),
+        slope: l.slope + weight,
+        offset: l.offset + weight * start,
+    }
+}
+
+// The line of all loops. It begins with every sum there can be; each loop leaves those that it has, and adds its weight to the slope.
+fn line_of(froms: &[u32], pasts: &[u32], shifts: &[u32], weights: &[u32]) -> Line
+    requires { ⌜ Sized (now froms) (now pasts) (now shifts) (now weights) ⌝ }
+    ensures { λ r. ⌜ Linear (now (froms .entry)) (now (pasts .entry)) (now (shifts .entry)) (now (weights .entry)) r ⌝ }
+{
+    let mut l = Line {
+        from: 0,
+        past: 8589934592,
+        slope: 0,
+        offset: 0,
+    };
+    let mut k: usize = 0;
+    while k < froms.len() {
+        l = extended(l, froms[k], pasts[k], shifts[k], weights[k]);
+        k += 1;
+    }
+    l
+}
+
+// Where the n-th iteration would stand if the line had no ends. `past` stands for nowhere: if the line does not rise, or no list is
+// as long as n.
+fn on_line(l: Line, n: usize) -> Position
+    requires { ⌜ l .offset ≤ 2 ^ 53 ⌝ }
+    ensures { λ r. ⌜ (r .sum < l .past → OnLine l n r) ⌝ }
+{
+    if 0 < l.slope {
+        if n < 9007199254740992 {
+            let whole = n + l.offset;
+            return Position {
+                sum: whole / l.slope,
+                before: whole % l.slope,
+            };
+        }
+    }
+    Position {
+        sum: l.past,
+        before: 0,
+    }
+}
+
+// Where the n-th iteration stands, counted by weights. Most stand on the line, where a division finds them; the others, at sums
+// where some loop has not begun or is done, are searched for.
+pub fn position_of(
+    froms: &[u32],
+    pasts: &[u32],
+    shifts: &[u32],
+    weights: &[u32],
+    n: usize,
+) -> Position
+    requires { ⌜ Sized (now froms) (now pasts) (now shifts) (now weights) ⌝ }
+    requires { ⌜ n < belowColumns (now froms) (now pasts) (now shifts) (now weights) (boundColumns (now froms) (now pasts) (now shifts)) ⌝ }
+    ensures { λ r. ⌜ Located (now (froms .entry)) (now (pasts .entry)) (now (shifts .entry)) (now (weights .entry)) (boundColumns (now (froms .entry)) (now (pasts .entry)) (now (shifts .entry))) n r ⌝ }
+{
+    let l = line_of(froms, pasts, shifts, weights);
+    let at = on_line(l, n);
+    if l.from <= at.sum {
+        if at.sum < l.past {
+            return at;
+        }
+    }
+    let most = sum_bound(froms, pasts, shifts);
+    find(froms, pasts, shifts, weights, most, at.sum, n)
+}
+
+// 1 where loop k has an iteration at the sum t, else 0.
+fn held(froms: &[u32], pasts: &[u32], shifts: &[u32], t: usize, k: usize) -> usize
+    requires { ⌜ Aligned (now froms) (now pasts) (now shifts) × (k < length (now froms)) ⌝ }
+    ensures { λ r. ⌜ r ≡ length (here (ranges (now (froms .entry)) (now (pasts .entry))) (column (now (shifts .entry))) t k) ⌝ }
+{
+    let shift = wide(shifts[k]);
+    if wide(froms[k]) + shift <= t {
+        if t < wide(pasts[k]) + shift { 1 } else { 0 }
     } else {
         0
     }
@@ -225,7 +327,7 @@ pub fn nth_at_sum(froms: &[u32], pasts: &[u32], shifts: &[u32], t: usize, n: usi
     let mut left = n;
     let mut k: usize = 0;
     while k < froms.len() {
-        let h = held(froms[k], pasts[k], shifts[k], t);
+        let h = held(froms, pasts, shifts, t, k);
         if left < h {
             return Iteration {
                 number: k,
@@ -241,11 +343,14 @@ pub fn nth_at_sum(froms: &[u32], pasts: &[u32], shifts: &[u32], t: usize, n: usi
     }
 }
 
-// How long a range is.
-fn length_of(f: u32, p: u32) -> usize
-    ensures { λ r. ⌜ (r ≡ p - f) × (r < 2 ^ 32) ⌝ }
+// How long the range of loop k is.
+fn length_of(froms: &[u32], pasts: &[u32], k: usize) -> usize
+    requires { ⌜ (k < length (now froms)) × (k < length (now pasts)) ⌝ }
+    ensures { λ r. ⌜ (r ≡ column (now (pasts .entry)) k - column (now (froms .entry)) k) × (r < 2 ^ 32) ⌝ }
 {
-    if f < p { (p - f) as usize } else { 0 }
+    let from = wide(froms[k]);
+    let past = wide(pasts[k]);
+    if from < past { past - from } else { 0 }
 }
 
 // How long the fused list is, whatever the shifts, and the peeled list of the same ranges.
@@ -256,7 +361,7 @@ pub fn total_length(froms: &[u32], pasts: &[u32]) -> usize
     let mut sum: usize = 0;
     let mut k: usize = 0;
     while k < froms.len() {
-        sum += length_of(froms[k], pasts[k]);
+        sum += length_of(froms, pasts, k);
         k += 1;
     }
     sum
@@ -269,8 +374,7 @@ pub fn fused_nth(froms: &[u32], pasts: &[u32], shifts: &[u32], n: usize) -> Iter
     ensures { λ r. ⌜ r ≡ getD (fusedColumns (now (froms .entry)) (now (pasts .entry)) (now (shifts .entry))) n (iteration 0 0) ⌝ }
 {
     let ones = [1u32; 16];
-    let most = sum_bound(froms, pasts, shifts);
-    let at = find(froms, pasts, shifts, &ones, most, n);
+    let at = position_of(froms, pasts, shifts, &ones, n);
     nth_at_sum(froms, pasts, shifts, at.sum, at.before)
 }
 
@@ -282,7 +386,7 @@ pub fn peeled_nth(froms: &[u32], pasts: &[u32], n: usize) -> Iteration
     let mut left = n;
     let mut k: usize = 0;
     while k < froms.len() {
-        let h = length_of(froms[k], pasts[k]);
+        let h = length_of(froms, pasts, k);
         if left < h {
             return Iteration {
                 number: k,

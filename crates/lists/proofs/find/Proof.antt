@@ -6,25 +6,26 @@ use denote.Ref.{now}
 use lib.ListN.{length}
 use Rattle.blocks.specs.Sums.{column}
 use Rattle.lists.specs.Lists.{ranges}
-use Rattle.lists.specs.Below.{below-zero}
-use Rattle.lists.specs.Search.{Bracket, below-pos}
+use Rattle.lists.specs.Below.{below-zero, below-first}
+use Rattle.lists.specs.Search.{Bracket}
 use Rattle.lists.proofs.find.Statement.{statement}
 use Rattle.lists.proofs.find.Tie as tie
 
 abbrev Inv-loop : tie.InvT-loop
-Inv-loop froms pasts shifts weights most n s₀ s = Bracket froms pasts shifts weights n s × (s .high ≤ most)
+Inv-loop froms pasts shifts weights most guess n s₀ s = Bracket froms pasts shifts weights n s × (s .high ≤ most)
 
 abbrev μ-loop : tie.MeasureT-loop
-μ-loop froms pasts shifts weights most n s₀ s = s .high - s .low
+μ-loop froms pasts shifts weights most guess n s₀ s = s .high - s .low
 
 loop-holds : tie.Need-loop-holds Inv-loop μ-loop
 loop-holds c =
     let a = c .before .before .before .before .args in
-    let p = c .before .before .before .before .pre .1 in (
+    let p = c .before .before .before .before .pre .1 in
+    let z = below-zero (length (now (a .froms))) (ranges (now (a .froms)) (now (a .pasts))) (column (now (a .shifts))) (column (now (a .weights))) in (
       record {
-        rising = below-pos (length (now (a .froms))) (ranges (now (a .froms)) (now (a .pasts))) (column (now (a .shifts))) (column (now (a .weights))) (a .n) (a .most) (p .0);
+        rising = below-first (length (now (a .froms))) (ranges (now (a .froms)) (now (a .pasts))) (column (now (a .shifts))) (column (now (a .weights))) 0 (a .most) (a .n) (omega arith) (p .0);
         inside = p .1;
-        value = sym (below-zero (length (now (a .froms))) (ranges (now (a .froms)) (now (a .pasts))) (column (now (a .shifts))) (column (now (a .weights))));
+        value = sym z;
         before = omega arith;
         after = p .0;
       },
@@ -43,8 +44,8 @@ loop-less c = c .narrow .ensures .1
 loop-again : tie.Need-loop-again Inv-loop μ-loop
 loop-again c = (c .narrow .ensures .0, omega (arith, c .narrow .ensures .2, c .before .before .before .before .loop .inv .1))
 
-sub-t10 : tie.Need-sub-t10 Inv-loop μ-loop
-sub-t10 c = omega arith
+sub-t11 : tie.Need-sub-t11 Inv-loop μ-loop
+sub-t11 c = omega arith
 
 returns : tie.Need-returns Inv-loop μ-loop
 returns c =
@@ -63,5 +64,5 @@ find-spec =
     narrow-requires
     loop-less
     loop-again
-    sub-t10
+    sub-t11
     returns)

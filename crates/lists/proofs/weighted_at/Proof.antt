@@ -1,6 +1,6 @@
 -- `lists::weighted_at` meets its contract: a weight of at most 65,536 times a length below 2^32. Assumes nothing.
 use mathlib.Core.Path.{ap₂}
-use Prim.Native.Nat.{ℕ, _*_}
+use Prim.Native.Nat.{ℕ, _*_, _^_}
 use native.Mathlib.Omega.{arith}
 use Rattle.lists.specs.Below.{weighted}
 use Rattle.lists.specs.Search.{weight-product}
@@ -42,14 +42,14 @@ mul-result : tie.Need-mul-result
 mul-result c =
     let s = c .before .before .before .before .before .before .before .before .before .before in
     omega
-    (arith, weight-product (c .before .before .before .before .wide .result) (c .clipped .result) (omega (arith, s .pre .0 .small (s .args .k))) (c .clipped .ensures .1))
+    (arith, weight-product (c .before .before .before .before .wide .result) (c .clipped .result) (2 ^ 32) (omega (arith, s .pre .0 .small (s .args .k))) (c .clipped .ensures .1))
 
 returns : tie.Need-returns
 unfolding weighted
 returns c =
     let s = c .before .before .before .before .before .before .before .before .before .before in (
       ap₂ (λ (x y : ℕ). x * y) (c .before .before .before .before .wide .ensures) (c .clipped .ensures .0),
-      weight-product (c .before .before .before .before .wide .result) (c .clipped .result) (omega (arith, s .pre .0 .small (s .args .k))) (c .clipped .ensures .1),
+      weight-product (c .before .before .before .before .wide .result) (c .clipped .result) (2 ^ 32) (omega (arith, s .pre .0 .small (s .args .k))) (c .clipped .ensures .1),
     )
 
 pub weighted-at-spec : {M : Type 1} → statement M
