@@ -4,7 +4,6 @@ use native.Mathlib.Omega.{arith}
 use mathlib.Core.Path.{_≡_, sym, ap, subst, _∙_}
 use mathlib.Core.List.{List, [], _++_}
 use lib.ListN.{length, getD}
-use borrow.Author.Tests.{lt-ltb, le-ltb}
 use Rattle.model.specs.Table.{Table, count}
 use Rattle.reader.specs.Reading.{Answer, accepted, refused}
 use Rattle.reader.specs.Columns.{Columns, tableAt, count-table}
@@ -21,6 +20,8 @@ use Rattle.plans.specs.Fitting.{Fits, planned-fits, span-small}
 use Rattle.sweeps.specs.declared.Sweeps.{Sweeps}
 use Rattle.sweeps.specs.Sweeps.{sweeps, before, after}
 use Rattle.sweeps.specs.Rows.{Placed, kept-placed}
+use Rattle.outputs.specs.declared.Outcome.{Outcome}
+use Rattle.outputs.specs.Gives.{refusing, writing, gives-short, gives-written}
 use Rattle.text.specs.Written.{Whole, length-written, written-front, written-nowhere}
 use Rattle.listing.specs.Listing.{listing, refusal, listing-same}
 use Rattle.listing.specs.Code.{ownOf}
@@ -35,27 +36,22 @@ module _ (text out none : List ℕ) (most size : ℕ) (short : most ≤ 212900) 
   few : length text ≤ 212900
   few = omega (arith, asked .size, asked .few)
 
-  pub no-room : length (none ++ out) < size → Prints text out (none ++ out) (record { number = 13; written = 0 })
-  no-room l = rw still-none (refusing (rw still-none at l))
+  pub no-room : length (none ++ out) < size → (o : Outcome) → o ≡ refusing 13 0 0 → Prints text out (none ++ out) o
+  no-room l o e = rw (still-none, e) (short-of (rw still-none at l))
     where
-      refusing : length out < size → Prints text out out (record { number = 13; written = 0 })
-      refusing h =
-          let e = lt-ltb (length out) (length text) (omega (arith, asked .size)) in
-          record { is = rw e; bytes = rw e; few = few; fits = omega arith }
+      short-of : length out < size → Prints text out out (refusing 13 0 0)
+      short-of h = record { gives = gives-short text out (omega (arith, asked .size)); few = few; fits = omega arith }
 
   pub room : (left : List ℕ) (n : ℕ) → Whole (none ++ out) text most left n → size ≤ length (none ++ out)
-      → Prints text out left (record { number = 0; written = size })
-  room left n w l = go (subst (λ (x : List ℕ). Whole (x ++ out) text most left n) still-none w) (rw still-none at l)
+      → (o : Outcome) → o ≡ writing size → Prints text out left o
+  room left n w l o e = rw e (go (subst (λ (x : List ℕ). Whole (x ++ out) text most left n) still-none w) (rw still-none at l))
     where
-      go : Whole out text most left n → size ≤ length out → Prints text out left (record { number = 0; written = size })
-      go w h =
-          let e = le-ltb (length out) (length text) (omega (arith, asked .size)) in
-          record {
-            is = rw (e, asked .size);
-            bytes = rw e (w .bytes ∙ written-front out text (omega (arith, asked .size)));
-            few = few;
-            fits = omega (arith, ap length (w .bytes), length-written out 0 text);
-          }
+      go : Whole out text most left n → size ≤ length out → Prints text out left (writing size)
+      go w h = record {
+        gives = gives-written text out left size (omega (arith, asked .size)) (asked .size) (w .bytes ∙ written-front out text (omega (arith, asked .size)));
+        few = few;
+        fits = omega (arith, ap length (w .bytes), length-written out 0 text);
+      }
 
 -- the text of what the plan's code answered
 module _ (s : List ℕ) (P : ℕ) (c : Columns) (p : Plan) (h : Plans s (planned s P) p c) where

@@ -1,4 +1,5 @@
 // A table's listing, or the line of its refusal, into lent bytes: all of it, or nothing and 13.
+use outputs::Outcome;
 use plans::Plan;
 use sweeps::Sweeps;
 ghost use Rattle.listing.specs.Listing.{refusal};
@@ -6,28 +7,16 @@ ghost use Rattle.text.specs.Written.{Whole};
 ghost use Rattle.printing.specs.Printing.{text, Prints};
 ghost use Rattle.printing.specs.Code.{planLines, Small};
 
-// 13 where the text does not fit, else 0; and how many bytes were written.
-pub struct Printed {
-    pub number: usize,
-    pub written: usize,
-}
-
 // The line of a refusal. The first call, with no bytes, tells how many are needed.
-fn print_refusal(out: &mut [u8], number: usize, place: usize) -> Printed
+fn print_refusal(out: &mut [u8], number: usize, place: usize) -> Outcome
     ensures { λ r. ⌜ Prints (refusal number place) (now (out .entry)) (now (out .exit)) r ⌝ }
 {
     let size = listing::write_refusal(&mut out[..0], number, place);
     if out.len() < size {
-        return Printed {
-            number: 13,
-            written: 0,
-        };
+        return outputs::refusal(13, 0, 0);
     }
     listing::write_refusal(out, number, place);
-    Printed {
-        number: 0,
-        written: size,
-    }
+    outputs::written(size)
 }
 
 // The lines of a plan, as far as there is room; answers how many bytes they are.
@@ -68,26 +57,20 @@ fn print_lines(
     processors: u32,
     firsts: &[u32; 16],
     lasts: &[u32; 16],
-) -> Printed
+) -> Outcome
     requires { ⌜ Small p processors (now lasts) ⌝ }
     ensures { λ r. ⌜ Prints (planLines p w processors (now (firsts .entry)) (now (lasts .entry))) (now (out .entry)) (now (out .exit)) r ⌝ }
 {
     let total = write_lines(&mut out[..0], p, w, processors, firsts, lasts);
     if out.len() < total {
-        return Printed {
-            number: 13,
-            written: 0,
-        };
+        return outputs::refusal(13, 0, 0);
     }
     write_lines(out, p, w, processors, firsts, lasts);
-    Printed {
-        number: 0,
-        written: total,
-    }
+    outputs::written(total)
 }
 
 // Prints the plan of a table for a number of processors, or its refusal.
-pub fn print_plan(s: &[u8], processors: u32, out: &mut [u8]) -> Printed
+pub fn print_plan(s: &[u8], processors: u32, out: &mut [u8]) -> Outcome
     ensures { λ r. ⌜ Prints (text (now (s .entry)) processors) (now (out .entry)) (now (out .exit)) r ⌝ }
 {
     let mut lens = [0u32; 16];

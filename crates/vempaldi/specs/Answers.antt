@@ -15,7 +15,6 @@ use Rattle.tables.specs.Verdict.{Told}
 use Rattle.outputs.specs.declared.Outcome.{Outcome}
 use Rattle.outputs.specs.Given.{Given}
 use Rattle.entries.specs.Entries.{Told as EntriesTold}
-use Rattle.printing.specs.declared.Printed.{Printed}
 use Rattle.printing.specs.Printing.{Prints}
 use Rattle.joining.specs.Told.{Told as JoinedTold}
 
@@ -44,10 +43,10 @@ pub record EntryTold (s : List ℕ) (given : Given) (found answer : List ℕ) (c
 
 -- the answer of the listing: out before and after, the answer before and after, the count of bytes written
 pub record ListingTold (text out left found answer : List ℕ) (count : ℕ) : Type 0 where
-  pub printed : Printed
-  pub prints : Prints text out left printed
-  pub is : answer ≡ answered (printed .number) 0 0 found
-  pub written : count ≡ printed .written
+  pub outcome : Outcome
+  pub prints : Prints text out left outcome
+  pub is : answer ≡ answered (outcome .number) (outcome .place) (outcome .read) found
+  pub written : count ≡ outcome .written
 
 -- the three numbers of a report, and the three of its answer; `read` is the read that 9 names
 abbrev pub written : ℕ → ℕ → ℕ → List ℕ → List ℕ

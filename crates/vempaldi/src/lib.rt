@@ -70,9 +70,9 @@ pub extern "C" fn vempaldi_listing(
 ) -> u64
     ensures { λ r. ⌜ ListingTold (text (now (table .entry)) processors) (now (out .entry)) (now (out .exit)) (now (answer .entry)) (now (answer .exit)) r ⌝ }
 {
-    let p = printing::print_plan(table, processors, out);
-    write_answer(answer, p.number, 0, 0);
-    p.written as u64
+    let o = printing::print_plan(table, processors, out);
+    write_answer(answer, o.number, o.place, o.read);
+    o.written as u64
 }
 
 // The threshold, four bytes; answers how many bytes were written, 0 where it refuses.

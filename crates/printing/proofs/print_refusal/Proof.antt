@@ -1,6 +1,6 @@
-use denote.Ref.{now}
-use lib.Dec.{lit≤}
 use Rattle.printing.proofs.Laws.{no-room, room}
+use lib.Dec.{lit≤}
+use denote.Ref.{now}
 use borrow.Author.Needs.{needs}
 use Rattle.printing.proofs.print_refusal.Statement.{statement}
 use Rattle.printing.proofs.print_refusal.Tie as tie
@@ -14,20 +14,26 @@ slice-aggregate-write-refusal c = search needs
 write-refusal-requires : tie.Need-write-refusal-requires
 write-refusal-requires c κs = search needs
 
+refusal-requires : tie.Need-refusal-requires
+refusal-requires c κs = search needs
+
 same-length : tie.Need-same-length
 same-length c = search needs
 
 returns : tie.Need-returns
-returns c = no-room _ (now (c .before .before .before .before .before .before .args .out)) _ _ _ (lit≤ tt) (c .before .before .before .write-refusal .ensures) (c .if1 .taken)
+returns c = no-room _ (now (c .before .before .before .before .before .before .before .args .out)) _ _ _ (lit≤ tt) (c .before .before .before .before .write-refusal .ensures) (c .before .if1 .taken) _ (c .refusal .ensures)
 
 write-refusal-requires-2 : tie.Need-write-refusal-requires-2
 write-refusal-requires-2 c κs = search needs
+
+written-requires : tie.Need-written-requires
+written-requires c κs = search needs
 
 same-length-2 : tie.Need-same-length-2
 same-length-2 c = search needs
 
 returns-2 : tie.Need-returns-2
-returns-2 c = room _ (now (c .before .before .before .before .before .before .before .before .before .before .args .out)) _ _ _ (lit≤ tt) (c .before .before .before .before .before .before .before .write-refusal .ensures) _ _ (c .before .before .write-refusal2 .ensures) (c .before .before .before .before .if1 .left)
+returns-2 c = room _ (now (c .before .before .before .before .before .before .before .before .before .before .before .args .out)) _ _ _ (lit≤ tt) (c .before .before .before .before .before .before .before .before .write-refusal .ensures) _ _ (c .before .before .before .write-refusal2 .ensures) (c .before .before .before .before .before .if1 .left) _ (c .written .ensures)
 
 pub print-refusal-spec : {M : Type 1} → statement M
 print-refusal-spec =
@@ -36,8 +42,10 @@ print-refusal-spec =
     slice-relend-prefix-write-refusal
     slice-aggregate-write-refusal
     write-refusal-requires
+    refusal-requires
     same-length
     returns
     write-refusal-requires-2
+    written-requires
     same-length-2
     returns-2)
