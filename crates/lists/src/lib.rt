@@ -2,11 +2,11 @@
 // Loop k has the range from froms[k] up to pasts[k], pasts[k] not in it, and the shift shifts[k].
 
 ghost use mathlib.Core.Path.{_≡_};
-ghost use Prim.Native.Nat.{_+_, _-_, _*_, _^_, _≤_, _<_, min, max};
+ghost use Prim.Native.Nat.{ℕ, _+_, _-_, _*_, _^_, _≤_, _<_, min, max};
 ghost use lib.ListN.{length, getD};
 ghost use Rattle.model.specs.Table.{iteration};
 ghost use Rattle.blocks.specs.Sums.{column};
-ghost use Rattle.lists.specs.Lists.{here, sumAt, ranges, fusedColumns, peeledColumns};
+ghost use Rattle.lists.specs.Lists.{loopAt, sumAt, ranges, fusedColumns, peeledColumns};
 ghost use Rattle.lists.specs.Below.{clip, weighted, lengths};
 ghost use Rattle.lists.specs.Search.{belowColumns, boundColumns, Aligned, Sized, Bracket, Located};
 ghost use Rattle.lists.specs.Lines.{Extended, Linear, OnLine};
@@ -26,8 +26,8 @@ pub struct Search {
     pub guess: usize,
 }
 
-// The sums from `from` to `past`, at which every loop that has iterations is at work. There the count is a straight line:
-// slope * t - offset iterations have a sum below t.
+// From the sum `from` up to `past`, past not among them, every loop that has iterations is at work. So the count is a straight line
+// there: slope * t - offset iterations have a sum below t.
 pub struct Line {
     pub from: usize,
     pub past: usize,
@@ -306,14 +306,12 @@ pub fn position_of(
     find(froms, pasts, shifts, weights, most, at.sum, n)
 }
 
-// 1 where loop k has an iteration at the sum t, else 0.
-fn held(froms: &[u32], pasts: &[u32], shifts: &[u32], t: usize, k: usize) -> usize
-    requires { ⌜ Aligned (now froms) (now pasts) (now shifts) × (k < length (now froms)) ⌝ }
-    ensures { λ r. ⌜ r ≡ length (here (ranges (now (froms .entry)) (now (pasts .entry))) (column (now (shifts .entry))) t k) ⌝ }
+// 1 where a loop has an iteration at the sum t, else 0.
+fn held(f: u32, p: u32, s: u32, t: usize) -> usize
+    ensures { λ r. ⌜ ((k : ℕ) → r ≡ length (loopAt (record { from = f; past = p }) s t k)) ⌝ }
 {
-    let shift = wide(shifts[k]);
-    if wide(froms[k]) + shift <= t {
-        if t < wide(pasts[k]) + shift { 1 } else { 0 }
+    if wide(f) + wide(s) <= t {
+        if t < wide(p) + wide(s) { 1 } else { 0 }
     } else {
         0
     }
@@ -327,7 +325,7 @@ pub fn nth_at_sum(froms: &[u32], pasts: &[u32], shifts: &[u32], t: usize, n: usi
     let mut left = n;
     let mut k: usize = 0;
     while k < froms.len() {
-        let h = held(froms, pasts, shifts, t, k);
+        let h = held(froms[k], pasts[k], shifts[k], t);
         if left < h {
             return Iteration {
                 number: k,
@@ -343,14 +341,11 @@ pub fn nth_at_sum(froms: &[u32], pasts: &[u32], shifts: &[u32], t: usize, n: usi
     }
 }
 
-// How long the range of loop k is.
-fn length_of(froms: &[u32], pasts: &[u32], k: usize) -> usize
-    requires { ⌜ (k < length (now froms)) × (k < length (now pasts)) ⌝ }
-    ensures { λ r. ⌜ (r ≡ column (now (pasts .entry)) k - column (now (froms .entry)) k) × (r < 2 ^ 32) ⌝ }
+// How long a range is.
+fn length_of(f: u32, p: u32) -> usize
+    ensures { λ r. ⌜ (r ≡ p - f) × (r < 2 ^ 32) ⌝ }
 {
-    let from = wide(froms[k]);
-    let past = wide(pasts[k]);
-    if from < past { past - from } else { 0 }
+    if f < p { (p - f) as usize } else { 0 }
 }
 
 // How long the fused list is, whatever the shifts, and the peeled list of the same ranges.
@@ -361,7 +356,7 @@ pub fn total_length(froms: &[u32], pasts: &[u32]) -> usize
     let mut sum: usize = 0;
     let mut k: usize = 0;
     while k < froms.len() {
-        sum += length_of(froms, pasts, k);
+        sum += length_of(froms[k], pasts[k]);
         k += 1;
     }
     sum
@@ -386,7 +381,7 @@ pub fn peeled_nth(froms: &[u32], pasts: &[u32], n: usize) -> Iteration
     let mut left = n;
     let mut k: usize = 0;
     while k < froms.len() {
-        let h = length_of(froms, pasts, k);
+        let h = length_of(froms[k], pasts[k]);
         if left < h {
             return Iteration {
                 number: k,

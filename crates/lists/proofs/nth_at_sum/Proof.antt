@@ -21,8 +21,26 @@ abbrev μ-loop : tie.MeasureT-loop
 loop-holds : tie.Need-loop-holds Inv-loop μ-loop
 loop-holds c = (omega arith, omega arith)
 
+mul-held : tie.Need-mul-held Inv-loop μ-loop
+mul-held c = omega arith
+
+shared-slice-read-held : tie.Need-shared-slice-read-held Inv-loop μ-loop
+shared-slice-read-held c = omega arith
+
+mul-held-2 : tie.Need-mul-held-2 Inv-loop μ-loop
+mul-held-2 c = omega arith
+
+shared-slice-read-held-2 : tie.Need-shared-slice-read-held-2 Inv-loop μ-loop
+shared-slice-read-held-2 c = omega arith
+
+mul-held-3 : tie.Need-mul-held-3 Inv-loop μ-loop
+mul-held-3 c = omega arith
+
+shared-slice-read-held-3 : tie.Need-shared-slice-read-held-3 Inv-loop μ-loop
+shared-slice-read-held-3 c = omega arith
+
 held-requires : tie.Need-held-requires Inv-loop μ-loop
-held-requires c κs = (c .before .before .before .before .before .pre, c .loop-test .taken)
+held-requires c κs = tt
 
 mul-wide : tie.Need-mul-wide Inv-loop μ-loop
 mul-wide c = omega arith
@@ -33,24 +51,24 @@ shared-slice-read-wide c = omega arith
 wide-requires : tie.Need-wide-requires Inv-loop μ-loop
 wide-requires c κs = tt
 
-sub-t15 : tie.Need-sub-t15 Inv-loop μ-loop
-sub-t15 c =
-    let a = c .before .before .before .before .before .before .before .before .before .args in
-    let l = c .before .before .before .before .before .loop in
+sub-t23 : tie.Need-sub-t23 Inv-loop μ-loop
+sub-t23 c =
+    let a = c .before .before .before .before .before .before .before .before .before .before .before .before .args in
+    let l = c .before .before .before .before .before .before .before .before .loop in
     let h = c .before .before .before .held in
     omega (
       arith,
-      at-sum-fits (length (now (a .froms))) (ranges (now (a .froms)) (now (a .pasts))) (column (now (a .shifts))) (a .t) (l .k) (a .n) (l .left) (h .result) (c .before .before .if1 .taken) (h .ensures),
+      at-sum-fits (length (now (a .froms))) (ranges (now (a .froms)) (now (a .pasts))) (column (now (a .shifts))) (a .t) (l .k) (a .n) (l .left) (h .result) (c .before .before .if1 .taken) (h .ensures (l .k)),
       c .wide .ensures,
     )
 
 returns : tie.Need-returns Inv-loop μ-loop
 returns c =
-    let a = c .before .before .before .before .before .before .before .before .before .args in
-    let l = c .before .before .before .before .before .loop in
+    let a = c .before .before .before .before .before .before .before .before .before .before .before .before .args in
+    let l = c .before .before .before .before .before .before .before .before .loop in
     let h = c .before .before .before .held in
     at-sum-here (length (now (a .froms))) (ranges (now (a .froms)) (now (a .pasts))) (column (now (a .shifts))) (a .t) (l .k) (a .n) (l .left) (h .result) (c .wide .result)
-    (c .before .before .before .before .loop-test .taken) (l .inv .1) (c .before .before .if1 .taken) (h .ensures) (c .wide .ensures)
+    (c .before .before .before .before .before .before .before .loop-test .taken) (l .inv .1) (c .before .before .if1 .taken) (h .ensures (l .k)) (c .wide .ensures)
 
 add-k : tie.Need-add-k Inv-loop μ-loop
 add-k c = omega arith
@@ -60,9 +78,9 @@ loop-less c = omega arith
 
 loop-again : tie.Need-loop-again Inv-loop μ-loop
 loop-again c =
-    let a = c .before .before .before .before .before .before .before .args in
-    let l = c .before .before .before .loop in
-    let q = c .before .held .ensures in
+    let a = c .before .before .before .before .before .before .before .before .before .before .args in
+    let l = c .before .before .before .before .before .before .loop in
+    let q = c .before .held .ensures (l .k) in
     (omega arith, rw q (walk-next (here (ranges (now (a .froms)) (now (a .pasts))) (column (now (a .shifts))) (a .t)) (l .k) (a .n) (l .left) (l .inv .1) (omega arith)))
 
 returns-2 : tie.Need-returns-2 Inv-loop μ-loop
@@ -78,11 +96,17 @@ nth-at-sum-spec =
     Inv-loop
     μ-loop
     loop-holds
+    mul-held
+    shared-slice-read-held
+    mul-held-2
+    shared-slice-read-held-2
+    mul-held-3
+    shared-slice-read-held-3
     held-requires
     mul-wide
     shared-slice-read-wide
     wide-requires
-    sub-t15
+    sub-t23
     returns
     add-k
     loop-less

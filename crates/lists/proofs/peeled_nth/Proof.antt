@@ -19,8 +19,20 @@ abbrev μ-loop : tie.MeasureT-loop
 loop-holds : tie.Need-loop-holds Inv-loop μ-loop
 loop-holds c = (omega arith, omega arith)
 
+mul-length-of : tie.Need-mul-length-of Inv-loop μ-loop
+mul-length-of c = omega arith
+
+shared-slice-read-length-of : tie.Need-shared-slice-read-length-of Inv-loop μ-loop
+shared-slice-read-length-of c = omega arith
+
+mul-length-of-2 : tie.Need-mul-length-of-2 Inv-loop μ-loop
+mul-length-of-2 c = omega arith
+
+shared-slice-read-length-of-2 : tie.Need-shared-slice-read-length-of-2 Inv-loop μ-loop
+shared-slice-read-length-of-2 c = omega arith
+
 length-of-requires : tie.Need-length-of-requires Inv-loop μ-loop
-length-of-requires c κs = (c .loop-test .taken, omega (arith, c .before .before .before .before .pre))
+length-of-requires c κs = tt
 
 mul-wide : tie.Need-mul-wide Inv-loop μ-loop
 mul-wide c = omega arith
@@ -31,14 +43,14 @@ shared-slice-read-wide c = omega arith
 wide-requires : tie.Need-wide-requires Inv-loop μ-loop
 wide-requires c κs = tt
 
-add-t13 : tie.Need-add-t13 Inv-loop μ-loop
-add-t13 c = let l = c .before .before .before .before .before .loop in omega (arith, c .before .shared-slice-known3 .given (l .k), c .before .before .before .length-of .ensures, c .wide .ensures)
+add-t18 : tie.Need-add-t18 Inv-loop μ-loop
+add-t18 c = let l = c .before .before .before .before .before .before .before .loop in omega (arith, c .before .shared-slice-known5 .given (l .k), c .before .before .before .length-of .ensures, c .wide .ensures)
 
 returns : tie.Need-returns Inv-loop μ-loop
 returns c =
-    let a = c .before .before .before .before .before .before .before .before .args in
-    let l = c .before .before .before .before .before .loop in
-    by-loops-here (length (now (a .froms))) (ranges (now (a .froms)) (now (a .pasts))) (l .k) (a .n) (l .left) (c .wide .result) (c .before .before .before .before .loop-test .taken) (l .inv .1)
+    let a = c .before .before .before .before .before .before .before .before .before .before .args in
+    let l = c .before .before .before .before .before .before .before .loop in
+    by-loops-here (length (now (a .froms))) (ranges (now (a .froms)) (now (a .pasts))) (l .k) (a .n) (l .left) (c .wide .result) (c .before .before .before .before .before .before .loop-test .taken) (l .inv .1)
     (omega (arith, c .before .before .before .length-of .ensures .0, c .before .before .if1 .taken)) (c .wide .ensures)
 
 add-k : tie.Need-add-k Inv-loop μ-loop
@@ -49,8 +61,8 @@ loop-less c = omega arith
 
 loop-again : tie.Need-loop-again Inv-loop μ-loop
 loop-again c =
-    let a = c .before .before .before .before .before .before .args in
-    let l = c .before .before .before .loop in
+    let a = c .before .before .before .before .before .before .before .before .args in
+    let l = c .before .before .before .before .before .loop in
     let h = c .before .length-of in
     (omega arith, by-loops-next (length (now (a .froms))) (ranges (now (a .froms)) (now (a .pasts))) (l .k) (a .n) (l .left) (h .result) (l .inv .1) (h .ensures .0) (c .if1 .left))
 
@@ -67,11 +79,15 @@ peeled-nth-spec =
     Inv-loop
     μ-loop
     loop-holds
+    mul-length-of
+    shared-slice-read-length-of
+    mul-length-of-2
+    shared-slice-read-length-of-2
     length-of-requires
     mul-wide
     shared-slice-read-wide
     wide-requires
-    add-t13
+    add-t18
     returns
     add-k
     loop-less

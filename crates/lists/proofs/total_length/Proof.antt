@@ -19,11 +19,23 @@ abbrev μ-loop : tie.MeasureT-loop
 loop-holds : tie.Need-loop-holds Inv-loop μ-loop
 loop-holds c = (omega arith, omega arith, refl)
 
+mul-length-of : tie.Need-mul-length-of Inv-loop μ-loop
+mul-length-of c = omega arith
+
+shared-slice-read-length-of : tie.Need-shared-slice-read-length-of Inv-loop μ-loop
+shared-slice-read-length-of c = omega arith
+
+mul-length-of-2 : tie.Need-mul-length-of-2 Inv-loop μ-loop
+mul-length-of-2 c = omega arith
+
+shared-slice-read-length-of-2 : tie.Need-shared-slice-read-length-of-2 Inv-loop μ-loop
+shared-slice-read-length-of-2 c = omega arith
+
 length-of-requires : tie.Need-length-of-requires Inv-loop μ-loop
-length-of-requires c κs = (c .loop-test .taken, omega (arith, c .before .before .before .before .pre))
+length-of-requires c κs = tt
 
 add-sum : tie.Need-add-sum Inv-loop μ-loop
-add-sum c = omega (arith, c .before .before .before .before .before .pre)
+add-sum c = omega (arith, c .before .before .before .before .before .before .before .pre)
 
 add-k : tie.Need-add-k Inv-loop μ-loop
 add-k c = omega arith
@@ -33,9 +45,9 @@ loop-less c = omega arith
 
 loop-again : tie.Need-loop-again Inv-loop μ-loop
 loop-again c =
-    let a = c .before .before .before .before .before .args in
+    let a = c .before .before .before .before .before .before .before .args in
     let r = ranges (now (a .froms)) (now (a .pasts)) in
-    (omega arith, omega arith, total-next _ (λ k. r k .past - r k .from) _ _ (c .before .before .loop .inv .2) (c .length-of .ensures .0))
+    (omega arith, omega arith, total-next _ (λ k. r k .past - r k .from) _ _ (c .before .before .before .before .loop .inv .2) (c .length-of .ensures .0))
 
 returns : tie.Need-returns Inv-loop μ-loop
 returns c =
@@ -51,6 +63,10 @@ total-length-spec =
     Inv-loop
     μ-loop
     loop-holds
+    mul-length-of
+    shared-slice-read-length-of
+    mul-length-of-2
+    shared-slice-read-length-of-2
     length-of-requires
     add-sum
     add-k
