@@ -12,7 +12,7 @@ use Rattle.reader.specs.Reading.{Answer, accepted}
 use Rattle.reader.specs.Columns.{Columns, tableAt, count-table}
 use Rattle.blocks.specs.Blocks.{edge}
 use Rattle.lists.specs.Lists.{ranges}
-use Rattle.lists.specs.Search.{Aligned}
+use Rattle.positions.specs.Search.{Aligned}
 use Rattle.lists.specs.Below.{lengths}
 use Rattle.chains.specs.Walk.{shifts, peels}
 use Rattle.text.specs.Written.{Put, put-none, put-then, put-most, written-front}

@@ -14,7 +14,7 @@ ghost use lib.ListN.{length, getD};
 ghost use Rattle.order.specs.Lists.{joined};
 ghost use Rattle.model.specs.Table.{Table};
 ghost use Rattle.blocks.specs.Blocks.{edge};
-ghost use Rattle.lists.specs.Search.{Aligned};
+ghost use Rattle.positions.specs.Search.{Aligned};
 ghost use Rattle.text.specs.Written.{Put};
 ghost use Rattle.numbers.specs.Numbers.{four, encoded};
 ghost use Rattle.outputs.specs.Given.{final};
@@ -268,7 +268,7 @@ fn give_list(
     let pasts = r.pasts;
     let a = p.amounts;
     let shifts = a.shifts;
-    let size = lists::total_length(&froms[..l], &pasts[..l]);
+    let size = positions::total_length(&froms[..l], &pasts[..l]);
     if out.len() < 8 * size {
         return refusal(13, 0, 0);
     }

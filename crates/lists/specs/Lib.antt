@@ -6,9 +6,5 @@ pub mod Lists
 pub mod Order
 -- how many iterations have a smaller sum
 pub mod Below
--- what the search for the n-th iteration keeps
-pub mod Search
--- the sums where all loops are at work
-pub mod Lines
 -- the lists of all processors: each iteration of a table in one of them
 pub mod Fusion

@@ -16,7 +16,7 @@ use Rattle.blocks.specs.Sums.{column, total-same}
 use Rattle.blocks.specs.Blocks.{edge, block, blockAt, start-up, start-last}
 use Rattle.blocks.specs.Parts.{fusedPart, peeledPart}
 use Rattle.lists.specs.Lists.{ranges}
-use Rattle.lists.specs.Search.{Aligned}
+use Rattle.positions.specs.Search.{Aligned}
 use Rattle.lists.specs.Below.{lengths, by-sums-length, by-loops-length}
 use Rattle.lists.specs.Fusion.{fused-list, peeled-list, fusedRange, peeledRange, fused-columns, peeled-columns}
 use Rattle.plans.specs.declared.Plan.{Plan}

@@ -10,7 +10,7 @@ ghost use Rattle.model.specs.Table.{Table, count, iteration};
 ghost use Rattle.blocks.specs.Sums.{column};
 ghost use Rattle.blocks.specs.Code.{partOf};
 ghost use Rattle.lists.specs.Lists.{ranges};
-ghost use Rattle.lists.specs.Search.{Aligned};
+ghost use Rattle.positions.specs.Search.{Aligned};
 ghost use Rattle.lists.specs.Below.{lengths};
 ghost use Rattle.lists.specs.Fusion.{fusedRange, peeledRange, fusedList, peeledList};
 ghost use Rattle.plans.specs.Plans.{planOf};
@@ -122,8 +122,8 @@ pub fn nth_of(part: Part, froms: &[u32], pasts: &[u32], shifts: &[u32], n: usize
     ensures { λ r. ⌜ r ≡ getD (listOf part (now (froms .entry)) (now (pasts .entry)) (now (shifts .entry))) n (iteration 0 0) ⌝ }
 {
     match part {
-        Part::Fused => lists::fused_nth(froms, pasts, shifts, n),
-        Part::Peeled => lists::peeled_nth(froms, pasts, n),
+        Part::Fused => positions::fused_nth(froms, pasts, shifts, n),
+        Part::Peeled => positions::peeled_nth(froms, pasts, n),
     }
 }
 

@@ -1,0 +1,51 @@
+-- `positions::extended` meets its contract. Assumes nothing.
+use mathlib.Core.Path.{refl}
+use Prim.Native.Nat.{_+_, _^_}
+use native.Mathlib.Omega.{arith}
+use Rattle.positions.specs.Search.{weight-product}
+use Rattle.positions.specs.Lines.{extended-none, extended-more}
+use Rattle.positions.proofs.extended.Statement.{statement}
+use Rattle.positions.proofs.extended.Tie as tie
+
+returns : tie.Need-returns
+returns c = let a = c .before .args in extended-none (a .l) (record { from = a .f; past = a .p }) (a .s) (a .w) (c .if1 .taken)
+
+add-start : tie.Need-add-start
+add-start c = omega arith
+
+greater-requires : tie.Need-greater-requires
+greater-requires c κs = tt
+
+add-lesser : tie.Need-add-lesser
+add-lesser c = omega arith
+
+lesser-requires : tie.Need-lesser-requires
+lesser-requires c κs = tt
+
+add-t14 : tie.Need-add-t14
+add-t14 c = omega arith
+
+mul-t15 : tie.Need-mul-t15
+mul-t15 c = let a = c .before .before .before .before .args in omega (arith, weight-product (a .w) (a .f + a .s) (2 ^ 33) (c .before .before .before .before .pre .0) (omega arith))
+
+add-t16 : tie.Need-add-t16
+add-t16 c = let a = c .before .before .before .before .before .args in omega (arith, weight-product (a .w) (a .f + a .s) (2 ^ 33) (c .before .before .before .before .before .pre .0) (omega arith))
+
+returns-2 : tie.Need-returns-2
+returns-2 c =
+    let a = c .before .before .before .before .before .args in
+    extended-more (a .l) _ (record { from = a .f; past = a .p }) (a .s) (a .w) (omega arith) (c .before .before .before .before .before .pre .0) (c .before .before .before .greater .ensures) (c .before .before .lesser .ensures) refl refl
+
+pub extended-spec : {M : Type 1} → statement M
+extended-spec =
+    tie.close
+    (tie.spec
+    returns
+    add-start
+    greater-requires
+    add-lesser
+    lesser-requires
+    add-t14
+    mul-t15
+    add-t16
+    returns-2)

@@ -1,0 +1,31 @@
+-- `positions::fused_nth` meets its contract: with weights of 1 the search counts iterations. Assumes nothing.
+use denote.Ref.{now}
+use Rattle.positions.specs.Search.{ones-sized, ones-below, ones-found}
+use borrow.Author.Needs.{needs}
+use Rattle.positions.proofs.fused_nth.Statement.{statement}
+use Rattle.positions.proofs.fused_nth.Tie as tie
+
+slice-aggregate-position-of : tie.Need-slice-aggregate-position-of
+slice-aggregate-position-of c = search needs
+
+position-of-requires : tie.Need-position-of-requires
+position-of-requires c κs =
+    let a = c .before .before .before .before .args in
+    let p = c .before .before .before .before .pre in (
+      ones-sized (now (a .froms)) (now (a .pasts)) (now (a .shifts)) (p .0 .0) (p .0 .1),
+      ones-below (now (a .froms)) (now (a .pasts)) (now (a .shifts)) (p .0 .0) (a .n) (p .1),
+    )
+
+nth-at-sum-requires : tie.Need-nth-at-sum-requires
+nth-at-sum-requires c κs = search needs
+
+returns : tie.Need-returns
+returns c =
+    let a = c .before .before .before .before .before .before .args in
+    let p = c .before .position-of in
+    ones-found (now (a .froms)) (now (a .pasts)) (now (a .shifts)) (c .before .before .before .before .before .before .pre .0 .0) (a .n) (p .result) (c .nth-at-sum .result) (p .ensures) (c .nth-at-sum .ensures)
+
+pub fused-nth-spec : {M : Type 1} → statement M
+fused-nth-spec =
+    tie.close
+    (tie.spec slice-aggregate-position-of position-of-requires nth-at-sum-requires returns)

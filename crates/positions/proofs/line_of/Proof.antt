@@ -1,0 +1,94 @@
+-- `positions::line_of` meets its contract: the line counts the first k loops. Assumes nothing.
+use Prim.Native.Nat.{ℕ, _≤_, _-_, _*_, _^_}
+use native.Mathlib.Omega.{arith}
+use denote.Ref.{now}
+use lib.ListN.{length}
+use Rattle.blocks.specs.Sums.{column, total}
+use Rattle.lists.specs.Lists.{ranges}
+use Rattle.lists.specs.Below.{weighted}
+use Rattle.positions.specs.Lines.{Counted, line-next, line-end}
+use Rattle.positions.proofs.line_of.Statement.{statement}
+use Rattle.positions.proofs.line_of.Tie as tie
+
+abbrev Inv-loop : tie.InvT-loop
+Inv-loop froms pasts shifts weights l₀ k₀ l k = (k ≤ length froms) × (l .slope ≤ k * 65536) × (l .offset ≤ k * 2 ^ 49) × ((t : ℕ) → Counted l t (total k (weighted (ranges froms pasts) (column shifts) (column weights) t)))
+
+abbrev μ-loop : tie.MeasureT-loop
+μ-loop froms pasts shifts weights l₀ k₀ l k = length froms - k
+
+loop-holds : tie.Need-loop-holds Inv-loop μ-loop
+loop-holds c = (omega arith, omega arith, omega arith, λ t g h. omega arith)
+
+mul-extended : tie.Need-mul-extended Inv-loop μ-loop
+mul-extended c = omega arith
+
+shared-slice-read-extended : tie.Need-shared-slice-read-extended Inv-loop μ-loop
+shared-slice-read-extended c = omega arith
+
+mul-extended-2 : tie.Need-mul-extended-2 Inv-loop μ-loop
+mul-extended-2 c = omega arith
+
+shared-slice-read-extended-2 : tie.Need-shared-slice-read-extended-2 Inv-loop μ-loop
+shared-slice-read-extended-2 c = omega arith
+
+mul-extended-3 : tie.Need-mul-extended-3 Inv-loop μ-loop
+mul-extended-3 c = omega arith
+
+shared-slice-read-extended-3 : tie.Need-shared-slice-read-extended-3 Inv-loop μ-loop
+shared-slice-read-extended-3 c = omega arith
+
+mul-extended-4 : tie.Need-mul-extended-4 Inv-loop μ-loop
+mul-extended-4 c = omega arith
+
+shared-slice-read-extended-4 : tie.Need-shared-slice-read-extended-4 Inv-loop μ-loop
+shared-slice-read-extended-4 c = omega arith
+
+extended-requires : tie.Need-extended-requires Inv-loop μ-loop
+extended-requires c κs = let p = c .before .before .before .before .before .before .before .before .before .before .pre in (p .small (c .before .before .before .before .before .loop .k), omega (arith, p .loops), omega (arith, p .loops))
+
+add-k : tie.Need-add-k Inv-loop μ-loop
+add-k c = omega arith
+
+loop-less : tie.Need-loop-less Inv-loop μ-loop
+loop-less c = omega arith
+
+loop-again : tie.Need-loop-again Inv-loop μ-loop
+loop-again c =
+    let a = c .before .before .before .before .before .before .before .before .before .before .before .args in
+    let l = c .before .before .before .before .before .before .loop in
+    let e = c .extended in (
+      omega arith,
+      omega (arith, e .ensures .slope),
+      omega (arith, e .ensures .offset),
+      line-next (ranges (now (a .froms)) (now (a .pasts))) (column (now (a .shifts))) (column (now (a .weights))) (l .l) (e .result) (l .k) (e .ensures) (l .inv .3),
+    )
+
+returns : tie.Need-returns Inv-loop μ-loop
+returns c =
+    let a = c .before .before .before .before .before .before .args in
+    let l = c .before .loop in
+    record {
+      count = line-end (length (now (a .froms))) (ranges (now (a .froms)) (now (a .pasts))) (column (now (a .shifts))) (column (now (a .weights))) (l .l) (l .k) (c .loop-test .left) (l .inv .0) (l .inv .3);
+      small = omega (arith, c .before .before .before .before .before .before .pre .loops);
+    }
+
+pub line-of-spec : {M : Type 1} → statement M
+line-of-spec =
+    tie.close
+    (tie.spec
+    Inv-loop
+    μ-loop
+    loop-holds
+    mul-extended
+    shared-slice-read-extended
+    mul-extended-2
+    shared-slice-read-extended-2
+    mul-extended-3
+    shared-slice-read-extended-3
+    mul-extended-4
+    shared-slice-read-extended-4
+    extended-requires
+    add-k
+    loop-less
+    loop-again
+    returns)

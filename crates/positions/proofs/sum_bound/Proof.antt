@@ -1,0 +1,61 @@
+-- `positions::sum_bound` meets its contract: the walk has seen the first k loops. Assumes nothing.
+use mathlib.Core.Path.{_≡_, refl, _∙_}
+use Prim.Native.Nat.{_≤_, _<_, _-_, _+_, _^_}
+use native.Mathlib.Omega.{arith}
+use denote.Ref.{now}
+use lib.ListN.{length}
+use Rattle.blocks.specs.Sums.{column, largest, largest-next}
+use Rattle.lists.specs.Lists.{ranges}
+use Rattle.positions.specs.Search.{bound-all}
+use Rattle.positions.proofs.sum_bound.Statement.{statement}
+use Rattle.positions.proofs.sum_bound.Tie as tie
+
+abbrev Inv-loop : tie.InvT-loop
+Inv-loop froms pasts shifts most₀ k₀ most k = (k ≤ length froms) × (most < 2 ^ 33) × (most ≡ largest k (λ j. column pasts j + column shifts j))
+
+abbrev μ-loop : tie.MeasureT-loop
+μ-loop froms pasts shifts most₀ k₀ most k = length froms - k
+
+loop-holds : tie.Need-loop-holds Inv-loop μ-loop
+loop-holds c = (omega arith, omega arith, refl)
+
+past-sum-requires : tie.Need-past-sum-requires Inv-loop μ-loop
+past-sum-requires c κs = let p = c .before .before .before .before .before .pre in (omega arith, omega arith)
+
+greater-requires : tie.Need-greater-requires Inv-loop μ-loop
+greater-requires c κs = tt
+
+add-k : tie.Need-add-k Inv-loop μ-loop
+add-k c = omega arith
+
+loop-less : tie.Need-loop-less Inv-loop μ-loop
+loop-less c = omega arith
+
+loop-again : tie.Need-loop-again Inv-loop μ-loop
+loop-again c =
+    let a = c .before .before .before .before .before .before .before .args in (
+      omega arith,
+      omega arith,
+      c .greater .ensures
+          ∙ largest-next _ (λ j. column (now (a .pasts)) j + column (now (a .shifts)) j) _ _ (c .before .before .before .loop .inv .2) (c .before .past-sum .ensures .0),
+    )
+
+returns : tie.Need-returns Inv-loop μ-loop
+returns c =
+    let a = c .before .before .before .before .before .args in
+    let l = c .before .loop in
+    (l .inv .2 ∙ bound-all (length (now (a .froms))) (ranges (now (a .froms)) (now (a .pasts))) (column (now (a .shifts))) (column (now (a .shifts))) (l .k) (c .loop-test .left) (l .inv .0), omega arith)
+
+pub sum-bound-spec : {M : Type 1} → statement M
+sum-bound-spec =
+    tie.close
+    (tie.spec
+    Inv-loop
+    μ-loop
+    loop-holds
+    past-sum-requires
+    greater-requires
+    add-k
+    loop-less
+    loop-again
+    returns)

@@ -1,0 +1,70 @@
+-- `positions::weighted_at` meets its contract: a weight of at most 65,536 times a length below 2^32. Assumes nothing.
+use mathlib.Core.Path.{ap₂}
+use Prim.Native.Nat.{ℕ, _*_, _^_}
+use native.Mathlib.Omega.{arith}
+use Rattle.lists.specs.Below.{weighted}
+use Rattle.positions.specs.Search.{weight-product}
+use borrow.Author.Needs.{needs}
+use Rattle.positions.proofs.weighted_at.Statement.{statement}
+use Rattle.positions.proofs.weighted_at.Tie as tie
+
+mul-wide : tie.Need-mul-wide
+mul-wide c = search needs
+
+shared-slice-read-wide : tie.Need-shared-slice-read-wide
+shared-slice-read-wide c = search needs
+
+wide-requires : tie.Need-wide-requires
+wide-requires c κs = search needs
+
+mul-clipped : tie.Need-mul-clipped
+mul-clipped c = search needs
+
+shared-slice-read-clipped : tie.Need-shared-slice-read-clipped
+shared-slice-read-clipped c = search needs
+
+mul-clipped-2 : tie.Need-mul-clipped-2
+mul-clipped-2 c = search needs
+
+shared-slice-read-clipped-2 : tie.Need-shared-slice-read-clipped-2
+shared-slice-read-clipped-2 c = search needs
+
+mul-clipped-3 : tie.Need-mul-clipped-3
+mul-clipped-3 c = search needs
+
+shared-slice-read-clipped-3 : tie.Need-shared-slice-read-clipped-3
+shared-slice-read-clipped-3 c = search needs
+
+clipped-requires : tie.Need-clipped-requires
+clipped-requires c κs = search needs
+
+mul-result : tie.Need-mul-result
+mul-result c =
+    let s = c .before .before .before .before .before .before .before .before .before .before in
+    omega
+    (arith, weight-product (c .before .before .before .before .wide .result) (c .clipped .result) (2 ^ 32) (omega (arith, s .pre .0 .small (s .args .k))) (c .clipped .ensures .1))
+
+returns : tie.Need-returns
+unfolding weighted
+returns c =
+    let s = c .before .before .before .before .before .before .before .before .before .before in (
+      ap₂ (λ (x y : ℕ). x * y) (c .before .before .before .before .wide .ensures) (c .clipped .ensures .0),
+      weight-product (c .before .before .before .before .wide .result) (c .clipped .result) (2 ^ 32) (omega (arith, s .pre .0 .small (s .args .k))) (c .clipped .ensures .1),
+    )
+
+pub weighted-at-spec : {M : Type 1} → statement M
+weighted-at-spec =
+    tie.close
+    (tie.spec
+    mul-wide
+    shared-slice-read-wide
+    wide-requires
+    mul-clipped
+    shared-slice-read-clipped
+    mul-clipped-2
+    shared-slice-read-clipped-2
+    mul-clipped-3
+    shared-slice-read-clipped-3
+    clipped-requires
+    mul-result
+    returns)

@@ -1,0 +1,4 @@
+-- what the search for the n-th iteration keeps
+pub mod Search
+-- the sums where all loops are at work
+pub mod Lines
