@@ -16,9 +16,5 @@ pub mod Threshold
 pub mod Bounds
 -- all of it for the references of a table
 pub mod Tables
--- references as the code has them, a list for each field
-pub mod Columns
--- where the next store is
-pub mod Stores
 -- later loops change no number of an earlier one
 pub mod Join

@@ -105,7 +105,7 @@ pub fn threshold(s: &[u8], out: &mut [u8]) -> Outcome
         return refusal(13, 0, 0);
     }
     let a = m.amounts;
-    let x = chains::threshold_of(a) as u32;
+    let x = amounts::threshold_of(a) as u32;
     let n = numbers::put_number(out, 0, x);
     written(n)
 }

@@ -11,7 +11,7 @@ use Rattle.reader.specs.Reading.{Answer, accepted, refused, choose}
 use Rattle.reader.specs.Columns.{Columns, tableAt}
 use Rattle.reader.specs.Stored.{Sized, Kept}
 use Rattle.serial.specs.Serial.{table}
-use Rattle.chains.specs.declared.Amounts.{Amounts}
+use Rattle.amounts.specs.declared.Amounts.{Amounts}
 use Rattle.chains.specs.Walk.{shifts, peels}
 use Rattle.chains.specs.Threshold.{threshold}
 use Rattle.blocks.specs.Span.{tableSpan}

@@ -1,5 +1,5 @@
 // The plan of a table: read through 9, its shifts and peels; and for a number of processors, grounds 10 and 11.
-use chains::Amounts;
+use amounts::Amounts;
 use tables::Outline;
 ghost use mathlib.Core.Path.{_≡_};
 ghost use mathlib.Core.Bool.{_||_};
@@ -130,7 +130,7 @@ fn plan_unless(
     let from = *firsts;
     let to = *lasts;
     let span = blocks::span_of(&from[..l], &to[..l]);
-    let threshold = chains::threshold_of(a) as u32;
+    let threshold = amounts::threshold_of(a) as u32;
     if blocks::short(span.count, processors, threshold) {
         return refusal(11, 0, 0, a);
     }

@@ -16,7 +16,7 @@ use Rattle.reader.specs.Columns.{itemOf, itemAt, itemsFrom}
 use Rattle.reader.specs.Columns.{columns as kept}
 use Rattle.reader.specs.Stored.{Row}
 use native.Mathlib.Decide.{ℕ-discrete}
-use Rattle.chains.specs.Columns.{Columns, refsFrom}
+use Rattle.amounts.specs.Columns.{Columns, refsFrom}
 use Rattle.references.specs.Collected.{Long, withReference, long-more, Added, added-one, added-then, added-few, Held, rowRefs, Collected}
 
 no-items : (ks qs vs : List ℕ) (k r : ℕ) → reads k (itemsFrom ks qs vs r 0) ≡ []

@@ -16,7 +16,7 @@ use Rattle.reader.specs.Columns.{itemsFrom, tableAt, count-table, loop-table}
 use Rattle.reader.specs.Columns.{columns as kept}
 use Rattle.reader.specs.Columns.{Columns as Kept·Columns}
 use Rattle.reader.specs.Stored.{Row, Kept}
-use Rattle.chains.specs.Columns.{Columns, columns, refAt, refsFrom}
+use Rattle.amounts.specs.Columns.{Columns, columns, refAt, refsFrom}
 
 -- the columns' own lengths
 pub record Long (c : Columns) : Type 0 where

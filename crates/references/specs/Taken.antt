@@ -11,7 +11,7 @@ use lib.Seq.{getD-take}
 use Rattle.order.specs.Lists.{joined, Before, bhere, bthere, before-joined, mem-joined, before-left, before-right}
 use Rattle.model.specs.declared.Reference.{Reference}
 use Rattle.reader.specs.Columns.{itemsFrom}
-use Rattle.chains.specs.Columns.{Columns, columns, refAt, refsFrom, refs, refsFrom-mem, WellFormed}
+use Rattle.amounts.specs.Columns.{Columns, columns, refAt, refsFrom, refs, refsFrom-mem, WellFormed}
 use Rattle.chains.specs.Tables.{reads-number}
 use Rattle.references.specs.Collected.{Long, Held, rowRefs, same-before}
 

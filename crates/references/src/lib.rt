@@ -1,5 +1,5 @@
 // The references of a table: from the columns of its reading to the columns that the chains are found in.
-use chains::Amounts;
+use amounts::Amounts;
 ghost use mathlib.Core.Path.{_≡_};
 ghost use mathlib.Core.Bool.{true};
 ghost use mathlib.Core.List.{_++_, _∷_, []};
@@ -10,7 +10,7 @@ ghost use Rattle.model.specs.References.{reads, refs};
 ghost use Rattle.reader.specs.Columns.{itemsFrom, tableAt};
 ghost use Rattle.reader.specs.Columns.{columns as kept};
 ghost use Rattle.reader.specs.Stored.{Row, Kept};
-ghost use Rattle.chains.specs.Columns.{columns};
+ghost use Rattle.amounts.specs.Columns.{columns};
 ghost use Rattle.chains.specs.Walk.{shifts, peels};
 ghost use Rattle.references.specs.Collected.{Long, withReference, Added, Held, Collected, rowRefs};
 
@@ -203,5 +203,5 @@ pub fn amounts_of(
         &mut offsets,
         &mut stores,
     );
-    chains::shifts_and_peels(&loops[..n], &names[..n], &offsets[..n], &stores[..n])
+    amounts::shifts_and_peels(&loops[..n], &names[..n], &offsets[..n], &stores[..n])
 }

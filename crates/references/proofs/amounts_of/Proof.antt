@@ -3,7 +3,7 @@ use mathlib.Core.Path.{sym, ap, _∙_}
 use Rattle.references.specs.Taken.{cut-long, cut-refs, cut-formed}
 use Rattle.chains.specs.Walk.{shifts, peels}
 use denote.Ref.{now}
-use Rattle.chains.specs.Columns.{columns}
+use Rattle.amounts.specs.Columns.{columns}
 use Prim.Native.Nat.{_-_, _≤_}
 use borrow.Author.Needs.{needs}
 use Rattle.references.proofs.amounts_of.Statement.{statement}

@@ -3,7 +3,7 @@ use mathlib.Core.Path.{_≡_, subst}
 use Rattle.references.proofs.Walks.{loops-start, loop-ready, loops-next}
 use Rattle.references.specs.Collected.{Collected}
 use denote.Ref.{now}
-use Rattle.chains.specs.Columns.{columns}
+use Rattle.amounts.specs.Columns.{columns}
 use Prim.Native.Nat.{ℕ, _-_, _≤_}
 use Rattle.references.proofs.collect.Statement.{statement}
 use Rattle.references.proofs.collect.Tie as tie

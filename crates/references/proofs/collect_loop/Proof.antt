@@ -1,7 +1,7 @@
 use native.Mathlib.Omega.{arith}
 use Rattle.references.proofs.Walks.{put-long, loop-added}
 use denote.Ref.{now}
-use Rattle.chains.specs.Columns.{columns}
+use Rattle.amounts.specs.Columns.{columns}
 use Prim.Native.Nat.{_-_}
 use borrow.Author.Needs.{needs}
 use Rattle.references.proofs.collect_loop.Statement.{statement}

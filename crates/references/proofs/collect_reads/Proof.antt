@@ -2,7 +2,7 @@ use native.Mathlib.Omega.{arith}
 use Rattle.references.proofs.Walks.{Inv, start-row, next-row, last-row}
 use denote.Ref.{now}
 use Prim.Native.Nat.{_-_}
-use Rattle.chains.specs.Columns.{columns}
+use Rattle.amounts.specs.Columns.{columns}
 use Rattle.references.proofs.collect_reads.Statement.{statement}
 use Rattle.references.proofs.collect_reads.Tie as tie
 

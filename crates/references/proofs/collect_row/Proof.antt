@@ -3,7 +3,7 @@ use mathlib.Core.Path.{refl}
 use Rattle.references.specs.Collected.{added-none, added-one}
 use Rattle.references.proofs.Walks.{row-read, row-other}
 use denote.Ref.{now}
-use Rattle.chains.specs.Columns.{columns}
+use Rattle.amounts.specs.Columns.{columns}
 use borrow.Author.Needs.{needs}
 use Rattle.references.proofs.collect_row.Statement.{statement}
 use Rattle.references.proofs.collect_row.Tie as tie

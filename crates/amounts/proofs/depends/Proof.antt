@@ -1,9 +1,9 @@
 -- `depends` meets its contract: each way out has the tests that led there.
 use borrow.Author.Needs.{needs}
 use borrow.Author.Tests.{lt-ltb, le-ltb, eq-eqb, ne-eqb}
 use Rattle.chains.specs.Dependence.{dependence}
-use Rattle.chains.proofs.depends.Statement.{statement}
-use Rattle.chains.proofs.depends.Tie as tie
+use Rattle.amounts.proofs.depends.Statement.{statement}
+use Rattle.amounts.proofs.depends.Tie as tie
 
 either-requires : tie.Need-either-requires
 either-requires c κs = search needs

@@ -6,7 +6,7 @@ use native.Mathlib.Decide.{ℕ-discrete}
 use native.Mathlib.Omega.{arith}
 use lib.ListN.{length, getD, set, length-set}
 use lib.Seq.{getD-set-same, getD-set-other}
-use Rattle.chains.specs.Stores.{NextStore, NextStores}
+use Rattle.amounts.specs.Stores.{NextStore, NextStores}
 
 -- ns has the next store of each place from j on; `next` is that of place j, and the last place of all where j is past it
 pub record Filled (ss ns : List ℕ) (next j : ℕ) : Type 0 where

@@ -1,10 +1,10 @@
 -- `take_up` meets its contract: a pair that is a dependence is taken up, any other passed over.
 use mathlib.Core.Path.{sym, _∙_}
 use borrow.Author.Needs.{needs}
 use Rattle.chains.specs.Dependence.{backward, forward}
-use Rattle.chains.proofs.Laws.{taken-up, passed-over}
-use Rattle.chains.proofs.take_up.Statement.{statement}
-use Rattle.chains.proofs.take_up.Tie as tie
+use Rattle.amounts.proofs.Laws.{taken-up, passed-over}
+use Rattle.amounts.proofs.take_up.Statement.{statement}
+use Rattle.amounts.proofs.take_up.Tie as tie
 
 depends-requires : tie.Need-depends-requires
 depends-requires c κs = search needs

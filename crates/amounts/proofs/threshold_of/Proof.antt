@@ -6,10 +6,10 @@ use borrow.Author.Needs.{needs}
 use lib.ListN.{getD}
 use mir.Syntax.{w32}
 use mir.Val.{Fits}
 use Rattle.chains.specs.Maximum.{maximumBelow, maximumBelow-next}
 use Rattle.chains.specs.Threshold.{threshold, sumAt}
-use Rattle.chains.proofs.threshold_of.Statement.{statement}
-use Rattle.chains.proofs.threshold_of.Tie as tie
+use Rattle.amounts.proofs.threshold_of.Statement.{statement}
+use Rattle.amounts.proofs.threshold_of.Tie as tie
 
 abbrev Inv-loop : tie.InvT-loop
 Inv-loop a t₀ k₀ t k = (k ≤ 16) × (t ≡ maximumBelow k (sumAt (a .shifts) (a .peels)))

@@ -2,11 +2,11 @@
 use Prim.Native.Nat.{ℕ, _≤_, _<_, _-_}
 use native.Mathlib.Omega.{arith}
 use lib.ListN.{length, getD}
 use Rattle.chains.specs.Dependence.{backward, forward}
-use Rattle.chains.specs.Columns.{columns}
-use Rattle.chains.proofs.Laws.{Walked, walked-start, walked-required, walked-next, walked-end, offsets-small}
-use Rattle.chains.proofs.shifts_and_peels.Statement.{statement}
-use Rattle.chains.proofs.shifts_and_peels.Tie as tie
+use Rattle.amounts.specs.Columns.{columns}
+use Rattle.amounts.proofs.Laws.{Walked, walked-start, walked-required, walked-next, walked-end, offsets-small}
+use Rattle.amounts.proofs.shifts_and_peels.Statement.{statement}
+use Rattle.amounts.proofs.shifts_and_peels.Tie as tie
 
 abbrev Inv-loop : tie.InvT-loop
 Inv-loop loops arrays offsets stores nexts ss₀ ps₀ i₀ ss ps i =

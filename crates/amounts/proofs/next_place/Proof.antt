@@ -1,6 +1,6 @@
 use borrow.Author.Needs.{needs}
-use Rattle.chains.proofs.next_place.Statement.{statement}
-use Rattle.chains.proofs.next_place.Tie as tie
+use Rattle.amounts.proofs.next_place.Statement.{statement}
+use Rattle.amounts.proofs.next_place.Tie as tie
 
 mul-wide : tie.Need-mul-wide
 mul-wide c = search needs

@@ -3,10 +3,10 @@ use Prim.Native.Nat.{_-_}
 use mathlib.Core.Path.{refl}
 use mathlib.Core.Logic.{⊎-elim}
 use native.Mathlib.Omega.{arith}
-use Rattle.chains.specs.Stores.{NextStore}
-use Rattle.chains.proofs.Filled.{Filled, filled-start, store-here, store-later, filled-next, filled-end}
-use Rattle.chains.proofs.next_stores.Statement.{statement}
-use Rattle.chains.proofs.next_stores.Tie as tie
+use Rattle.amounts.specs.Stores.{NextStore}
+use Rattle.amounts.proofs.Filled.{Filled, filled-start, store-here, store-later, filled-next, filled-end}
+use Rattle.amounts.proofs.next_stores.Statement.{statement}
+use Rattle.amounts.proofs.next_stores.Tie as tie
 
 abbrev Inv-loop : tie.InvT-loop
 Inv-loop stores nexts₀ next₀ j₀ nexts next j = Filled stores nexts next j

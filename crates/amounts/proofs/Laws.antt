@@ -11,12 +11,12 @@ use native.Mathlib.Omega.{arith}
 use borrow.Author.Tests.{ne-eqb}
 use lib.ListN.{length, getD, set, replicate, length-set}
 use Rattle.model.specs.declared.Reference.{Reference}
 use Rattle.chains.specs.Dependence.{dependence, backward, forward}
 use Rattle.chains.specs.Maximum.{maximum}
 use Rattle.chains.specs.Walk.{required, required-met, required-none, required-late, required-reads, raised, raised-same, walk, numbers, zeros}
 use Rattle.chains.specs.Bounds.{Small, AtMost, raised-small}
-use Rattle.chains.specs.Columns.{Columns, refAt, refsFrom, refs, requiredAt, WellFormed, refsFrom-late, refs-mem, refs-place}
-use Rattle.chains.specs.Stores.{NextStore, NextStores, nextPlace}
+use Rattle.amounts.specs.Columns.{Columns, refAt, refsFrom, refs, requiredAt, WellFormed, refsFrom-late, refs-mem, refs-place}
+use Rattle.amounts.specs.Stores.{NextStore, NextStores, nextPlace}
 
 max-right : (a b c : ℕ) → max (max a b) c ≡ max a (max b c)
 max-right a b c = omega arith

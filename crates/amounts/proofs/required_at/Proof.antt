@@ -1,12 +1,12 @@
 use denote.Ref.{now}
 -- `required_at` meets its contract. The invariant: what the references from j on require, beside what is required so far, is what all require.
-use Rattle.chains.proofs.Laws.{Remaining, remaining-start, remaining-next, remaining-look, remaining-end, pair-bounds}
-use Rattle.chains.specs.Columns.{columns}
+use Rattle.amounts.proofs.Laws.{Remaining, remaining-start, remaining-next, remaining-look, remaining-end, pair-bounds}
+use Rattle.amounts.specs.Columns.{columns}
 use lib.ListN.{length, getD}
 use native.Mathlib.Omega.{arith}
 use Prim.Native.Nat.{ℕ, _<_, _-_}
-use Rattle.chains.proofs.required_at.Statement.{statement}
-use Rattle.chains.proofs.required_at.Tie as tie
+use Rattle.amounts.proofs.required_at.Statement.{statement}
+use Rattle.amounts.proofs.required_at.Tie as tie
 
 abbrev Inv-loop : tie.InvT-loop
 Inv-loop loops arrays offsets stores i nexts shifts peels y number a₀ j₀ a j = Remaining (columns loops arrays offsets stores) shifts peels y j (a .shift) (a .peel)

@@ -1,6 +1,6 @@
 -- `either` meets its contract: each way out has the test that led there.
-use Rattle.chains.proofs.either.Statement.{statement}
-use Rattle.chains.proofs.either.Tie as tie
+use Rattle.amounts.proofs.either.Statement.{statement}
+use Rattle.amounts.proofs.either.Tie as tie
 
 returns : tie.Need-returns
 returns c = rw (c .if1 .taken)

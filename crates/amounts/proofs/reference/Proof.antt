@@ -1,8 +1,8 @@
 -- `reference` meets its contract: an element of a column fits a wider number.
 use native.Mathlib.Omega.{arith}
 use borrow.Author.Needs.{needs}
-use Rattle.chains.proofs.reference.Statement.{statement}
-use Rattle.chains.proofs.reference.Tie as tie
+use Rattle.amounts.proofs.reference.Statement.{statement}
+use Rattle.amounts.proofs.reference.Tie as tie
 
 shared-slice-read-t7 : tie.Need-shared-slice-read-t7
 shared-slice-read-t7 c = search needs
