@@ -120,7 +120,7 @@ pub fn read_table(
     let mut rows: usize = 0;
     starts[0] = 0;
     loop {
-        let found = records::read_record(s, at, t, lens);
+        let found = decoding::read_record(s, at, t, lens);
         match found {
             Tested::Refused(g) => return Reading::Refused {
                 number: g,

@@ -8,6 +8,8 @@ pub mod Grounds
 pub mod Clear
 -- the three ways that the tests of a record end
 pub mod Outcome
+-- the kinds that there are, and the ways that the tests go
+pub mod Ways
 -- a whole record that is clear meets no ground
 pub mod Passing
 -- a record is told by its own bytes alone

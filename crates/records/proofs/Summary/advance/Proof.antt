@@ -3,7 +3,7 @@ use native.Mathlib.Omega.{arith}
 use Rattle.records.specs.declared.Record.{Record}
 use Rattle.records.specs.Clear.{Room}
 use mathlib.Core.Path.{subst}
-use Rattle.records.proofs.Laws.{operands-one}
+use Rattle.records.specs.Ways.{operands-one}
 use borrow.Author.Needs.{needs}
 use Rattle.records.proofs.Summary.advance.Statement.{statement}
 use Rattle.records.proofs.Summary.advance.Tie as tie

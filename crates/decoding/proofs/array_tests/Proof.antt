@@ -1,0 +1,35 @@
+use Rattle.records.specs.Grounds.{fields}
+use borrow.Author.Tests.{lt-ltb, le-ltb, eq-eqb, ne-eqb}
+use borrow.Author.Needs.{needs}
+use Rattle.decoding.proofs.array_tests.Statement.{statement}
+use Rattle.decoding.proofs.array_tests.Tie as tie
+
+returns : tie.Need-returns
+unfolding fields
+returns c = simp (eq-eqb _ _ (c .if1 .taken))
+
+returns-2 : tie.Need-returns-2
+unfolding fields
+returns-2 c = simp (ne-eqb _ _ (c .before .if1 .left), lt-ltb _ _ (c .if2 .taken))
+
+wide-requires : tie.Need-wide-requires
+wide-requires c κs = search needs
+
+wide-requires-2 : tie.Need-wide-requires-2
+wide-requires-2 c κs = search needs
+
+add-if3 : tie.Need-add-if3
+add-if3 c = search needs
+
+returns-3 : tie.Need-returns-3
+unfolding fields
+returns-3 c = simp (ne-eqb _ _ (c .before .before .before .before .if1 .left), le-ltb _ _ (c .before .before .before .if2 .left), ← (c .before .before .wide .ensures .0), ← (c .before .wide2 .ensures .0), lt-ltb _ _ (c .if3 .taken))
+
+returns-4 : tie.Need-returns-4
+unfolding fields
+returns-4 c = simp (ne-eqb _ _ (c .before .before .before .before .if1 .left), le-ltb _ _ (c .before .before .before .if2 .left), ← (c .before .before .wide .ensures .0), ← (c .before .wide2 .ensures .0), le-ltb _ _ (c .if3 .left))
+
+pub array-tests-spec : {M : Type 1} → statement M
+array-tests-spec =
+    tie.close
+    (tie.spec returns returns-2 wide-requires wide-requires-2 add-if3 returns-3 returns-4)

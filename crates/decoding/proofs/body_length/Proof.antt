@@ -1,0 +1,30 @@
+use mathlib.Core.Path.{sym, ap}
+use lib.ListN.{getD}
+use Prim.Native.Nat.{ℕ}
+use Rattle.records.specs.Bytes.{bodyLength, lengths}
+use mathlib.Core.Path.{sym, ap}
+use lib.ListN.{List·getD-eq-default}
+use borrow.Author.Needs.{needs}
+use Rattle.decoding.proofs.body_length.Statement.{statement}
+use Rattle.decoding.proofs.body_length.Tie as tie
+
+wide-requires : tie.Need-wide-requires
+wide-requires c κs = search needs
+
+mul-result : tie.Need-mul-result
+mul-result c = search needs
+
+array-read-result : tie.Need-array-read-result
+array-read-result c = search needs
+
+returns : tie.Need-returns
+unfolding bodyLength
+returns c = ap (λ (n : ℕ). getD lengths n 0) (c .wide .ensures .0)
+
+returns-2 : tie.Need-returns-2
+unfolding bodyLength
+returns-2 c = sym (List·getD-eq-default lengths 0 (c .if1 .left))
+
+pub body-length-spec : {M : Type 1} → statement M
+body-length-spec =
+    tie.close (tie.spec wide-requires mul-result array-read-result returns returns-2)

@@ -1,0 +1,36 @@
+use Rattle.records.specs.Bytes.{kindOf}
+use borrow.Author.Needs.{needs}
+use Rattle.records.specs.Ways.{no-kind}
+use Rattle.decoding.proofs.kind_of.Statement.{statement}
+use Rattle.decoding.proofs.kind_of.Tie as tie
+
+returns : tie.Need-returns
+unfolding kindOf
+returns c = search needs
+
+returns-2 : tie.Need-returns-2
+unfolding kindOf
+returns-2 c = search needs
+
+returns-3 : tie.Need-returns-3
+unfolding kindOf
+returns-3 c = search needs
+
+returns-4 : tie.Need-returns-4
+unfolding kindOf
+returns-4 c = search needs
+
+returns-5 : tie.Need-returns-5
+unfolding kindOf
+returns-5 c = search needs
+
+returns-6 : tie.Need-returns-6
+unfolding kindOf
+returns-6 c = search needs
+
+returns-7 : tie.Need-returns-7
+returns-7 c = no-kind _ (c .match .rest .0 .0 .0 .0 .0 .1) (c .match .rest .0 .0 .0 .0 .1) (c .match .rest .0 .0 .0 .1) (c .match .rest .0 .0 .1) (c .match .rest .0 .1) (c .match .rest .1)
+
+pub kind-of-spec : {M : Type 1} → statement M
+kind-of-spec =
+    tie.close (tie.spec returns returns-2 returns-3 returns-4 returns-5 returns-6 returns-7)

@@ -1,0 +1,127 @@
+use Rattle.records.specs.Bytes.{recordOf}
+use Rattle.records.specs.Clear.{spanOf}
+use native.Mathlib.Omega.{arith}
+use mathlib.Core.Path.{ap}
+use borrow.Author.Needs.{needs}
+use Rattle.decoding.proofs.record_of.Statement.{statement}
+use Rattle.decoding.proofs.record_of.Tie as tie
+
+enum-told : tie.Need-enum-told
+enum-told c = search needs
+
+enum-told-2 : tie.Need-enum-told-2
+enum-told-2 c = search needs
+
+four-at-requires : tie.Need-four-at-requires
+four-at-requires c κs = omega (arith, ap spanOf (c .enum-told2 .given .1))
+
+enum-told-3 : tie.Need-enum-told-3
+enum-told-3 c = search needs
+
+four-at-requires-2 : tie.Need-four-at-requires-2
+four-at-requires-2 c κs = omega (arith, ap spanOf (c .enum-told3 .given .1))
+
+add-four-at : tie.Need-add-four-at
+add-four-at c = omega (arith, ap spanOf (c .before .enum-told3 .given .1))
+
+four-at-requires-3 : tie.Need-four-at-requires-3
+four-at-requires-3 c κs = omega (arith, ap spanOf (c .before .enum-told3 .given .1))
+
+add-one-at : tie.Need-add-one-at
+add-one-at c = omega (arith, ap spanOf (c .before .before .enum-told3 .given .1))
+
+one-at-requires : tie.Need-one-at-requires
+one-at-requires c κs = omega (arith, ap spanOf (c .before .before .enum-told3 .given .1))
+
+add-offset-at : tie.Need-add-offset-at
+add-offset-at c = omega (arith, ap spanOf (c .before .before .before .enum-told3 .given .1))
+
+offset-at-requires : tie.Need-offset-at-requires
+offset-at-requires c κs = omega (arith, ap spanOf (c .before .before .before .enum-told3 .given .1))
+
+enum-told-4 : tie.Need-enum-told-4
+enum-told-4 c = search needs
+
+one-at-requires-2 : tie.Need-one-at-requires-2
+one-at-requires-2 c κs = omega (arith, ap spanOf (c .enum-told4 .given .1))
+
+add-offset-at-2 : tie.Need-add-offset-at-2
+add-offset-at-2 c = omega (arith, ap spanOf (c .before .enum-told4 .given .1))
+
+offset-at-requires-2 : tie.Need-offset-at-requires-2
+offset-at-requires-2 c κs = omega (arith, ap spanOf (c .before .enum-told4 .given .1))
+
+enum-told-5 : tie.Need-enum-told-5
+enum-told-5 c = search needs
+
+four-at-requires-4 : tie.Need-four-at-requires-4
+four-at-requires-4 c κs = omega (arith, ap spanOf (c .enum-told5 .given .1))
+
+enum-told-6 : tie.Need-enum-told-6
+enum-told-6 c = search needs
+
+one-at-requires-3 : tie.Need-one-at-requires-3
+one-at-requires-3 c κs = omega (arith, ap spanOf (c .enum-told6 .given .1))
+
+enum-told-7 : tie.Need-enum-told-7
+enum-told-7 c = search needs
+
+returns : tie.Need-returns
+unfolding recordOf
+returns c = rw (c .enum-told .given .1)
+
+returns-2 : tie.Need-returns-2
+unfolding recordOf
+returns-2 c = rw (c .before .enum-told2 .given .1) (cc)
+
+returns-3 : tie.Need-returns-3
+unfolding recordOf
+returns-3 c = rw (c .before .before .before .before .enum-told3 .given .1) (cc)
+
+returns-4 : tie.Need-returns-4
+unfolding recordOf
+returns-4 c = rw (c .before .before .enum-told4 .given .1) (cc)
+
+returns-5 : tie.Need-returns-5
+unfolding recordOf
+returns-5 c = rw (c .before .enum-told5 .given .1) (cc)
+
+returns-6 : tie.Need-returns-6
+unfolding recordOf
+returns-6 c = rw (c .before .enum-told6 .given .1) (cc)
+
+returns-7 : tie.Need-returns-7
+unfolding recordOf
+returns-7 c = rw (c .enum-told7 .given .1)
+
+pub record-of-spec : {M : Type 1} → statement M
+record-of-spec =
+    tie.close
+    (tie.spec
+    enum-told
+    enum-told-2
+    four-at-requires
+    enum-told-3
+    four-at-requires-2
+    add-four-at
+    four-at-requires-3
+    add-one-at
+    one-at-requires
+    add-offset-at
+    offset-at-requires
+    enum-told-4
+    one-at-requires-2
+    add-offset-at-2
+    offset-at-requires-2
+    enum-told-5
+    four-at-requires-4
+    enum-told-6
+    one-at-requires-3
+    enum-told-7
+    returns
+    returns-2
+    returns-3
+    returns-4
+    returns-5
+    returns-6
+    returns-7)

@@ -1,2 +1,0 @@
--- what the proofs of several functions cite
-pub mod Laws
