@@ -1,7 +1,7 @@
 -- Tests that no processor has passed so far, and what a turn's code makes of its tests.
 use Prim.Native.Nat.{ℕ, _+_, _-_, _≤_, _<_, _^_}
 use native.Mathlib.Omega.{arith}
-use native.Mathlib.Decide.{ℕ-discrete, decLt}
+use native.Mathlib.Decide.{ℕ-discrete}
 use native.Mathlib.Numerals.{add-one}
 use mathlib.Core.Path.{_≡_, refl, sym, ap, _∙_}
 use mathlib.Core.Bool.{Bool, true, false}
@@ -26,7 +26,7 @@ use Rattle.plans.specs.Fitting.{named-fits}
 use Rattle.ranges.specs.declared.Lengths.{Lengths}
 use Rattle.stepping.specs.declared.Report.{Report}
 use Rattle.stepping.specs.declared.Report.the-variants.{Refused, Performed, Waiting, Finished}
-use Rattle.stepping.specs.Step.{After, stays, fused, peeled, wrongState, performs, turn, stepped, step}
+use Rattle.stepping.specs.Step.{After, stays, fused, peeled, closed, wrongState, performs, turn, stepped, step}
 use Rattle.stepping.specs.Reach.{Turn, early, waits, late, ends, turn-is}
 use Rattle.steps.specs.declared.Counts.{Counts}
 use Rattle.steps.specs.declared.Stepped.{Stepped}
@@ -76,121 +76,70 @@ module _ {t : Table} {P b f e : ℕ} (l : Listed t P b f e) (shut : Bool) (n : �
             le-ltb (n - length (fused t P b)) (length (peeled t P b)) (omega (arith, l .fused-is, l .peeled-is)),
           )
 
--- A TURN of processor b, by the tests of its code
+-- A TURN of processor b, by the report that its code finds
 module _ {t : Table} {P : ℕ} {p : Plan} {l : Lengths} {firsts lasts starts kinds arrays values bases : List ℕ}
     (h : Ready t P p l firsts lasts starts kinds arrays values bases) {b : ℕ} (below : b < P) (cs : List ℕ) where
-  pub proper : b < 64
-  proper = omega (arith, h .laid .few)
-
-  fused-long : column (l .fused) b ≡ length (fused t P b)
-  fused-long = h .measured .fused-is b below
-
-  peeled-long : column (l .peeled) b ≡ length (peeled t P b)
-  peeled-long = h .measured .peeled-is b below
+  pub listed : Listed t P b (column (l .fused) b) (column (l .peeled) b)
+  listed = record { fused-is = h .measured .fused-is b below; peeled-is = h .measured .peeled-is b below }
 
   -- it performs x
-  pub record Next (x : Iteration) : Type 0 where
+  pub record Next (m : List Float) (x : Iteration) : Type 0 where
     pub inside : Inside t x
     pub small : column cs b < 2 ^ 31
-    pub turns : {a : After} (m : List Float) → a ≡ performs t P b cs m x → a ≡ turn t P b cs m
+    pub turns : performs t P b cs m x ≡ turn t P b cs m
 
   -- and leaves this
-  pub turned : (x : Iteration) → Next x → (m w : List Float) → w ≡ run t x m → stays (set cs b (column cs b + 1)) w (performed x) ≡ turn t P b cs m
-  turned x n m w e = n .turns m (rw (add-one, e))
+  pub turned : (m : List Float) (x : Iteration) → Next m x → (w : List Float) → w ≡ run t x m → stays (set cs b (column cs b + 1)) w (performed x) ≡ turn t P b cs m
+  turned m x n w e = rw (add-one, e) (n .turns)
 
-  pub fused-next : column cs b < column (l .fused) b → (x : Iteration) → x ≡ getD (fused t P b) (column cs b) (iteration 0 0) → Next x
-  unfolding turn
-  fused-next i x e =
-      let j : column cs b < length (fused t P b) = omega (arith, fused-long) in
-      record {
-        inside = rw e (fused-list t (planOf t P) b _ below .0 (nth-mem (fused t P b) (iteration 0 0) (column cs b) j) .0);
-        small = omega (arith, h .measured .small b .0);
-        turns = λ m q. q ∙ rw (e, lt-ltb (column cs b) (length (fused t P b)) j);
-      }
-
-  module _ (i : column (l .fused) b ≤ column cs b) where
-    past : length (fused t P b) ≤ column cs b
-    past = omega (arith, fused-long)
-
-    pub then-waits : closedBy P (l .fused) cs ≡ true → (m : List Float) → stays cs m Waiting ≡ turn t P b cs m
-    unfolding turn
-    then-waits e m = rw (le-ltb (column cs b) (length (fused t P b)) past, ← (closed-by t P l (h .measured) cs), e)
-
-    module _ (opened : closedBy P (l .fused) cs ≡ false) where
-      pub peeled-next : column cs b - column (l .fused) b < column (l .peeled) b → (x : Iteration)
-          → x ≡ getD (peeled t P b) (column cs b - column (l .fused) b) (iteration 0 0) → Next x
-      unfolding turn
-      peeled-next k x e =
-          let j : column cs b - length (fused t P b) < length (peeled t P b) = omega (arith, fused-long, peeled-long) in
-          let z : x ≡ getD (peeled t P b) (column cs b - length (fused t P b)) (iteration 0 0) = e ∙ ap (λ (n : ℕ). getD (peeled t P b) (column cs b - n) (iteration 0 0)) fused-long in
-          record {
-            inside = rw z (peeled-list t (planOf t P) b _ below .0 (nth-mem (peeled t P b) (iteration 0 0) (column cs b - length (fused t P b)) j) .0);
-            small = omega (arith, h .measured .small b .0, h .measured .small b .1);
-            turns = λ m q.
-                q ∙ rw (
-                  z,
-                  le-ltb (column cs b) (length (fused t P b)) past,
-                  ← (closed-by t P l (h .measured) cs),
-                  opened,
-                  lt-ltb (column cs b - length (fused t P b)) (length (peeled t P b)) j,
-                );
-          }
-
-      pub then-ends : column (l .peeled) b ≤ column cs b - column (l .fused) b → (m : List Float) → stays cs m Finished ≡ turn t P b cs m
-      unfolding turn
-      then-ends k m =
-          let j : length (peeled t P b) ≤ column cs b - length (fused t P b) = omega (arith, fused-long, peeled-long) in
-          rw (
-            le-ltb (column cs b) (length (fused t P b)) past,
-            ← (closed-by t P l (h .measured) cs),
-            opened,
-            le-ltb (column cs b - length (fused t P b)) (length (peeled t P b)) j,
-          )
-
-  pub listed : Listed t P b (column (l .fused) b) (column (l .peeled) b)
-  listed = record { fused-is = fused-long; peeled-is = peeled-long }
-
-  -- by the report r that the code finds, which asks for the barrier past the fused list alone
-  module _ (shut : Bool) (asked : column (l .fused) b ≤ column cs b → shut ≡ closedBy P (l .fused) cs) (r : Report) (is : r ≡ nextBy t P b shut (column cs b)) where
-    abbrev n : ℕ
-    n = column cs b
-
-    abbrev fused-x : Iteration
-    fused-x = getD (fused t P b) n (iteration 0 0)
-
-    abbrev peeled-x : Iteration
-    peeled-x = getD (peeled t P b) (n - column (l .fused) b) (iteration 0 0)
-
-    -- the four reports
-    module _ (A : Type 0) (early : performed fused-x ≡ r → Next fused-x → A) (waits : Waiting ≡ r → ((m : List Float) → stays cs m Waiting ≡ turn t P b cs m) → A)
-        (late : performed peeled-x ≡ r → Next peeled-x → A) (ends : Finished ≡ r → ((m : List Float) → stays cs m Finished ≡ turn t P b cs m) → A) where
-      by-report : A
-      by-report = go (decLt n (column (l .fused) b))
-        where
-          opened : (i : column (l .fused) b ≤ n) → closedBy P (l .fused) cs ≡ false → Dec (n - column (l .fused) b < column (l .peeled) b) → A
-          opened i q (yes j) = late (reports-peeled listed shut n i (asked i ∙ q) j peeled-x refl ∙ sym is) (peeled-next i q j peeled-x refl)
-          opened i q (no j) = let k : column (l .peeled) b ≤ n - column (l .fused) b = omega arith in ends (reports-finished listed shut n i (asked i ∙ q) k ∙ sym is) (then-ends i q k)
-
-          past : (i : column (l .fused) b ≤ n) → (x : Bool) → closedBy P (l .fused) cs ≡ x → A
-          past i true q = waits (reports-waiting listed shut n i (asked i ∙ q) ∙ sym is) (then-waits i q)
-          past i false q = opened i q (decLt (n - column (l .fused) b) (column (l .peeled) b))
-
-          go : Dec (n < column (l .fused) b) → A
-          go (yes i) = early (reports-fused listed shut n i fused-x refl ∙ sym is) (fused-next i fused-x refl)
-          go (no i) = past (omega arith) (closedBy P (l .fused) cs) refl
-
-    pub next-performed : (k i : ℕ) → r ≡ Performed k i → Next (iteration k i)
-    next-performed k i e = by-report (Next (iteration k i)) (same fused-x) (λ q f. let z : _≡_ {A = ℕ} 0 1 = cc in absurd (omega arith)) (same peeled-x) (λ q f. let z : _≡_ {A = ℕ} 0 1 = cc in absurd (omega arith))
+  -- the barrier is asked for past the fused list alone
+  module _ (shut : Bool) (asked : column (l .fused) b ≤ column cs b → shut ≡ closedBy P (l .fused) cs) (r : Report) (is : r ≡ nextBy t P b shut (column cs b))
+      (m : List Float) where
+    reported : turn t P b cs m .report ≡ r
+    reported = go (turn t P b cs m) (turn-is t P b cs m) ∙ sym is
       where
-        same : (x : Iteration) → performed x ≡ r → Next x → Next (iteration k i)
-        same x q f =
-            let w : performed x ≡ Performed k i = q ∙ e in
+        exact : Listed t P b (length (fused t P b)) (length (peeled t P b))
+        exact = record { fused-is = refl; peeled-is = refl }
+
+        same : length (fused t P b) ≤ column cs b → shut ≡ closed t P cs
+        same i = asked (omega (arith, listed .fused-is)) ∙ closed-by t P l (h .measured) cs
+
+        go : (a : After) → Turn t P b cs m a → a .report ≡ nextBy t P b shut (column cs b)
+        go a (early i) = reports-fused exact shut (column cs b) i _ refl
+        go a (waits i q) = reports-waiting exact shut (column cs b) i (same i ∙ q)
+        go a (late i q j) = reports-peeled exact shut (column cs b) i (same i ∙ q) j _ refl
+        go a (ends i q j) = reports-finished exact shut (column cs b) i (same i ∙ q) j
+
+    pub next-performed : (k i : ℕ) → r ≡ Performed k i → Next m (iteration k i)
+    next-performed k i e =
+        let (x, y, z) = go (turn t P b cs m) (turn-is t P b cs m) (reported ∙ e) in
+        record { inside = x; small = y; turns = z }
+      where
+        found : (x : Iteration) → performed x ≡ Performed k i → Inside t x → column cs b < 2 ^ 31
+            → Inside t (iteration k i) × (column cs b < 2 ^ 31) × (performs t P b cs m (iteration k i) ≡ performs t P b cs m x)
+        found x q n o =
             let y : x .number ≡ k = cc in
             let z : x .index ≡ i = cc in
-            rw (← y, ← z) f
+            (rw (← y, ← z) n, o, rw (← y, ← z))
 
-    pub next-stays : ((k i : ℕ) → r ≡ Performed k i → ⊥) → (m : List Float) → stays cs m r ≡ turn t P b cs m
-    next-stays none m = by-report (stays cs m r ≡ turn t P b cs m) (λ q f. absurd (none _ _ (sym q))) (λ q f. rw (← q) (f m)) (λ q f. absurd (none _ _ (sym q))) (λ q f. rw (← q) (f m))
+        go : (a : After) → Turn t P b cs m a → a .report ≡ Performed k i → Inside t (iteration k i) × (column cs b < 2 ^ 31) × (performs t P b cs m (iteration k i) ≡ a)
+        go a (early j) q =
+            found _ q (fused-list t (planOf t P) b _ below .0 (nth-mem (fused t P b) (iteration 0 0) (column cs b) j) .0)
+            (omega (arith, listed .fused-is, h .measured .small b .0))
+        go a (waits j o) q = let z : _≡_ {A = ℕ} 0 1 = cc in absurd (omega arith)
+        go a (late j o n) q =
+            found _ q (peeled-list t (planOf t P) b _ below .0 (nth-mem (peeled t P b) (iteration 0 0) (column cs b - length (fused t P b)) n) .0)
+            (omega (arith, listed .fused-is, listed .peeled-is, h .measured .small b .0, h .measured .small b .1))
+        go a (ends j o n) q = let z : _≡_ {A = ℕ} 0 1 = cc in absurd (omega arith)
+
+    pub next-stays : ((k i : ℕ) → r ≡ Performed k i → ⊥) → stays cs m r ≡ turn t P b cs m
+    next-stays none = go (turn t P b cs m) (turn-is t P b cs m) (sym reported)
+      where
+        go : (a : After) → Turn t P b cs m a → r ≡ a .report → stays cs m r ≡ a
+        go a (early j) q = absurd (none _ _ q)
+        go a (waits j o) q = ap (stays cs m) q
+        go a (late j o n) q = absurd (none _ _ q)
+        go a (ends j o n) q = ap (stays cs m) q
 
 -- A STEP of a planned table: 12, 15, then the turn
 module _ (t : Table) (P b : ℕ) (cs : List ℕ) (m : List Float) where

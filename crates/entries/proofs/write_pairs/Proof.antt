@@ -3,7 +3,6 @@ use native.Mathlib.Omega.{arith}
 use mathlib.Core.Path.{_≡_, subst}
 use denote.Ref.{now}
 use Prim.Native.Nat.{ℕ, _*_, _-_, _≤_}
-use mathlib.Core.List.{_++_}
 use lib.ListN.{getD}
 use Rattle.order.specs.Lists.{joined}
 use Rattle.text.specs.Written.{Put, put-length}

@@ -1,6 +1,5 @@
-use Rattle.ranges.proofs.Laws.{sum-next, sum-end}
+use Rattle.ranges.proofs.Laws.{sum-next, sum-end, range-held}
 use Rattle.lists.specs.Below.{lengths}
-use Rattle.ranges.proofs.Laws.{range-held}
 use Rattle.ranges.specs.Held.{few-loops, span-fits, part-asks}
 use Rattle.ranges.specs.Code.{rangeOf}
 use borrow.Author.Needs.{needs}

@@ -1,7 +1,6 @@
 use mathlib.Core.Path.{_∙_}
 use Rattle.ranges.proofs.Laws.{Counted, counted-none, counted-next}
 use Rattle.ranges.specs.Held.{lengths-in}
-use mathlib.Core.Path.{_∙_}
 use native.Mathlib.Omega.{arith}
 use denote.Ref.{now}
 use Prim.Native.Nat.{_-_}

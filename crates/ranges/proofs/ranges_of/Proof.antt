@@ -1,5 +1,4 @@
-use Rattle.ranges.proofs.Laws.{Filled, holds-none, filled-next, filled-end}
-use Rattle.ranges.proofs.Laws.{range-held}
+use Rattle.ranges.proofs.Laws.{Filled, holds-none, filled-next, filled-end, range-held}
 use Rattle.ranges.specs.Held.{few-loops, span-fits, part-asks}
 use Rattle.ranges.specs.Code.{rangeOf}
 use borrow.Author.Needs.{needs}

@@ -1,11 +1,9 @@
+use mathlib.Core.Path.{_≡_, _∙_}
 use Rattle.steps.proofs.Laws.{listed, turned, next-performed, next-stays}
 use Rattle.steps.specs.Code.{closedBy}
 use Rattle.blocks.specs.Sums.{column}
-use mathlib.Core.Path.{_≡_, _∙_}
 use Prim.Native.Nat.{_≤_}
-use Rattle.steps.proofs.Laws.{listed, next-performed, next-stays}
 use mathlib.Core.Logic.{⊎-elim}
-use mathlib.Core.Path.{_∙_}
 use denote.Ref.{now}
 use native.Mathlib.Omega.{arith}
 use borrow.Author.Needs.{needs}
@@ -45,7 +43,7 @@ enum-known-report : tie.Need-enum-known-report
 enum-known-report c = search needs
 
 iterate-requires : tie.Need-iterate-requires
-iterate-requires c κs = let (t, h, e) = c .before .before .before .before .before .before .before .before .before .before .pre .1 in (t, h .loaded, next-performed h (c .before .before .before .before .before .before .before .before .before .before .pre .0) (c .before .before .before .before .before .before .before .before .before .before .args .t1 .done) (c .before .before .before .before .before .before .if1 .shut) (asked (c .before .before .before .before .before .before)) (c .before .before .before .before .next-of .result) (c .before .before .before .before .next-of .ensures t (h .laid) (listed h (c .before .before .before .before .before .before .before .before .before .before .pre .0) (c .before .before .before .before .before .before .before .before .before .before .args .t1 .done))) (c .before .before .report .given .0 .0) (c .before .before .report .given .0 .1 .0) (c .before .before .report .given .1) .inside, e)
+iterate-requires c κs = let (t, h, e) = c .before .before .before .before .before .before .before .before .before .before .pre .1 in (t, h .loaded, next-performed h (c .before .before .before .before .before .before .before .before .before .before .pre .0) (c .before .before .before .before .before .before .before .before .before .before .args .t1 .done) (c .before .before .before .before .before .before .if1 .shut) (asked (c .before .before .before .before .before .before)) (c .before .before .before .before .next-of .result) (c .before .before .before .before .next-of .ensures t (h .laid) (listed h (c .before .before .before .before .before .before .before .before .before .before .pre .0) (c .before .before .before .before .before .before .before .before .before .before .args .t1 .done))) (now (c .before .before .before .before .before .before .before .before .before .before .args .memory)) (c .before .before .report .given .0 .0) (c .before .before .report .given .0 .1 .0) (c .before .before .report .given .1) .inside, e)
 
 mul-self : tie.Need-mul-self
 mul-self c = search needs
@@ -54,7 +52,7 @@ element-copy-out-self : tie.Need-element-copy-out-self
 element-copy-out-self c = search needs
 
 add-self : tie.Need-add-self
-add-self c = let (t, h, e) = c .before .before .before .before .before .before .before .before .before .before .before .before .before .before .pre .1 in record { fits = omega (arith, next-performed h (c .before .before .before .before .before .before .before .before .before .before .before .before .before .before .pre .0) (c .before .before .before .before .before .before .before .before .before .before .before .before .before .before .args .t1 .done) (c .before .before .before .before .before .before .before .before .before .before .if1 .shut) (asked (c .before .before .before .before .before .before .before .before .before .before)) (c .before .before .before .before .before .before .before .before .next-of .result) (c .before .before .before .before .before .before .before .before .next-of .ensures t (h .laid) (listed h (c .before .before .before .before .before .before .before .before .before .before .before .before .before .before .pre .0) (c .before .before .before .before .before .before .before .before .before .before .before .before .before .before .args .t1 .done))) (c .before .before .before .before .before .before .report .given .0 .0) (c .before .before .before .before .before .before .report .given .0 .1 .0) (c .before .before .before .before .before .before .report .given .1) .small) }
+add-self c = let (t, h, e) = c .before .before .before .before .before .before .before .before .before .before .before .before .before .before .pre .1 in record { fits = omega (arith, next-performed h (c .before .before .before .before .before .before .before .before .before .before .before .before .before .before .pre .0) (c .before .before .before .before .before .before .before .before .before .before .before .before .before .before .args .t1 .done) (c .before .before .before .before .before .before .before .before .before .before .if1 .shut) (asked (c .before .before .before .before .before .before .before .before .before .before)) (c .before .before .before .before .before .before .before .before .next-of .result) (c .before .before .before .before .before .before .before .before .next-of .ensures t (h .laid) (listed h (c .before .before .before .before .before .before .before .before .before .before .before .before .before .before .pre .0) (c .before .before .before .before .before .before .before .before .before .before .before .before .before .before .args .t1 .done))) (now (c .before .before .before .before .before .before .before .before .before .before .before .before .before .before .args .memory)) (c .before .before .before .before .before .before .report .given .0 .0) (c .before .before .before .before .before .before .report .given .0 .1 .0) (c .before .before .before .before .before .before .report .given .1) .small) }
 
 element-write-self : tie.Need-element-write-self
 element-write-self c = search needs
@@ -63,10 +61,10 @@ same-length : tie.Need-same-length
 same-length c = search needs
 
 returns : tie.Need-returns
-returns c = λ t h. let n = next-performed h (c .before .before .before .before .before .before .before .before .before .before .before .before .before .before .pre .0) (c .before .before .before .before .before .before .before .before .before .before .before .before .before .before .args .t1 .done) (c .before .before .before .before .before .before .before .before .before .before .if1 .shut) (asked (c .before .before .before .before .before .before .before .before .before .before)) (c .before .before .before .before .before .before .before .before .next-of .result) (c .before .before .before .before .before .before .before .before .next-of .ensures t (h .laid) (listed h (c .before .before .before .before .before .before .before .before .before .before .before .before .before .before .pre .0) (c .before .before .before .before .before .before .before .before .before .before .before .before .before .before .args .t1 .done))) (c .before .before .before .before .before .before .report .given .0 .0) (c .before .before .before .before .before .before .report .given .0 .1 .0) (c .before .before .before .before .before .before .report .given .1) in turned h (c .before .before .before .before .before .before .before .before .before .before .before .before .before .before .pre .0) (c .before .before .before .before .before .before .before .before .before .before .before .before .before .before .args .t1 .done) _ n (now (c .before .before .before .before .before .before .before .before .before .before .before .before .before .before .args .memory)) _ (c .before .before .before .iterate .ensures t (h .loaded) (n .inside))
+returns c = λ t h. let n = next-performed h (c .before .before .before .before .before .before .before .before .before .before .before .before .before .before .pre .0) (c .before .before .before .before .before .before .before .before .before .before .before .before .before .before .args .t1 .done) (c .before .before .before .before .before .before .before .before .before .before .if1 .shut) (asked (c .before .before .before .before .before .before .before .before .before .before)) (c .before .before .before .before .before .before .before .before .next-of .result) (c .before .before .before .before .before .before .before .before .next-of .ensures t (h .laid) (listed h (c .before .before .before .before .before .before .before .before .before .before .before .before .before .before .pre .0) (c .before .before .before .before .before .before .before .before .before .before .before .before .before .before .args .t1 .done))) (now (c .before .before .before .before .before .before .before .before .before .before .before .before .before .before .args .memory)) (c .before .before .before .before .before .before .report .given .0 .0) (c .before .before .before .before .before .before .report .given .0 .1 .0) (c .before .before .before .before .before .before .report .given .1) in turned h (c .before .before .before .before .before .before .before .before .before .before .before .before .before .before .pre .0) (c .before .before .before .before .before .before .before .before .before .before .before .before .before .before .args .t1 .done) (now (c .before .before .before .before .before .before .before .before .before .before .before .before .before .before .args .memory)) _ n _ (c .before .before .before .iterate .ensures t (h .loaded) (n .inside))
 
 returns-2 : tie.Need-returns-2
-returns-2 c = λ t h. next-stays h (c .before .before .before .before .before .before .before .pre .0) (c .before .before .before .before .before .before .before .args .t1 .done) (c .before .before .before .if1 .shut) (asked (c .before .before .before)) (c .before .next-of .result) (c .before .next-of .ensures t (h .laid) (listed h (c .before .before .before .before .before .before .before .pre .0) (c .before .before .before .before .before .before .before .args .t1 .done))) (λ k i q. ⊎-elim (λ z. omega (arith, z)) (⊎-elim (λ z. omega (arith, z)) (λ z. omega (arith, z))) (rw q at (c .match .keys2))) (now (c .before .before .before .before .before .before .before .args .memory))
+returns-2 c = λ t h. next-stays h (c .before .before .before .before .before .before .before .pre .0) (c .before .before .before .before .before .before .before .args .t1 .done) (c .before .before .before .if1 .shut) (asked (c .before .before .before)) (c .before .next-of .result) (c .before .next-of .ensures t (h .laid) (listed h (c .before .before .before .before .before .before .before .pre .0) (c .before .before .before .before .before .before .before .args .t1 .done))) (now (c .before .before .before .before .before .before .before .args .memory)) (λ k i q. ⊎-elim (λ z. omega (arith, z)) (⊎-elim (λ z. omega (arith, z)) (λ z. omega (arith, z))) (rw q at (c .match .keys2)))
 
 pub turn-spec : {M : Type 1} → statement M
 turn-spec =
