@@ -13,7 +13,7 @@ use borrow.Author.Tests.{ne-eqb}
 use Rattle.records.specs.History.{operands}
 use Rattle.model.specs.Table.{Item, read, constant, operation}
 use Rattle.model.specs.Bodies.{negated, combined, applied, worked, workedAll, value}
-use Rattle.reader.specs.Columns.{itemOf, itemAt, itemsFrom}
+use Rattle.reader.specs.Store.{itemOf, itemAt, itemsFrom}
 use Rattle.grounds.specs.Accepted.{Works}
 use Rattle.bodies.specs.declared.Waiting.{Waiting}
 use Rattle.bodies.specs.Stack.{tops, waiting, Holds}
@@ -115,12 +115,12 @@ module _ (bs : List ℕ) (i : ℕ) (m : List Float) (whole : List Item) (s : Lis
   left-end w d l = (l .works, l .gives)
 
 -- the items in the rows from `from` up to `past`, worked from where s waits: those before `row` are worked
-module _ (bs : List ℕ) (i : ℕ) (m : List Float) (ks qs vs : List ℕ) (from past : ℕ) (s : Waiting) where
+module _ (bs : List ℕ) (i : ℕ) (m : List Float) (cs : List ℕ) (from past : ℕ) (s : Waiting) where
   abbrev all : List Item
-  all = itemsFrom ks qs vs from (past - from)
+  all = itemsFrom cs from (past - from)
 
   abbrev pub RowsLeft : ℕ → Waiting → Type 0
-  RowsLeft row w = Left bs i m all (waiting s) (itemsFrom ks qs vs row (past - row)) (waiting w) (w .count)
+  RowsLeft row w = Left bs i m all (waiting s) (itemsFrom cs row (past - row)) (waiting w) (w .count)
 
   pub rows-start : s .count ≤ 8 → Works all (s .count) → ReadsWithin bs i (length m) all → RowsLeft from s
   rows-start = left-start bs i m all (waiting s) (s .count)
@@ -128,23 +128,23 @@ module _ (bs : List ℕ) (i : ℕ) (m : List Float) (ks qs vs : List ℕ) (from 
   module _ (row : ℕ) (w : Waiting) (l : RowsLeft row w) where
     module _ (h : row < past) where
       abbrev rest : List Item
-      rest = itemsFrom ks qs vs (row + 1) (past - (row + 1))
+      rest = itemsFrom cs (row + 1) (past - (row + 1))
 
-      split : itemsFrom ks qs vs row (past - row) ≡ itemAt ks qs vs row ∷ rest
+      split : itemsFrom cs row (past - row) ≡ itemAt cs row ∷ rest
       unfolding itemsFrom
       split = let e : past - row ≡ suc (past - (row + 1)) = omega arith in rw (e, add-one row)
 
-      here : Left bs i m all (waiting s) (itemAt ks qs vs row ∷ rest) (waiting w) (w .count)
+      here : Left bs i m all (waiting s) (itemAt cs row ∷ rest) (waiting w) (w .count)
       here = subst (λ (xs : List Item). Left bs i m all (waiting s) xs (waiting w) (w .count)) split l
 
-      pub rows-ready : Ready bs i (length m) (itemAt ks qs vs row) (w .count)
-      rows-ready = left-ready bs i m all (waiting s) (itemAt ks qs vs row) rest (waiting w) (w .count) here
+      pub rows-ready : Ready bs i (length m) (itemAt cs row) (w .count)
+      rows-ready = left-ready bs i m all (waiting s) (itemAt cs row) rest (waiting w) (w .count) here
 
-      pub rows-next : (v : Waiting) → v .count ≡ next (itemAt ks qs vs row) (w .count)
-          → ((ns : List ℕ) → Based bs ns → waiting v ≡ worked ns i m (itemAt ks qs vs row) (waiting w)) → RowsLeft (row + 1) v
-      rows-next v = left-next bs i m all (waiting s) (itemAt ks qs vs row) rest (waiting w) (w .count) here (waiting v) (v .count)
+      pub rows-next : (v : Waiting) → v .count ≡ next (itemAt cs row) (w .count)
+          → ((ns : List ℕ) → Based bs ns → waiting v ≡ worked ns i m (itemAt cs row) (waiting w)) → RowsLeft (row + 1) v
+      rows-next v = left-next bs i m all (waiting s) (itemAt cs row) rest (waiting w) (w .count) here (waiting v) (v .count)
 
-    none : past ≤ row → itemsFrom ks qs vs row (past - row) ≡ []
+    none : past ≤ row → itemsFrom cs row (past - row) ≡ []
     unfolding itemsFrom
     none h = let e : past - row ≡ 0 = omega arith in rw e
 

@@ -1,4 +1,5 @@
 // The value of a postfix body. Arithmetic is IEEE 754 binary64, each operation rounded once.
+use records::Store;
 ghost use mathlib.Core.Path.{_≡_};
 ghost use mathlib.Core.List.{List, _∷_};
 ghost use Prim.Native.Nat.{ℕ, _+_, _-_, _^_, _≤_, _<_};
@@ -7,7 +8,7 @@ ghost use lib.IntN.{pos};
 ghost use lib.Ieee.{nan, binary64, ofInt};
 ghost use Rattle.records.specs.History.{operands};
 ghost use Rattle.model.specs.Bodies.{binary, negated, combined, applied, worked, workedAll, value};
-ghost use Rattle.reader.specs.Columns.{itemOf, itemsFrom};
+ghost use Rattle.reader.specs.Store.{itemOf, itemsFrom};
 ghost use Rattle.grounds.specs.Accepted.{Works};
 ghost use Rattle.bodies.specs.Stack.{tops, waiting, Holds};
 ghost use Rattle.bodies.specs.Workable.{Based, Element, ReadsWithin, Ready, next};
@@ -94,7 +95,7 @@ fn apply(vs: &mut [f64; 8], n: usize, op: u32) -> usize
 fn work_item(
     vs: &mut [f64; 8],
     n: usize,
-    kind: u8,
+    kind: u32,
     array: u32,
     value: u32,
     bases: &[u32; 17],
@@ -128,9 +129,7 @@ impl Waiting {
     // Works the items of the rows from `from` up to `past`, in iteration i.
     pub fn work_rows(
         self,
-        kinds: &[u8; 528],
-        arrays: &[u32; 528],
-        values: &[u32; 528],
+        store: &Store,
         bases: &[u32; 17],
         from: usize,
         past: usize,
@@ -138,25 +137,19 @@ impl Waiting {
         memory: &[f64],
     ) -> Self
         requires { ⌜ (past ≤ 528) × (i < 2 ^ 32) × (self .count ≤ 8) ⌝ }
-        requires { ⌜ Works (itemsFrom (now kinds) (now arrays) (now values) from (past - from)) (self .count) ⌝ }
-        requires { ⌜ ReadsWithin (now bases) i (length (now memory)) (itemsFrom (now kinds) (now arrays) (now values) from (past - from)) ⌝ }
+        requires { ⌜ Works (itemsFrom (now store) from (past - from)) (self .count) ⌝ }
+        requires { ⌜ ReadsWithin (now bases) i (length (now memory)) (itemsFrom (now store) from (past - from)) ⌝ }
         ensures { λ r. ⌜ r .count ≡ 1 ⌝ }
-        ensures { λ r. ⌜ ((ns : List ℕ) → Based (now (bases .entry)) ns → waiting r ≡ workedAll ns i (now (memory .entry)) (itemsFrom (now (kinds .entry)) (now (arrays .entry)) (now (values .entry)) from (past - from)) (waiting self)) ⌝ }
+        ensures { λ r. ⌜ ((ns : List ℕ) → Based (now (bases .entry)) ns → waiting r ≡ workedAll ns i (now (memory .entry)) (itemsFrom (now (store .entry)) from (past - from)) (waiting self)) ⌝ }
     {
         let mut w = self;
         let mut row = from;
         while row < past {
             let n = w.count;
-            let next = work_item(
-                &mut w.values,
-                n,
-                kinds[row],
-                arrays[row],
-                values[row],
-                bases,
-                i,
-                memory,
-            );
+            let kind = reader::kind_at(store, row);
+            let array = reader::array_at(store, row);
+            let value = reader::value_at(store, row);
+            let next = work_item(&mut w.values, n, kind, array, value, bases, i, memory);
             w.count = next;
             row += 1;
         }
@@ -166,9 +159,7 @@ impl Waiting {
 
 // The value in iteration i of the body in the rows from `from` up to `past`; `bases` are where the arrays begin in the memory.
 pub fn value_of(
-    kinds: &[u8; 528],
-    arrays: &[u32; 528],
-    values: &[u32; 528],
+    store: &Store,
     bases: &[u32; 17],
     from: usize,
     past: usize,
@@ -176,11 +167,11 @@ pub fn value_of(
     memory: &[f64],
 ) -> f64
     requires { ⌜ (past ≤ 528) × (i < 2 ^ 32) ⌝ }
-    requires { ⌜ Works (itemsFrom (now kinds) (now arrays) (now values) from (past - from)) 0 ⌝ }
-    requires { ⌜ ReadsWithin (now bases) i (length (now memory)) (itemsFrom (now kinds) (now arrays) (now values) from (past - from)) ⌝ }
-    ensures { λ r. ⌜ ((ns : List ℕ) → Based (now (bases .entry)) ns → r ≡ value ns i (itemsFrom (now (kinds .entry)) (now (arrays .entry)) (now (values .entry)) from (past - from)) (now (memory .entry))) ⌝ }
+    requires { ⌜ Works (itemsFrom (now store) from (past - from)) 0 ⌝ }
+    requires { ⌜ ReadsWithin (now bases) i (length (now memory)) (itemsFrom (now store) from (past - from)) ⌝ }
+    ensures { λ r. ⌜ ((ns : List ℕ) → Based (now (bases .entry)) ns → r ≡ value ns i (itemsFrom (now (store .entry)) from (past - from)) (now (memory .entry))) ⌝ }
 {
     let none = Waiting::none();
-    let w = none.work_rows(kinds, arrays, values, bases, from, past, i, memory);
+    let w = none.work_rows(store, bases, from, past, i, memory);
     w.values[0]
 }

@@ -1,6 +1,7 @@
 // One record of a loop table, from bytes: its kind, its fields, and the tests on it.
 use records::Kind;
 use records::Record;
+use records::Store;
 use records::Summary;
 use records::Tested;
 ghost use mathlib.Core.Path.{_≡_};
@@ -156,7 +157,7 @@ fn edge_ground(first: u32, last: u32, o: u32, n: u32) -> u32
     }
 }
 
-fn array_tests(n: u32, t: Summary, lens: &[u32; 16]) -> u32
+fn array_tests(n: u32, t: Summary, lens: &Store) -> u32
     ensures { λ r. ⌜ r ≡ fields (Record.Array n) t (now (lens .entry)) ⌝ }
 {
     if n == 0 {
@@ -172,7 +173,7 @@ fn array_tests(n: u32, t: Summary, lens: &[u32; 16]) -> u32
     }
 }
 
-fn loop_tests(first: u32, last: u32, q: u32, o: u32, t: Summary, lens: &[u32; 16]) -> u32
+fn loop_tests(first: u32, last: u32, q: u32, o: u32, t: Summary, lens: &Store) -> u32
     requires { ⌜ t .arrays ≤ 16 ⌝ }
     ensures { λ r. ⌜ r ≡ fields (Record.Loop first last q o) t (now (lens .entry)) ⌝ }
 {
@@ -192,7 +193,7 @@ fn loop_tests(first: u32, last: u32, q: u32, o: u32, t: Summary, lens: &[u32; 16
     edge_ground(first, last, o, lens[at])
 }
 
-fn read_tests(q: u32, o: u32, t: Summary, lens: &[u32; 16]) -> u32
+fn read_tests(q: u32, o: u32, t: Summary, lens: &Store) -> u32
     requires { ⌜ t .arrays ≤ 16 ⌝ }
     ensures { λ r. ⌜ r ≡ fields (Record.Read q o) t (now (lens .entry)) ⌝ }
 {
@@ -209,13 +210,13 @@ fn read_tests(q: u32, o: u32, t: Summary, lens: &[u32; 16]) -> u32
     edge_ground(t.first, t.last, o, lens[at])
 }
 
-fn constant_tests(n: u32, t: Summary, lens: &[u32; 16]) -> u32
+fn constant_tests(n: u32, t: Summary, lens: &Store) -> u32
     ensures { λ r. ⌜ r ≡ fields (Record.Constant n) t (now (lens .entry)) ⌝ }
 {
     if 8 <= t.waiting { 6 } else { 0 }
 }
 
-fn operation_tests(o: u32, t: Summary, lens: &[u32; 16]) -> u32
+fn operation_tests(o: u32, t: Summary, lens: &Store) -> u32
     ensures { λ r. ⌜ r ≡ fields (Record.Operation o) t (now (lens .entry)) ⌝ }
 {
     if o == 0 {
@@ -229,7 +230,7 @@ fn operation_tests(o: u32, t: Summary, lens: &[u32; 16]) -> u32
 }
 
 // The tests on a record's fields.
-fn fields_ground(r: Record, t: Summary, lens: &[u32; 16]) -> u32
+fn fields_ground(r: Record, t: Summary, lens: &Store) -> u32
     requires { ⌜ t .arrays ≤ 16 ⌝ }
     ensures { λ g. ⌜ g ≡ fields r t (now (lens .entry)) ⌝ }
 {
@@ -273,7 +274,7 @@ fn passing(r: Record, n: usize) -> Tested
 }
 
 // Reads one record and tests it; the arrays' lengths are lent.
-pub fn read_record(s: &[u8], at: usize, t: Summary, lens: &[u32; 16]) -> Tested
+pub fn read_record(s: &[u8], at: usize, t: Summary, lens: &Store) -> Tested
     requires { ⌜ t .arrays ≤ 16 ⌝ }
     ensures { λ r. ⌜ r ≡ tested (now (s .entry)) at t (now (lens .entry)) ⌝ }
 {

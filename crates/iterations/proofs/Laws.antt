@@ -1,4 +1,4 @@
--- Where the arrays begin, one after the other; and one iteration over the columns.
+-- Where the arrays begin, one after the other; and one iteration over the store.
 use Prim.Native.Nat.{ℕ, zero, suc, _+_, _-_, _^_, _≤_, _<_}
 use native.Mathlib.Omega.{arith}
 use native.Mathlib.Decide.{ℕ-discrete}
@@ -16,7 +16,7 @@ use Rattle.model.specs.Table.{Item, read, constant, operation, Statement, Table
 use Rattle.model.specs.References.{destination, reads, references, refs}
 use Rattle.model.specs.Bodies.{begins, value, performed, run}
 use Rattle.order.specs.Reorder.{runAll}
-use Rattle.reader.specs.Columns.{itemsFrom}
+use Rattle.reader.specs.Store.{itemsFrom, startAt}
 use Rattle.grounds.specs.Statements.{sum}
 use Rattle.grounds.specs.Accepted.{Works, ValidLoop, valid-last}
 use Rattle.bodies.specs.Workable.{Based, Element, ReadsWithin}
@@ -102,15 +102,15 @@ reads-within bs i n k (read a o ∷ xs) f = (f (record { number = k; array = a; 
 reads-within bs i n k (constant c ∷ xs) f = reads-within bs i n k xs f
 reads-within bs i n k (operation c ∷ xs) f = reads-within bs i n k xs f
 
--- iteration i of loop k, of a table that the columns hold
-module _ (t : Table) (ss ks qs vs bs : List ℕ) (l : Loaded t ss ks qs vs bs) (k i : ℕ) (here : Inside t (iteration k i)) where
+-- iteration i of loop k, of a table that the store hold
+module _ (t : Table) (cs bs : List ℕ) (l : Loaded t cs bs) (k i : ℕ) (here : Inside t (iteration k i)) where
   abbrev st : Statement
-  st = statementIn ss ks qs vs k
+  st = statementIn cs k
 
   abbrev vl : ValidLoop (t .lengths) k (loop t k)
   vl = l .valid .each k (here .0)
 
-  pub loop-rows : (k < 16) × (getD ss k 0 < getD ss (k + 1) 0) × (getD ss (k + 1) 0 ≤ 528)
+  pub loop-rows : (k < 16) × (startAt cs k < startAt cs (k + 1)) × (startAt cs (k + 1) ≤ 528)
   loop-rows = (omega (arith, here .0, l .valid .few-loops), rw (add-one k) (l .rising k (here .0)), rw (add-one k) (l .rows k (here .0)))
 
   pub index-small : i ≤ 65790
@@ -118,10 +118,10 @@ module _ (t : Table) (ss ks qs vs bs : List ℕ) (l : Loaded t ss ks qs vs bs) (
 
   -- its items, as the code counts their rows
   abbrev counted : List Item
-  counted = itemsFrom ks qs vs (getD ss k 0 + 1) (getD ss (k + 1) 0 - (getD ss k 0 + 1))
+  counted = itemsFrom cs (startAt cs k + 1) (startAt cs (k + 1) - (startAt cs k + 1))
 
   same : counted ≡ st .items
-  same = rw (add-one k, add-one (getD ss k 0))
+  same = rw (add-one k, add-one (startAt cs k))
 
   items-work : Works (st .items) 0
   items-work =
@@ -146,7 +146,7 @@ module _ (t : Table) (ss ks qs vs bs : List ℕ) (l : Loaded t ss ks qs vs bs) (
     destination-within = reached (destination k st) (one (destination k st) (mhere refl))
 
     -- what its body's code asks
-    pub body-asks : ((getD ss (k + 1) 0 ≤ 528) × (i < 2 ^ 32)) × (Works counted 0 × ReadsWithin bs i n counted)
+    pub body-asks : ((startAt cs (k + 1) ≤ 528) × (i < 2 ^ 32)) × (Works counted 0 × ReadsWithin bs i n counted)
     body-asks = (
       (loop-rows .2, omega (arith, index-small)),
       (rw same items-work, rw same (reads-within bs i n k (st .items) (λ r h. reached r (one r (mthere h))))),

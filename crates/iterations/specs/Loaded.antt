@@ -1,4 +1,4 @@
--- A table's statements in columns, with what the code of an iteration needs to know of them.
+-- A table's statements in store, with what the code of an iteration needs to know of them.
 use Prim.Native.Nat.{ℕ, zero, suc, _+_, _≤_, _<_}
 use native.Mathlib.Omega.{arith}
 use mathlib.Core.Path.{_≡_, refl, ap, _∙_}
@@ -6,27 +6,27 @@ use mathlib.Core.List.{List, [], _∷_}
 use lib.ListN.{length, getD, take}
 use Rattle.model.specs.Table.{Statement, Loop, Table, count, loop}
 use Rattle.model.specs.Bodies.{begins}
-use Rattle.reader.specs.Columns.{Columns, columns, statementAt, tableAt, count-table, loop-table}
-use Rattle.reader.specs.Stored.{Sized, Kept, starts-up}
+use Rattle.reader.specs.Store.{Sized, startAt, statementAt, tableAt, count-table, loop-table}
+use Rattle.reader.specs.Stored.{Kept, starts-up}
 use Rattle.grounds.specs.Statements.{sum}
 use Rattle.grounds.specs.Accepted.{Valid}
 use Rattle.bodies.specs.Workable.{Based}
 
--- the statement of loop k, in columns of starts, kinds, arrays and values
-abbrev pub statementIn : List ℕ → List ℕ → List ℕ → List ℕ → ℕ → Statement
-statementIn ss ks qs vs k = statementAt (columns [] [] [] ss ks qs vs) (getD ss k 0) (getD ss (suc k) 0)
+-- the statement of loop k, in store of starts, kinds, arrays and values
+abbrev pub statementIn : List ℕ → ℕ → Statement
+statementIn cs k = statementAt cs (startAt cs k) (startAt cs (suc k))
 
--- the columns hold the statements of the loops of t, and bs is where its arrays begin
-pub record Loaded (t : Table) (ss ks qs vs bs : List ℕ) : Type 0 where
+-- the store hold the statements of the loops of t, and bs is where its arrays begin
+pub record Loaded (t : Table) (cs bs : List ℕ) : Type 0 where
   pub valid : Valid t
   pub based : Based bs (t .lengths)
-  pub held : (k : ℕ) → k < count t → loop t k .body ≡ statementIn ss ks qs vs k ∷ []
-  pub rising : (k : ℕ) → k < count t → getD ss k 0 < getD ss (suc k) 0
-  pub rows : (k : ℕ) → k < count t → getD ss (suc k) 0 ≤ 528
+  pub held : (k : ℕ) → k < count t → loop t k .body ≡ statementIn cs k ∷ []
+  pub rising : (k : ℕ) → k < count t → startAt cs k < startAt cs (suc k)
+  pub rows : (k : ℕ) → k < count t → startAt cs (suc k) ≤ 528
 
 -- LAWS
-pub loaded : (c : Columns) (a l rows : ℕ) (bs : List ℕ) → Sized c → Kept c a l rows → Valid (tableAt c a l) → Based bs (take a (c .lens))
-    → Loaded (tableAt c a l) (c .starts) (c .kinds) (c .arrays) (c .values) bs
+pub loaded : (c : List ℕ) (a l rows : ℕ) (bs : List ℕ) → Sized c → Kept c a l rows → Valid (tableAt c a l) → Based bs (take a c)
+    → Loaded (tableAt c a l) c bs
 loaded c a l rows bs z kept v b = record {
   valid = v;
   based = b;

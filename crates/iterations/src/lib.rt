@@ -1,4 +1,5 @@
 // One iteration of a loop.
+use records::Store;
 ghost use mathlib.Core.Path.{_≡_};
 ghost use Prim.Native.Nat.{_+_, _-_, _^_, _≤_, _<_};
 ghost use lib.ListN.{length, getD, set, take};
@@ -15,7 +16,7 @@ pub struct Bases {
 }
 
 // How many elements array k of so many has: none past the last.
-fn length_of(lens: &[u32; 16], arrays: usize, k: usize) -> u32
+fn length_of(lens: &Store, arrays: usize, k: usize) -> u32
     requires { ⌜ k < 16 ⌝ }
     ensures { λ r. ⌜ r ≡ getD (take arrays (now (lens .entry))) k 0 ⌝ }
 {
@@ -23,7 +24,7 @@ fn length_of(lens: &[u32; 16], arrays: usize, k: usize) -> u32
 }
 
 // The arrays stand in order without gaps.
-pub fn bases_of(lens: &[u32; 16], arrays: usize) -> Bases
+pub fn bases_of(lens: &Store, arrays: usize) -> Bases
     requires { ⌜ sum (take arrays (now lens)) ≤ 262144 ⌝ }
     ensures { λ r. ⌜ Based (r .firsts) (take arrays (now (lens .entry))) ⌝ }
 {
@@ -64,31 +65,20 @@ fn store_in(array: u32, offset: u32, bases: &[u32; 17], i: usize, memory: &mut [
     store(&mut memory[base..], at, x);
 }
 
-// Iteration `index` of loop `number`, of a table in columns.
-pub fn iterate(
-    starts: &[usize; 17],
-    kinds: &[u8; 528],
-    arrays: &[u32; 528],
-    values: &[u32; 528],
-    bases: &[u32; 17],
-    number: usize,
-    index: usize,
-    memory: &mut [f64],
-)
-    requires { ⌜ ((t : Table) × Loaded t (now starts) (now kinds) (now arrays) (now values) (now bases) × Inside t (iteration number index) × (length (now memory) ≡ total t)) ⌝ }
-    ensures { λ _. ⌜ ((t : Table) → Loaded t (now (starts .entry)) (now (kinds .entry)) (now (arrays .entry)) (now (values .entry)) (now (bases .entry)) → Inside t (iteration number index) → now (memory .exit) ≡ run t (iteration number index) (now (memory .entry))) ⌝ }
+// Iteration `index` of loop `number`, of a table in a store.
+pub fn iterate(store: &Store, bases: &[u32; 17], number: usize, index: usize, memory: &mut [f64])
+    requires { ⌜ ((t : Table) × Loaded t (now store) (now bases) × Inside t (iteration number index) × (length (now memory) ≡ total t)) ⌝ }
+    ensures { λ _. ⌜ ((t : Table) → Loaded t (now (store .entry)) (now (bases .entry)) → Inside t (iteration number index) → now (memory .exit) ≡ run t (iteration number index) (now (memory .entry))) ⌝ }
 {
-    let from = starts[number];
-    let past = starts[number + 1];
-    let x = bodies::value_of(
-        kinds,
-        arrays,
-        values,
+    let from = reader::start_at(store, number);
+    let past = reader::start_at(store, number + 1);
+    let x = bodies::value_of(store, bases, from + 1, past, index, &memory[..]);
+    store_in(
+        reader::array_at(store, from),
+        reader::value_at(store, from),
         bases,
-        from + 1,
-        past,
         index,
-        &memory[..],
+        memory,
+        x,
     );
-    store_in(arrays[from], values[from], bases, index, memory, x);
 }

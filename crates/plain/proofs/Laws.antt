@@ -11,8 +11,8 @@ use Rattle.model.specs.Table.{Table, Loop, count, first, last, iteration, Insid
 use Rattle.model.specs.Bodies.{run}
 use Rattle.model.specs.PlainRun.{upward, looped, plainRun, upward-turn, upward-ended}
 use Rattle.reader.specs.Reading.{Answer, accepted, refused}
-use Rattle.reader.specs.Columns.{Columns, tableAt, count-table, loop-table}
-use Rattle.reader.specs.Stored.{Sized, Kept}
+use Rattle.reader.specs.Store.{Sized, firstAt, lastAt, tableAt, count-table, loop-table}
+use Rattle.reader.specs.Stored.{Kept}
 use Rattle.serial.specs.Serial.{table}
 use Rattle.grounds.specs.Accepted.{Valid, accepted-valid, valid-last}
 use Rattle.tables.specs.declared.Outline.{Outline}
@@ -49,16 +49,16 @@ module _ (P : Table → Type 0) (g : Table → ℕ → List Float → List Float
     pub left-end : past ≤ i → (t : Table) → P t → m ≡ upward (g t) from (past - from) m₀
     left-end h t p = upward-ended (g t) i past m (upward (g t) from (past - from) m₀) (l .rest t p) h
 
--- THE LOOPS OF A TABLE IN COLUMNS
-module _ (fs ls ss ks qs vs bs : List ℕ) where
+-- THE LOOPS OF A TABLE IN A STORE
+module _ (cs bs : List ℕ) where
   -- loop k's turns, and the loops
   abbrev pub InLoop : ℕ → Table → Type 0
-  InLoop k t = Running t fs ls ss ks qs vs bs × (k < count t)
+  InLoop k t = Running t cs bs × (k < count t)
 
   abbrev pub OfLoops : ℕ → Table → Type 0
-  OfLoops n t = Running t fs ls ss ks qs vs bs × (n ≡ count t)
+  OfLoops n t = Running t cs bs × (n ≡ count t)
 
-  pub loop-small : (k : ℕ) (t : Table) → InLoop k t → (k < 16) × (getD fs k 0 ≤ getD ls k 0) × (getD ls k 0 ≤ 65790)
+  pub loop-small : (k : ℕ) (t : Table) → InLoop k t → (k < 16) × (firstAt cs k ≤ lastAt cs k) × (lastAt cs k ≤ 65790)
   loop-small k t p =
       let v = p .0 .loaded .valid in
       let f = p .0 .firsts k (p .1) in
@@ -68,29 +68,29 @@ module _ (fs ls ss ks qs vs bs : List ℕ) where
   -- the iterations of loop k, from the memory m₀
   module _ (k : ℕ) (m₀ : List Float) where
     abbrev pub LoopLeft : ℕ → List Float → Type 0
-    LoopLeft = Left (InLoop k) (λ t i. run t (iteration k i)) (getD fs k 0) (getD ls k 0 + 1) m₀
+    LoopLeft = Left (InLoop k) (λ t i. run t (iteration k i)) (firstAt cs k) (lastAt cs k + 1) m₀
 
-    pub loop-start : LoopLeft (getD fs k 0) m₀
-    loop-start = left-start (InLoop k) (λ t i. run t (iteration k i)) (getD fs k 0) (getD ls k 0 + 1) m₀
+    pub loop-start : LoopLeft (firstAt cs k) m₀
+    loop-start = left-start (InLoop k) (λ t i. run t (iteration k i)) (firstAt cs k) (lastAt cs k + 1) m₀
 
     module _ (i : ℕ) (m : List Float) (l : LoopLeft i m) where
-      within : i ≤ getD ls k 0 → (t : Table) → InLoop k t → Inside t (iteration k i)
+      within : i ≤ lastAt cs k → (t : Table) → InLoop k t → Inside t (iteration k i)
       within h t p = (p .1, omega (arith, p .0 .firsts k (p .1), l .low), omega (arith, p .0 .lasts k (p .1)))
 
-      pub loop-asks : i ≤ getD ls k 0 → (t : Table) → InLoop k t → length m₀ ≡ total t
-          → (t : Table) × Loaded t ss ks qs vs bs × Inside t (iteration k i) × (length m ≡ total t)
+      pub loop-asks : i ≤ lastAt cs k → (t : Table) → InLoop k t → length m₀ ≡ total t
+          → (t : Table) × Loaded t cs bs × Inside t (iteration k i) × (length m ≡ total t)
       loop-asks h t p e = (t, p .0 .loaded, within h t p, l .long ∙ e)
 
-      pub loop-next : i ≤ getD ls k 0 → (n : List Float) (u : Table) → InLoop k u
-          → ((t : Table) → Loaded t ss ks qs vs bs → Inside t (iteration k i) → n ≡ run t (iteration k i) m) → LoopLeft (i + 1) n
+      pub loop-next : i ≤ lastAt cs k → (n : List Float) (u : Table) → InLoop k u
+          → ((t : Table) → Loaded t cs bs → Inside t (iteration k i) → n ≡ run t (iteration k i) m) → LoopLeft (i + 1) n
       loop-next h n u q f =
-          left-next (InLoop k) (λ t j. run t (iteration k j)) (getD fs k 0) (getD ls k 0 + 1) m₀ i m l (omega arith) n u q (run-length u (iteration k i))
+          left-next (InLoop k) (λ t j. run t (iteration k j)) (firstAt cs k) (lastAt cs k + 1) m₀ i m l (omega arith) n u q (run-length u (iteration k i))
           (λ t p. f t (p .0 .loaded) (within h t p))
 
-      pub loop-end : getD ls k 0 < i → (t : Table) → Running t fs ls ss ks qs vs bs → k < count t → m ≡ looped t k m₀
+      pub loop-end : lastAt cs k < i → (t : Table) → Running t cs bs → k < count t → m ≡ looped t k m₀
       loop-end h t r c =
-          left-end (InLoop k) (λ t j. run t (iteration k j)) (getD fs k 0) (getD ls k 0 + 1) m₀ i m l (omega arith) t (r, c)
-          ∙ (rw (add-one (getD ls k 0)) (ap₂ (λ (f z : ℕ). upward (λ j. run t (iteration k j)) f (suc z - f) m₀) (r .firsts k c) (r .lasts k c)))
+          left-end (InLoop k) (λ t j. run t (iteration k j)) (firstAt cs k) (lastAt cs k + 1) m₀ i m l (omega arith) t (r, c)
+          ∙ (rw (add-one (lastAt cs k)) (ap₂ (λ (f z : ℕ). upward (λ j. run t (iteration k j)) f (suc z - f) m₀) (r .firsts k c) (r .lasts k c)))
 
   -- n loops, from the memory m₀
   module _ (n : ℕ) (m₀ : List Float) where
@@ -102,28 +102,28 @@ module _ (fs ls ss ks qs vs bs : List ℕ) where
 
     module _ (k : ℕ) (m : List Float) (l : LoopsLeft k m) where
       pub loops-asks : k < n → (t : Table) → OfLoops n t → length m₀ ≡ total t
-          → (t : Table) × Running t fs ls ss ks qs vs bs × (k < count t) × (length m ≡ total t)
+          → (t : Table) × Running t cs bs × (k < count t) × (length m ≡ total t)
       loops-asks h t p e = (t, p .0, omega (arith, p .1), l .long ∙ e)
 
       pub loops-next : k < n → (after : List Float) (u : Table) → OfLoops n u
-          → ((t : Table) → Running t fs ls ss ks qs vs bs → k < count t → after ≡ looped t k m) → LoopsLeft (k + 1) after
+          → ((t : Table) → Running t cs bs → k < count t → after ≡ looped t k m) → LoopsLeft (k + 1) after
       loops-next h after u q f =
           left-next (OfLoops n) looped 0 n m₀ k m l h after u q (looped-length u k) (λ t p. f t (p .0) (omega (arith, p .1)))
 
-      pub loops-end : n ≤ k → (t : Table) → Running t fs ls ss ks qs vs bs → n ≡ count t → m ≡ plainRun t m₀
+      pub loops-end : n ≤ k → (t : Table) → Running t cs bs → n ≡ count t → m ≡ plainRun t m₀
       loops-end h t r c =
           let z : n - 0 ≡ count t = omega arith in
           left-end (OfLoops n) looped 0 n m₀ k m l h t (r, c) ∙ ap (λ (j : ℕ). upward (looped t) 0 j m₀) z
 
--- A TABLE IN COLUMNS, ON A MEMORY
-module _ (c : Columns) (a l rows : ℕ) (sized : Sized c) (kept : Kept c a l rows) (v : Valid (tableAt c a l)) (bs : List ℕ) (b : Based bs (take a (c .lens))) where
+-- A TABLE IN A STORE, ON A MEMORY
+module _ (c : List ℕ) (a l rows : ℕ) (sized : Sized c) (kept : Kept c a l rows) (v : Valid (tableAt c a l)) (bs : List ℕ) (b : Based bs (take a c)) where
   abbrev held : Table
   held = tableAt c a l
 
   inside : (k : ℕ) → k < count held → k < l
   inside k h = omega (arith, count-table c a l)
 
-  running : Running held (c .firsts) (c .lasts) (c .starts) (c .kinds) (c .arrays) (c .values) bs
+  running : Running held c bs
   running = record {
     loaded = loaded c a l rows bs sized kept v b;
     firsts = λ k h. sym (ap (λ (x : Loop). x .first) (loop-table c a l k (inside k h)));
@@ -131,7 +131,7 @@ module _ (c : Columns) (a l rows : ℕ) (sized : Sized c) (kept : Kept c a l row
   }
 
   held-total : getD bs 16 0 ≡ total held
-  held-total = based-total bs (take a (c .lens)) 16 b (v .few-arrays) (omega arith)
+  held-total = based-total bs (take a c) 16 b (v .few-arrays) (omega arith)
 
   module _ (m : List Float) where
     pub held-unlike : (length m ≡ getD bs 16 0 → ⊥) → (12 ≡ numberOf (remembered (length m) (accepted held))) × (m ≡ after (remembered (length m) (accepted held)) m)
@@ -139,11 +139,11 @@ module _ (c : Columns) (a l rows : ℕ) (sized : Sized c) (kept : Kept c a l row
     held-unlike e = let z = remembered-unlike (length m) held (λ q. e (q ∙ sym held-total)) in rw z (refl, refl)
 
     pub held-asks : length m ≡ getD bs 16 0
-        → (t : Table) × Running t (c .firsts) (c .lasts) (c .starts) (c .kinds) (c .arrays) (c .values) bs × (l ≡ count t) × (length m ≡ total t)
+        → (t : Table) × Running t c bs × (l ≡ count t) × (length m ≡ total t)
     held-asks e = (held, running, sym (count-table c a l), e ∙ held-total)
 
     pub held-run : length m ≡ getD bs 16 0 → (n : List Float)
-        → ((t : Table) → Running t (c .firsts) (c .lasts) (c .starts) (c .kinds) (c .arrays) (c .values) bs → l ≡ count t → n ≡ plainRun t m)
+        → ((t : Table) → Running t c bs → l ≡ count t → n ≡ plainRun t m)
         → (0 ≡ numberOf (remembered (length m) (accepted held))) × (n ≡ after (remembered (length m) (accepted held)) m)
     unfolding after
     held-run e n f = let z = remembered-as-long (length m) held (e ∙ held-total) in rw z (refl, f held running (sym (count-table c a l)))
@@ -163,7 +163,7 @@ unfolding remembered after
 refused-stays n (accepted t) e = absurd (e refl)
 refused-stays n (refused g p) e = (refl, λ m. refl)
 
-module _ (s : List ℕ) (c : Columns) (o : Outline) (outlined : Outlined s o c) (m : List Float) where
+module _ (s : List ℕ) (c : List ℕ) (o : Outline) (outlined : Outlined s o c) (m : List Float) where
   pub run-refused : (o .number ≡ 0 → ⊥)
       → Tells s (plainAnswer s (length m)) (o .number) (o .place) (o .read) × (m ≡ plainMemory s m)
   unfolding plainAnswer plainMemory

@@ -17,11 +17,11 @@ use Rattle.records.specs.Clear.{Room, clear-room}
 use Rattle.records.specs.Outcome.{Whole, passed-whole, tested-same}
 use Rattle.reader.specs.declared.Reading.the-variants.{Refused, Accepted}
 use Rattle.reader.specs.Reading.{accepted, follow, readFrom, reading, tableOf}
-use Rattle.reader.specs.Columns.{Columns, answer, kept, rowsAfter, tableAt, Places}
-use Rattle.reader.specs.Stored.{Stored, Sized, Filled, stored-all, stored-start, kept-stored}
+use Rattle.reader.specs.Store.{Sized, startAt, answer, kept, rowsAfter, tableAt, Places}
+use Rattle.reader.specs.Stored.{Stored, Filled, stored-all, stored-start, kept-stored}
 
 -- the records before `at` have been read, and the rest from there gives the whole reading
-pub record Inv (s : List ℕ) (c : Columns) (t : Summary) (at rows : ℕ) : Type 0 where
+pub record Inv (s : List ℕ) (c : List ℕ) (t : Summary) (at rows : ℕ) : Type 0 where
   pub rs : List Record
   pub left : ℕ
   pub summed : t ≡ summary rs
@@ -30,7 +30,7 @@ pub record Inv (s : List ℕ) (c : Columns) (t : Summary) (at rows : ℕ) : Type
   pub fuel : length s < at + left
   pub stored : Stored c rs rows
 
-pub start : (s : List ℕ) (c : Columns) (t : Summary) → t ≡ blank → Sized c → getD (c .starts) 0 0 ≡ 0 → Inv s c t 0 0
+pub start : (s : List ℕ) (c : List ℕ) (t : Summary) → t ≡ blank → Sized c → startAt c 0 ≡ 0 → Inv s c t 0 0
 unfolding reading summary
 start s c t e z f = record {
   rs = [];
@@ -42,20 +42,20 @@ start s c t e z f = record {
   stored = stored-start c z f;
 }
 
-module _ (s : List ℕ) (c : Columns) (t : Summary) (at rows : ℕ) (inv : Inv s c t at rows) where
+module _ (s : List ℕ) (c : List ℕ) (t : Summary) (at rows : ℕ) (inv : Inv s c t at rows) where
   open Inv inv using (rs, left, summed, rest, here, fuel, stored)
 
   pub places : Places t rows
   places = rw summed (record { arrays = stored .kept .few-arrays; loops = stored .kept .few-loops; rows = stored .kept .few-rows })
 
-  lens-same : (q : ℕ) → q < summary rs .arrays → getD (c .lens) q 0 ≡ getD (lengths rs) q 0
-  lens-same q l = sym (getD-take (summary rs .arrays) (c .lens) q 0 l) ∙ ap (λ (ns : List ℕ). getD ns q 0) (stored .lens)
+  lens-same : (q : ℕ) → q < summary rs .arrays → getD c q 0 ≡ getD (lengths rs) q 0
+  lens-same q l = sym (getD-take (summary rs .arrays) c q 0 l) ∙ ap (λ (ns : List ℕ). getD ns q 0) (stored .lens)
 
   -- what the code found is what the definition finds
-  module _ (x : Tested) (answered : x ≡ tested s at t (c .lens)) where
+  module _ (x : Tested) (answered : x ≡ tested s at t c) where
     find : tested s at (summary rs) (lengths rs) ≡ x
     find =
-        sym (answered ∙ ap (λ (u : Summary). tested s at u (c .lens)) summed ∙ tested-same (summary rs) (c .lens) (lengths rs) lens-same s at)
+        sym (answered ∙ ap (λ (u : Summary). tested s at u c) summed ∙ tested-same (summary rs) c (lengths rs) lens-same s at)
 
     -- a turn of the definition
     turn : (y : Tested) → x ≡ y → follow s at rs (λ r n. readFrom (left - 1) s n (r ∷ rs)) y ≡ reading s
@@ -92,7 +92,7 @@ module _ (s : List ℕ) (c : Columns) (t : Summary) (at rows : ℕ) (inv : Inv s
       pub passed-places : Places t rows × (rowsAfter r rows ≤ 528)
       passed-places = (places, kept-stored c rs rows stored r (whole .0 .clear) (whole .1) .kept .few-rows)
 
-      pub turn-passed : (d : Columns) (u : Summary) (m : ℕ) → d ≡ kept r t rows c → u ≡ advanced r t → m ≡ rowsAfter r rows → Inv s d u n m
+      pub turn-passed : (d : List ℕ) (u : Summary) (m : ℕ) → d ≡ kept r t rows c → u ≡ advanced r t → m ≡ rowsAfter r rows → Inv s d u n m
       unfolding summary follow
       turn-passed d u m f g h = record {
         rs = r ∷ rs;

@@ -1,8 +1,8 @@
 -- the reading of a whole table
 pub mod Reading
--- a table as it is kept in columns
-pub mod Columns
--- the columns hold what was read
+-- a table as it is kept in a store
+pub mod Store
+-- the store holds what was read
 pub mod Stored
 -- how a reading that accepts goes
 pub mod Accepting

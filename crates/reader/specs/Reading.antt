@@ -29,12 +29,15 @@ loopsOf (End ∷ rs) xs = loopsOf rs xs
 abbrev pub tableOf : List Record → Table
 tableOf rs = record { lengths = lengths rs; loops = loopsOf rs [] }
 
--- a table, or a refusal with its number and its place
-pub data Answer : Type 0 where
-  accepted : Table → Answer
-  refused : (number place : ℕ) → Answer
+-- what was asked for, or a refusal with its number and its place
+pub data AnswerOf (T : Type 0) : Type 0 where
+  accepted : T → AnswerOf T
+  refused : (number place : ℕ) → AnswerOf T
 
-abbrev pub choose : Bool → Answer → Answer → Answer
+abbrev pub Answer : Type 0
+Answer = AnswerOf Table
+
+abbrev pub choose : {T : Type 0} → Bool → AnswerOf T → AnswerOf T → AnswerOf T
 choose true a b = a
 choose false a b = b
 

@@ -1,4 +1,4 @@
--- The columns hold what was read.
+-- The store holds what was read.
 use Prim.Native.Nat.{ℕ, zero, suc, _+_, _-_, _*_, _≤_, _<_}
 use native.Mathlib.Omega.{arith}
 use native.Mathlib.Decide.{ℕ-discrete}
@@ -16,70 +16,57 @@ use Rattle.model.specs.Table.{Item, read, constant, operation, Loop}
 use Rattle.reader.specs.declared.Reading.{Reading}
 use Rattle.reader.specs.declared.Reading.the-variants.{Refused, Accepted}
 use Rattle.reader.specs.Reading.{loopsOf}
-use Rattle.reader.specs.Columns.{Columns, itemOf, itemAt, itemsFrom, itemsIn, statementAt, loopAt, loopsFrom, withRow, withBounds, withLength, kept, rowsAfter}
-
--- the columns' own lengths
-pub record Sized (c : Columns) : Type 0 where
-  pub lens : length (c .lens) ≡ 16
-  pub firsts : length (c .firsts) ≡ 16
-  pub lasts : length (c .lasts) ≡ 16
-  pub starts : length (c .starts) ≡ 17
-  pub kinds : length (c .kinds) ≡ 528
-  pub arrays : length (c .arrays) ≡ 528
-  pub values : length (c .values) ≡ 528
+use Rattle.reader.specs.Store.{Sized, firstAt, lastAt, startAt, kindAt, arrayAt, valueAt, itemOf, itemAt, itemsFrom, statementAt, loopAt, loopsFrom, withRow, withBounds, kept, rowsAfter, sized-row, row-leaves, row-lengths, row-kind, row-array, row-value, row-start, sized-bounds, bounds-leave, bounds-lengths, bounds-first, bounds-last}
 
 -- what holds of each row: its array is one of sixteen, and what a destination or a read has for an offset is one
-pub record Row (c : Columns) (r : ℕ) : Type 0 where
-  pub array : getD (c .arrays) r 0 < 16
-  pub offset : getD (c .kinds) r 0 < 4 → getD (c .values) r 0 ≤ 510
+pub record Row (c : List ℕ) (r : ℕ) : Type 0 where
+  pub array : arrayAt c r < 16
+  pub offset : kindAt c r < 4 → valueAt c r ≤ 510
 
--- a table of so many arrays, loops and rows in columns
-pub record Kept (c : Columns) (arrays loops rows : ℕ) : Type 0 where
+-- a table of so many arrays, loops and rows in a store
+pub record Kept (c : List ℕ) (arrays loops rows : ℕ) : Type 0 where
   pub few-arrays : arrays ≤ 16
   pub few-loops : loops ≤ 16
   pub few-rows : rows ≤ 528
-  pub start : getD (c .starts) 0 0 ≡ 0
-  pub rising : (k : ℕ) → k < loops → getD (c .starts) k 0 < getD (c .starts) (suc k) 0
-  pub end : getD (c .starts) loops 0 ≡ rows
-  pub head : (k : ℕ) → k < loops → getD (c .kinds) (getD (c .starts) k 0) 0 ≡ 2
+  pub start : startAt c 0 ≡ 0
+  pub rising : (k : ℕ) → k < loops → startAt c k < startAt c (suc k)
+  pub end : startAt c loops ≡ rows
+  pub head : (k : ℕ) → k < loops → kindAt c (startAt c k) ≡ 2
   pub each : (r : ℕ) → r < rows → Row c r
 
 -- of an accepted table
-abbrev pub Filled : Reading → Columns → Type 0
+abbrev pub Filled : Reading → List ℕ → Type 0
 Filled (Refused g p) c = Unit {0}
 Filled (Accepted a l r) c = Sized c × Kept c a l r
 
--- LAWS OF THE COLUMNS
-abbrev itemIn : Columns → ℕ → Item
-itemIn c = itemAt (c .kinds) (c .arrays) (c .values)
-
-items-snoc : (c : Columns) (r n : ℕ) → itemsIn c r (suc n) ≡ itemsIn c r n ++ (itemIn c (r + n) ∷ [])
+-- LAWS OF THE STORE
+items-snoc : (c : List ℕ) (r n : ℕ) → itemsFrom c r (suc n) ≡ itemsFrom c r n ++ (itemAt c (r + n) ∷ [])
 unfolding itemsFrom
-items-snoc c r zero = let e : r ≡ r + 0 = omega arith in ap (λ (k : ℕ). itemIn c k ∷ []) e
+items-snoc c r zero = let e : r ≡ r + 0 = omega arith in ap (λ (k : ℕ). itemAt c k ∷ []) e
 items-snoc c r (suc n) =
     let e : suc r + n ≡ r + suc n = omega arith in
-    ap (λ (l : List Item). itemIn c r ∷ l) (items-snoc c (suc r) n ∙ ap (λ (k : ℕ). itemsIn c (suc r) n ++ (itemIn c k ∷ [])) e)
+    ap (λ (l : List Item). itemAt c r ∷ l) (items-snoc c (suc r) n ∙ ap (λ (k : ℕ). itemsFrom c (suc r) n ++ (itemAt c k ∷ [])) e)
 
-loops-snoc : (c : Columns) (k n : ℕ) → loopsFrom c k (suc n) ≡ loopsFrom c k n ++ (loopAt c (k + n) ∷ [])
+loops-snoc : (c : List ℕ) (k n : ℕ) → loopsFrom c k (suc n) ≡ loopsFrom c k n ++ (loopAt c (k + n) ∷ [])
 unfolding loopsFrom
 loops-snoc c k zero = let e : k ≡ k + 0 = omega arith in ap (λ (j : ℕ). loopAt c j ∷ []) e
 loops-snoc c k (suc n) =
     let e : suc k + n ≡ k + suc n = omega arith in
     ap (λ (l : List Loop). loopAt c k ∷ l) (loops-snoc c (suc k) n ∙ ap (λ (j : ℕ). loopsFrom c (suc k) n ++ (loopAt c j ∷ [])) e)
 
--- two columns that agree in the first n loops and the rows before `past`
-record Agree (c d : Columns) (n past : ℕ) : Type 0 where
-  firsts : (k : ℕ) → k < n → getD (c .firsts) k 0 ≡ getD (d .firsts) k 0
-  lasts : (k : ℕ) → k < n → getD (c .lasts) k 0 ≡ getD (d .lasts) k 0
-  starts : (k : ℕ) → k ≤ n → getD (c .starts) k 0 ≡ getD (d .starts) k 0
-  inside : (k : ℕ) → k < n → getD (c .starts) k 0 < past
-  within : (k : ℕ) → k ≤ n → getD (c .starts) k 0 ≤ past
-  kinds : (r : ℕ) → r < past → getD (c .kinds) r 0 ≡ getD (d .kinds) r 0
-  arrays : (r : ℕ) → r < past → getD (c .arrays) r 0 ≡ getD (d .arrays) r 0
-  values : (r : ℕ) → r < past → getD (c .values) r 0 ≡ getD (d .values) r 0
+-- two stores that agree in the first n loops and the rows before `past`
+record Agree (c d : List ℕ) (n past : ℕ) : Type 0 where
+  firsts : (k : ℕ) → k < n → firstAt c k ≡ firstAt d k
+  lasts : (k : ℕ) → k < n → lastAt c k ≡ lastAt d k
+  starts : (k : ℕ) → k ≤ n → startAt c k ≡ startAt d k
+  inside : (k : ℕ) → k < n → startAt c k < past
+  within : (k : ℕ) → k ≤ n → startAt c k ≤ past
+  kinds : (r : ℕ) → r < past → kindAt c r ≡ kindAt d r
+  arrays : (r : ℕ) → r < past → arrayAt c r ≡ arrayAt d r
+  values : (r : ℕ) → r < past → valueAt c r ≡ valueAt d r
 
-module _ (c d : Columns) (m past : ℕ) (a : Agree c d m past) where
-  items-agree : (r n : ℕ) → r + n ≤ past → itemsIn c r n ≡ itemsIn d r n
+module _ (c d : List ℕ) (m past : ℕ) (a : Agree c d m past) where
+  items-agree : (r n : ℕ) → r + n ≤ past → itemsFrom c r n ≡ itemsFrom d r n
   unfolding itemsFrom
   items-agree r zero h = refl
   items-agree r (suc n) h =
@@ -93,7 +80,7 @@ module _ (c d : Columns) (m past : ℕ) (a : Agree c d m past) where
       rw (
         a .firsts k h,
         a .lasts k h,
-        statement-agree (getD (c .starts) k 0) (getD (c .starts) (suc k) 0) (a .inside k h) (a .within (suc k) h),
+        statement-agree (startAt c k) (startAt c (suc k)) (a .inside k h) (a .within (suc k) h),
         a .starts k (omega arith),
         a .starts (suc k) h,
       )
@@ -105,66 +92,66 @@ module _ (c d : Columns) (m past : ℕ) (a : Agree c d m past) where
       ap (λ (x : Loop). x ∷ loopsFrom c (suc k) n) (loop-agree k (omega arith))
       ∙ ap (λ (l : List Loop). loopAt d k ∷ l) (loops-agree (suc k) n (omega arith))
 
--- the loops of the columns, where the latest goes on with the items xs
-abbrev pub loopWith : Columns → ℕ → ℕ → List Item → Loop
+-- the loops of the store, where the latest goes on with the items xs
+abbrev pub loopWith : List ℕ → ℕ → ℕ → List Item → Loop
 loopWith c k past xs = record {
-  first = getD (c .firsts) k 0;
-  last = getD (c .lasts) k 0;
+  first = firstAt c k;
+  last = lastAt c k;
   body = record {
-    array = getD (c .arrays) (getD (c .starts) k 0) 0;
-    offset = getD (c .values) (getD (c .starts) k 0) 0;
-    items = itemsIn c (suc (getD (c .starts) k 0)) (past - suc (getD (c .starts) k 0)) ++ xs;
+    array = arrayAt c (startAt c k);
+    offset = valueAt c (startAt c k);
+    items = itemsFrom c (suc (startAt c k)) (past - suc (startAt c k)) ++ xs;
   } ∷ [];
 }
 
-unfoldable pub shown : Columns → ℕ → ℕ → List Item → List Loop
+unfoldable pub shown : List ℕ → ℕ → ℕ → List Item → List Loop
 shown c zero past xs = []
 shown c (suc m) past xs = loopsFrom c 0 m ++ (loopWith c m past xs ∷ [])
 
 -- after the records rs, in so many rows
-pub record Stored (c : Columns) (rs : List Record) (rows : ℕ) : Type 0 where
+pub record Stored (c : List ℕ) (rs : List Record) (rows : ℕ) : Type 0 where
   pub sized : Sized c
-  pub lens : take (summary rs .arrays) (c .lens) ≡ lengths rs
+  pub lens : take (summary rs .arrays) c ≡ lengths rs
   pub loops : (xs : List Item) → loopsOf rs xs ≡ shown c (summary rs .loops) rows xs
   pub kept : Kept c (summary rs .arrays) (summary rs .loops) rows
   pub items : summary rs .items ≤ 32
   pub room : rows + 32 ≤ 33 * summary rs .loops + summary rs .items
 
--- at the end the table is in the columns
-loops-none : (c : Columns) (k : ℕ) → loopsFrom c k 0 ≡ []
+-- at the end the table is in the store
+loops-none : (c : List ℕ) (k : ℕ) → loopsFrom c k 0 ≡ []
 unfolding loopsFrom
 loops-none c k = refl
 
-shown-all : (c : Columns) (n rows : ℕ) → getD (c .starts) n 0 ≡ rows → shown c n rows [] ≡ loopsFrom c 0 n
+shown-all : (c : List ℕ) (n rows : ℕ) → startAt c n ≡ rows → shown c n rows [] ≡ loopsFrom c 0 n
 unfolding shown
 shown-all c zero rows e = sym (loops-none c 0)
 shown-all c (suc m) rows e =
     let z : 0 + m ≡ m = omega arith in
-    let l : loopWith c m rows [] ≡ loopAt c m = rw (append-nil (itemsIn c (suc (getD (c .starts) m 0)) (rows - suc (getD (c .starts) m 0))), e) in
+    let l : loopWith c m rows [] ≡ loopAt c m = rw (append-nil (itemsFrom c (suc (startAt c m)) (rows - suc (startAt c m))), e) in
     ap (λ (x : Loop). loopsFrom c 0 m ++ (x ∷ [])) l ∙ sym (loops-snoc c 0 m ∙ ap (λ (k : ℕ). loopsFrom c 0 m ++ (loopAt c k ∷ [])) z)
 
-pub stored-all : (c : Columns) (rs : List Record) (rows : ℕ) → Stored c rs rows → loopsOf rs [] ≡ loopsFrom c 0 (summary rs .loops)
+pub stored-all : (c : List ℕ) (rs : List Record) (rows : ℕ) → Stored c rs rows → loopsOf rs [] ≡ loopsFrom c 0 (summary rs .loops)
 stored-all c rs rows s = s .loops [] ∙ shown-all c (summary rs .loops) rows (s .kept .end)
 
 -- the rows of an earlier loop start earlier
-pub starts-up : (c : Columns) (a n rows : ℕ) → Kept c a n rows → (j k : ℕ) → j ≤ k → k ≤ n → getD (c .starts) j 0 ≤ getD (c .starts) k 0
+pub starts-up : (c : List ℕ) (a n rows : ℕ) → Kept c a n rows → (j k : ℕ) → j ≤ k → k ≤ n → startAt c j ≤ startAt c k
 starts-up c a n rows h j zero l m = let e : j ≡ 0 = omega arith in rw e (omega arith)
 starts-up c a n rows h j (suc k) l m = go (ℕ-discrete j (suc k)) (starts-up c a n rows h j k)
   where
-    go : Dec (j ≡ suc k) → (j ≤ k → k ≤ n → getD (c .starts) j 0 ≤ getD (c .starts) k 0) → getD (c .starts) j 0 ≤ getD (c .starts) (suc k) 0
+    go : Dec (j ≡ suc k) → (j ≤ k → k ≤ n → startAt c j ≤ startAt c k) → startAt c j ≤ startAt c (suc k)
     go (yes e) ih = rw e (omega arith)
     go (no e) ih = omega (arith, ih (omega arith) (omega arith), h .rising k m)
 
 -- d is c with one row more, the last of loop j
-record Grown (c d : Columns) (j rows kind q v : ℕ) : Type 0 where
+record Grown (c d : List ℕ) (j rows kind q v : ℕ) : Type 0 where
   sized : Sized d
   agree : Agree c d j rows
-  past : getD (d .starts) (suc j) 0 ≡ rows + 1
-  kind-is : getD (d .kinds) rows 0 ≡ kind
-  array-is : getD (d .arrays) rows 0 ≡ q
-  value-is : getD (d .values) rows 0 ≡ v
+  past : startAt d (suc j) ≡ rows + 1
+  kind-is : kindAt d rows ≡ kind
+  array-is : arrayAt d rows ≡ q
+  value-is : valueAt d rows ≡ v
 
-module _ (c d : Columns) (j rows kind q v : ℕ) (g : Grown c d j rows kind q v) where
+module _ (c d : List ℕ) (j rows kind q v : ℕ) (g : Grown c d j rows kind q v) where
   row-grown : q < 16 → (kind < 4 → v ≤ 510) → ((r : ℕ) → r < rows → Row c r) → (r : ℕ) → r < rows + 1 → Row d r
   row-grown small offset old r l = go (ℕ-discrete r rows)
     where
@@ -178,7 +165,7 @@ module _ (c d : Columns) (j rows kind q v : ℕ) (g : Grown c d j rows kind q v)
             offset = λ h. rw (← (g .agree .values r m)) (old r m .offset (rw (← (g .agree .kinds r m)) at h));
           }
 
-  kept-grown : (a n : ℕ) → Kept c a n rows → (getD (c .starts) j 0 ≡ rows → kind ≡ 2) → j ≤ n → suc j ≤ 16 → rows < 528 → q < 16 → (kind < 4 → v ≤ 510) → Kept d a (suc j) (rows + 1)
+  kept-grown : (a n : ℕ) → Kept c a n rows → (startAt c j ≡ rows → kind ≡ 2) → j ≤ n → suc j ≤ 16 → rows < 528 → q < 16 → (kind < 4 → v ≤ 510) → Kept d a (suc j) (rows + 1)
   kept-grown a n h top l few room small offset = record {
     few-arrays = h .few-arrays;
     few-loops = few;
@@ -186,46 +173,46 @@ module _ (c d : Columns) (j rows kind q v : ℕ) (g : Grown c d j rows kind q v)
     start = rw (← (g .agree .starts 0 (omega arith))) (h .start);
     rising = λ k m. rise k m (ℕ-discrete k j);
     end = g .past;
-    head = λ k m. rw (← (g .agree .starts k (omega arith))) (heads k m (ℕ-discrete (getD (c .starts) k 0) rows));
+    head = λ k m. rw (← (g .agree .starts k (omega arith))) (heads k m (ℕ-discrete (startAt c k) rows));
     each = row-grown small offset (h .each);
   }
     where
-      heads : (k : ℕ) → k < suc j → Dec (getD (c .starts) k 0 ≡ rows) → getD (d .kinds) (getD (c .starts) k 0) 0 ≡ 2
+      heads : (k : ℕ) → k < suc j → Dec (startAt c k ≡ rows) → kindAt d (startAt c k) ≡ 2
       heads k m (yes e) = at (ℕ-discrete k j)
         where
-          at : Dec (k ≡ j) → getD (d .kinds) (getD (c .starts) k 0) 0 ≡ 2
+          at : Dec (k ≡ j) → kindAt d (startAt c k) ≡ 2
           at (yes s) = rw (e, g .kind-is) (top (rw s at e))
           at (no s) = absurd (omega (arith, g .agree .inside k (omega arith)))
       heads k m (no e) =
-          let low : getD (c .starts) k 0 < rows = omega (arith, g .agree .within k (omega arith)) in
-          rw (← (g .agree .kinds (getD (c .starts) k 0) low)) (h .head k (before (ℕ-discrete k n)))
+          let low : startAt c k < rows = omega (arith, g .agree .within k (omega arith)) in
+          rw (← (g .agree .kinds (startAt c k) low)) (h .head k (before (ℕ-discrete k n)))
         where
           before : Dec (k ≡ n) → k < n
           before (yes s) = absurd (e (rw s (h .end)))
           before (no s) = omega arith
 
-      rise : (k : ℕ) → k < suc j → Dec (k ≡ j) → getD (d .starts) k 0 < getD (d .starts) (suc k) 0
+      rise : (k : ℕ) → k < suc j → Dec (k ≡ j) → startAt d k < startAt d (suc k)
       rise k m (yes e) = rw (e, ← (g .agree .starts j (omega arith)), g .past) (omega (arith, g .agree .within j (omega arith)))
       rise k m (no e) =
           rw (← (g .agree .starts k (omega arith)), ← (g .agree .starts (suc k) (omega arith))) (h .rising k (omega arith))
 
   -- the items of loop j, with one more
   items-grown : (x : Item) (xs : List Item) (st n : ℕ) → itemOf kind q v ≡ x → suc st + n ≡ rows
-      → itemsIn c (suc st) n ++ (x ∷ xs) ≡ itemsIn d (suc st) (suc n) ++ xs
+      → itemsFrom c (suc st) n ++ (x ∷ xs) ≡ itemsFrom d (suc st) (suc n) ++ xs
   items-grown x xs st n i e =
       ap (λ (l : List Item). l ++ (x ∷ xs)) (items-agree c d j rows (g .agree) (suc st) n (omega arith))
-      ∙ sym (append-assoc (itemsIn d (suc st) n) (x ∷ []) xs)
-      ∙ ap (λ (l : List Item). l ++ xs) (sym (items-snoc d (suc st) n ∙ ap (λ (y : Item). itemsIn d (suc st) n ++ (y ∷ [])) last))
+      ∙ sym (append-assoc (itemsFrom d (suc st) n) (x ∷ []) xs)
+      ∙ ap (λ (l : List Item). l ++ xs) (sym (items-snoc d (suc st) n ∙ ap (λ (y : Item). itemsFrom d (suc st) n ++ (y ∷ [])) last))
     where
-      last : itemIn d (suc st + n) ≡ x
+      last : itemAt d (suc st + n) ≡ x
       last = rw (e, g .kind-is, g .array-is, g .value-is) i
 
-  shown-grown : (x : Item) (xs : List Item) → itemOf kind q v ≡ x → getD (c .firsts) j 0 ≡ getD (d .firsts) j 0
-      → getD (c .lasts) j 0 ≡ getD (d .lasts) j 0 → getD (c .starts) j 0 < rows → shown c (suc j) rows (x ∷ xs) ≡ shown d (suc j) (rows + 1) xs
+  shown-grown : (x : Item) (xs : List Item) → itemOf kind q v ≡ x → firstAt c j ≡ firstAt d j
+      → lastAt c j ≡ lastAt d j → startAt c j < rows → shown c (suc j) rows (x ∷ xs) ≡ shown d (suc j) (rows + 1) xs
   unfolding shown
   shown-grown x xs i first last here =
       let a = g .agree in
-      let st = getD (c .starts) j 0 in
+      let st = startAt c j in
       let e : suc st + (rows - suc st) ≡ rows = omega arith in
       let f : rows + 1 - suc st ≡ suc (rows - suc st) = omega arith in
       let y : loopWith c j rows (x ∷ xs) ≡ loopWith d j (rows + 1) xs =
@@ -233,60 +220,38 @@ module _ (c d : Columns) (j rows kind q v : ℕ) (g : Grown c d j rows kind q v)
       ap (λ (l : List Loop). l ++ (loopWith c j rows (x ∷ xs) ∷ [])) (loops-agree c d j rows a 0 j (omega arith))
       ∙ ap (λ (z : Loop). loopsFrom d 0 j ++ (z ∷ [])) y
 
-shown-none : (c d : Columns) (rows : ℕ) (xs : List Item) → shown c 0 rows xs ≡ shown d 0 rows xs
+shown-none : (c d : List ℕ) (rows : ℕ) (xs : List Item) → shown c 0 rows xs ≡ shown d 0 rows xs
 unfolding shown
 shown-none c d rows xs = refl
 
 -- THE STEPS: an item, a loop, an array
-sized-row : (c : Columns) (k r kind q v : ℕ) → Sized c → Sized (withRow k r kind q v c)
-unfolding withRow
-sized-row c k r kind q v s = record {
-  lens = s .lens;
-  firsts = s .firsts;
-  lasts = s .lasts;
-  starts = simp length-set (s .starts);
-  kinds = simp length-set (s .kinds);
-  arrays = simp length-set (s .arrays);
-  values = simp length-set (s .values);
-}
-
-sized-bounds : (c : Columns) (k f l : ℕ) → Sized c → Sized (withBounds k f l c)
-unfolding withBounds
-sized-bounds c k f l s = record {
-  lens = s .lens;
-  firsts = simp length-set (s .firsts);
-  lasts = simp length-set (s .lasts);
-  starts = s .starts;
-  kinds = s .kinds;
-  arrays = s .arrays;
-  values = s .values;
-}
-
--- a row at the end of loop j: b is c but for what no earlier loop has
-row-more : (c b : Columns) (a n j rows kind q v : ℕ) → Sized b → Kept c a n rows → j ≤ n → suc j ≤ 16 → rows < 528
-    → ((k : ℕ) → k < j → getD (c .firsts) k 0 ≡ getD (b .firsts) k 0) → ((k : ℕ) → k < j → getD (c .lasts) k 0 ≡ getD (b .lasts) k 0)
-    → b .starts ≡ c .starts → b .kinds ≡ c .kinds → b .arrays ≡ c .arrays → b .values ≡ c .values
+-- a row at the end of loop j: b is c but for the bounds of loop j
+row-more : (c b : List ℕ) (a n j rows kind q v : ℕ) → Sized b → Kept c a n rows → j ≤ n → suc j ≤ 16 → rows < 528
+    → ((i : ℕ) → (i ≡ 16 + j → ⊥) → (i ≡ 32 + j → ⊥) → getD b i 0 ≡ getD c i 0)
     → Grown c (withRow (suc j) rows kind q v b) j rows kind q v
-unfolding withRow
-row-more c b a n j rows kind q v z h l few room first last es ek ea ev = record {
+row-more c b a n j rows kind q v z h l few room same = record {
   sized = sized-row b (suc j) rows kind q v z;
   agree = record {
-    firsts = first;
-    lasts = last;
-    starts = λ k m. rw es (sym (getD-set-other (c .starts) (suc j) k (rows + 1) 0 (λ e. omega arith)));
+    firsts = λ k m. old (16 + k) (omega arith) (λ e. omega arith) (λ e. omega arith) (λ e. omega arith);
+    lasts = λ k m. old (32 + k) (omega arith) (λ e. omega arith) (λ e. omega arith) (λ e. omega arith);
+    starts = λ k m. old (48 + k) (omega arith) (λ e. omega arith) (λ e. omega arith) (λ e. omega arith);
     inside = λ k m. omega (arith, h .rising k (omega arith), starts-up c a n rows h (suc k) n (omega arith) (omega arith), h .end);
     within = λ k m. omega (arith, starts-up c a n rows h k n (omega arith) (omega arith), h .end);
-    kinds = λ r m. rw ek (sym (getD-set-other (c .kinds) rows r kind 0 (λ e. omega arith)));
-    arrays = λ r m. rw ea (sym (getD-set-other (c .arrays) rows r q 0 (λ e. omega arith)));
-    values = λ r m. rw ev (sym (getD-set-other (c .values) rows r v 0 (λ e. omega arith)));
+    kinds = λ r m. old (65 + 3 * r) (omega arith) (λ e. omega arith) (λ e. omega arith) (λ e. omega arith);
+    arrays = λ r m. old (65 + 3 * r + 1) (omega arith) (λ e. omega arith) (λ e. omega arith) (λ e. omega arith);
+    values = λ r m. old (65 + 3 * r + 2) (omega arith) (λ e. omega arith) (λ e. omega arith) (λ e. omega arith);
   };
-  past = getD-set-same (b .starts) (suc j) (rows + 1) 0 (omega (arith, z .starts));
-  kind-is = getD-set-same (b .kinds) rows kind 0 (omega (arith, z .kinds));
-  array-is = getD-set-same (b .arrays) rows q 0 (omega (arith, z .arrays));
-  value-is = getD-set-same (b .values) rows v 0 (omega (arith, z .values));
+  past = row-start b (suc j) rows kind q v z room (omega arith);
+  kind-is = row-kind b (suc j) rows kind q v z room;
+  array-is = row-array b (suc j) rows kind q v z room;
+  value-is = row-value b (suc j) rows kind q v z room;
 }
+  where
+    old : (i : ℕ) → i < 65 + 3 * rows → (i ≡ 48 + suc j → ⊥) → (i ≡ 16 + j → ⊥) → (i ≡ 32 + j → ⊥)
+        → getD c i 0 ≡ getD (withRow (suc j) rows kind q v b) i 0
+    old i low start first last = sym (row-leaves b (suc j) rows kind q v i low start ∙ same i first last)
 
-module _ (c : Columns) (rs : List Record) (rows : ℕ) (s : Stored c rs rows) where
+module _ (c : List ℕ) (rs : List Record) (rows : ℕ) (s : Stored c rs rows) where
   few : summary rs .items < 32 → rows < 528
   few i = omega (arith, s .room, s .kept .few-loops)
 
@@ -295,7 +260,7 @@ module _ (c : Columns) (rs : List Record) (rows : ℕ) (s : Stored c rs rows) wh
       (counted : summary (r ∷ rs) ≡ withItem w (summary rs)) (same : lengths (r ∷ rs) ≡ lengths rs)
       (added : (xs : List Item) → loopsOf (r ∷ rs) xs ≡ loopsOf rs (x ∷ xs))
       (open-loop : summary rs .loops ≡ suc m) (free : summary rs .items < 32) (small : q < 16) (offset : kind < 4 → v ≤ 510) where
-    d : Columns
+    d : List ℕ
     d = withRow (suc m) rows kind q v c
 
     kept-then : Kept c (summary rs .arrays) (suc m) rows
@@ -305,22 +270,25 @@ module _ (c : Columns) (rs : List Record) (rows : ℕ) (s : Stored c rs rows) wh
     unfolding d
     grown =
         row-more c c (summary rs .arrays) (suc m) m rows kind q v (s .sized) kept-then (omega arith) (kept-then .few-loops) (few free)
-        (λ k l. refl) (λ k l. refl) refl refl refl refl
+        (λ k f l. refl)
 
     latest : (xs : List Item) → shown c (suc m) rows (x ∷ xs) ≡ shown d (suc m) (rows + 1) xs
-    unfolding d withRow
+    unfolding d
     latest xs =
-        shown-grown c d m rows kind q v grown x xs i refl refl (omega (arith, kept-then .rising m (omega arith), kept-then .end))
+        shown-grown c d m rows kind q v grown x xs i
+        (sym (row-leaves c (suc m) rows kind q v (16 + m) (omega (arith, kept-then .few-loops)) (λ e. omega (arith, kept-then .few-loops))))
+        (sym (row-leaves c (suc m) rows kind q v (32 + m) (omega (arith, kept-then .few-loops)) (λ e. omega (arith, kept-then .few-loops))))
+        (omega (arith, kept-then .rising m (omega arith), kept-then .end))
 
     item-stored : Stored d (r ∷ rs) (rows + 1)
-    unfolding withItem d withRow
+    unfolding withItem d
     item-stored =
         let arrays : summary (r ∷ rs) .arrays ≡ summary rs .arrays = ap (λ (t : Summary). t .arrays) counted in
         let loops : summary (r ∷ rs) .loops ≡ suc m = ap (λ (t : Summary). t .loops) counted ∙ open-loop in
         let items : summary (r ∷ rs) .items ≡ summary rs .items + 1 = ap (λ (t : Summary). t .items) counted in
         record {
           sized = grown .sized;
-          lens = rw (arrays, same) (s .lens);
+          lens = rw (arrays, same, row-lengths c (suc m) rows kind q v (summary rs .arrays) (s .kept .few-arrays)) (s .lens);
           loops = λ xs.
               rw loops (added xs ∙ s .loops (x ∷ xs) ∙ ap (λ (n : ℕ). shown c n rows (x ∷ xs)) open-loop ∙ latest xs);
           kept =
@@ -336,31 +304,30 @@ module _ (c : Columns) (rs : List Record) (rows : ℕ) (s : Stored c rs rows) wh
     n : ℕ
     n = summary rs .loops
 
-    b : Columns
+    b : List ℕ
     b = withBounds n f l c
 
-    e : Columns
+    e : List ℕ
     e = withRow (suc n) rows 2 q o b
 
     begun : Grown c e n rows 2 q o
-    unfolding e b n withBounds
+    unfolding e b n
     begun =
         row-more c b (summary rs .arrays) n n rows 2 q o (sized-bounds c n f l (s .sized)) (s .kept) (omega arith) free (omega (arith, s .room, s .items))
-        (λ k h. sym (getD-set-other (c .firsts) n k f 0 (λ z. omega arith))) (λ k h. sym (getD-set-other (c .lasts) n k l 0 (λ z. omega arith)))
-        refl refl refl refl
+        (bounds-leave c n f l)
 
-    items-none : (r : ℕ) → itemsIn e r 0 ≡ []
+    items-none : (r : ℕ) → itemsFrom e r 0 ≡ []
     unfolding itemsFrom
     items-none r = refl
 
     head : (xs : List Item) → loopWith e n (rows + 1) xs ≡ record { first = f; last = l; body = record { array = q; offset = o; items = xs } ∷ [] }
-    unfolding e b n withRow withBounds
+    unfolding e b n
     head xs =
-        let at : getD (e .starts) n 0 ≡ rows = sym (begun .agree .starts n (omega arith)) ∙ s .kept .end in
+        let at : startAt e n ≡ rows = sym (begun .agree .starts n (omega arith)) ∙ s .kept .end in
         let z : rows + 1 - suc rows ≡ 0 = omega arith in
         rw (
-          getD-set-same (c .firsts) n f 0 (omega (arith, s .sized .firsts)),
-          getD-set-same (c .lasts) n l 0 (omega (arith, s .sized .lasts)),
+          row-leaves b (suc n) rows 2 q o (16 + n) (omega arith) (λ z. omega arith) ∙ bounds-first c n f l (s .sized) free,
+          row-leaves b (suc n) rows 2 q o (32 + n) (omega arith) (λ z. omega arith) ∙ bounds-last c n f l (s .sized) free,
           at,
           begun .array-is,
           begun .value-is,
@@ -368,9 +335,10 @@ module _ (c : Columns) (rs : List Record) (rows : ℕ) (s : Stored c rs rows) wh
           items-none (suc rows),
         )
 
-    lens-begun : e .lens ≡ c .lens
-    unfolding e b withRow withBounds
-    lens-begun = refl
+    lens-begun : take (summary rs .arrays) e ≡ take (summary rs .arrays) c
+    unfolding e b
+    lens-begun =
+        row-lengths b (suc n) rows 2 q o (summary rs .arrays) (s .kept .few-arrays) ∙ bounds-lengths c n f l (summary rs .arrays) (s .kept .few-arrays)
 
     loops-begun : (xs : List Item)
         → loopsOf rs [] ++ (record { first = f; last = l; body = record { array = q; offset = o; items = xs } ∷ [] } ∷ []) ≡ shown e (suc n) (rows + 1) xs
@@ -394,46 +362,37 @@ module _ (c : Columns) (rs : List Record) (rows : ℕ) (s : Stored c rs rows) wh
     }
 
   -- arrays come before the loops
-  array-stored : (k : ℕ) → summary rs .loops ≡ 0 → summary rs .arrays < 16
-      → Stored (withLength (summary rs .arrays) k c) (rec.Array k ∷ rs) rows
-  unfolding summary advanced withArray lengths loopsOf withLength
+  array-stored : (k : ℕ) → summary rs .loops ≡ 0 → summary rs .arrays < 16 → Stored (set c (summary rs .arrays) k) (rec.Array k ∷ rs) rows
+  unfolding summary advanced withArray lengths loopsOf
   array-stored k none free = record {
-    sized = record {
-      lens = simp length-set (s .sized .lens);
-      firsts = s .sized .firsts;
-      lasts = s .sized .lasts;
-      starts = s .sized .starts;
-      kinds = s .sized .kinds;
-      arrays = s .sized .arrays;
-      values = s .sized .values;
-    };
+    sized = simp length-set (s .sized);
     lens =
         let a = summary rs .arrays in
-        let h : a < length (set (c .lens) a k) = simp length-set (omega (arith, s .sized .lens)) in
+        let h : a < length (set c a k) = simp length-set (omega (arith, s .sized)) in
         rw (
           add-one a,
-          take-suc (set (c .lens) a k) a 0 h,
-          take-set-le a (c .lens) a k (omega arith),
-          getD-set-same (c .lens) a k 0 (omega (arith, s .sized .lens)),
+          take-suc (set c a k) a 0 h,
+          take-set-le a c a k (omega arith),
+          getD-set-same c a k 0 (omega (arith, s .sized)),
           s .lens,
         );
-    loops = λ xs. s .loops xs ∙ rw none (empty xs);
+    loops = λ xs. s .loops xs ∙ rw none (shown-none c (set c (summary rs .arrays) k) rows xs);
     kept = record {
       few-arrays = omega arith;
       few-loops = s .kept .few-loops;
       few-rows = s .kept .few-rows;
-      start = s .kept .start;
-      rising = s .kept .rising;
-      end = s .kept .end;
-      head = s .kept .head;
-      each = λ r h. record { array = s .kept .each r h .array; offset = s .kept .each r h .offset };
+      start = left 48 (omega arith) ∙ s .kept .start;
+      rising = λ j h. absurd (omega arith);
+      end = left (48 + summary rs .loops) (omega arith) ∙ s .kept .end;
+      head = λ j h. absurd (omega arith);
+      each = λ r h. absurd (omega (arith, s .room, s .items));
     };
     items = s .items;
     room = s .room;
   }
     where
-      empty : (xs : List Item) → shown c 0 rows xs ≡ shown (withLength (summary rs .arrays) k c) 0 rows xs
-      empty xs = shown-none c (withLength (summary rs .arrays) k c) rows xs
+      left : (i : ℕ) → 16 ≤ i → getD (set c (summary rs .arrays) k) i 0 ≡ getD c i 0
+      left i h = getD-set-other c (summary rs .arrays) i k 0 (λ e. omega arith)
 
   item-kept : (r : Record) (x : Item) (kind q v w : ℕ) → itemOf kind q v ≡ x → summary (r ∷ rs) ≡ withItem w (summary rs)
       → lengths (r ∷ rs) ≡ lengths rs → ((xs : List Item) → loopsOf (r ∷ rs) xs ≡ loopsOf rs (x ∷ xs))
@@ -462,7 +421,7 @@ module _ (c : Columns) (rs : List Record) (rows : ℕ) (s : Stored c rs rows) wh
   kept-stored rec.End clear other = absurd (other refl)
 
 -- before the first record
-pub stored-start : (c : Columns) → Sized c → getD (c .starts) 0 0 ≡ 0 → Stored c [] 0
+pub stored-start : (c : List ℕ) → Sized c → startAt c 0 ≡ 0 → Stored c [] 0
 unfolding summary blank lengths loopsOf shown
 stored-start c z e = record {
   sized = z;

@@ -1,16 +1,16 @@
-// Reads a loop table into columns that the caller lends.
+// Reads a loop table into a store that the caller lends.
 use records::Record;
+use records::Store;
 use records::Summary;
 use records::Tested;
 ghost use mathlib.Core.Path.{_≡_};
 ghost use Prim.Native.Nat.{_+_, _<_, _≤_};
-ghost use lib.ListN.{length, getD, set};
 ghost use Rattle.records.specs.Clear.{Room};
 ghost use Rattle.reader.specs.Reading.{reading};
-ghost use Rattle.reader.specs.Columns.{columns, answer, kept, rowsAfter, withRow, Places};
-ghost use Rattle.reader.specs.Stored.{Sized, Filled};
+ghost use Rattle.reader.specs.Store.{Sized, firstAt, lastAt, startAt, kindAt, arrayAt, valueAt, answer, kept, rowsAfter, withRow, withBounds, Places};
+ghost use Rattle.reader.specs.Stored.{Filled};
 
-// A refusal with its number and its place, or how many arrays, loops and rows the columns then hold.
+// A refusal with its number and its place, or how many arrays, loops and rows the store then holds.
 pub enum Reading {
     Refused {
         number: u32,
@@ -29,56 +29,102 @@ fn wide(x: u32) -> usize
     x as usize
 }
 
-// One row more: starts[k] is then past it.
-fn put_row(
-    k: usize,
-    r: usize,
-    kind: u8,
-    q: u32,
-    v: u32,
-    starts: &mut [usize; 17],
-    kinds: &mut [u8; 528],
-    arrays: &mut [u32; 528],
-    values: &mut [u32; 528],
-) -> usize
+fn narrow(x: usize) -> u32
+    requires { ⌜ x < 4294967296 ⌝ }
+    ensures { λ r. ⌜ r ≡ x ⌝ }
+{
+    x as u32
+}
+
+// The places of a store's parts.
+const FIRSTS_AT: usize = 16;
+
+const LASTS_AT: usize = 32;
+
+const STARTS_AT: usize = 48;
+
+const ROWS_AT: usize = 65;
+
+// The bounds of loop k.
+pub fn first_at(store: &Store, k: usize) -> u32
+    requires { ⌜ k < 16 ⌝ }
+    ensures { λ x. ⌜ x ≡ firstAt (now (store .entry)) k ⌝ }
+{
+    store[FIRSTS_AT + k]
+}
+
+pub fn last_at(store: &Store, k: usize) -> u32
+    requires { ⌜ k < 16 ⌝ }
+    ensures { λ x. ⌜ x ≡ lastAt (now (store .entry)) k ⌝ }
+{
+    store[LASTS_AT + k]
+}
+
+// The row at which loop k begins.
+pub fn start_at(store: &Store, k: usize) -> usize
+    requires { ⌜ k < 17 ⌝ }
+    ensures { λ x. ⌜ x ≡ startAt (now (store .entry)) k ⌝ }
+{
+    wide(store[STARTS_AT + k])
+}
+
+// The kind, the array and the value of row r.
+pub fn kind_at(store: &Store, r: usize) -> u32
+    requires { ⌜ r < 528 ⌝ }
+    ensures { λ x. ⌜ x ≡ kindAt (now (store .entry)) r ⌝ }
+{
+    store[ROWS_AT + 3 * r]
+}
+
+pub fn array_at(store: &Store, r: usize) -> u32
+    requires { ⌜ r < 528 ⌝ }
+    ensures { λ x. ⌜ x ≡ arrayAt (now (store .entry)) r ⌝ }
+{
+    store[ROWS_AT + 3 * r + 1]
+}
+
+pub fn value_at(store: &Store, r: usize) -> u32
+    requires { ⌜ r < 528 ⌝ }
+    ensures { λ x. ⌜ x ≡ valueAt (now (store .entry)) r ⌝ }
+{
+    store[ROWS_AT + 3 * r + 2]
+}
+
+// One row more: loop k begins past it.
+fn put_row(k: usize, r: usize, kind: u32, q: u32, v: u32, store: &mut Store) -> usize
     requires { ⌜ (k < 17) × (r < 528) ⌝ }
     ensures { λ n. ⌜ n ≡ r + 1 ⌝ }
-    ensures { λ n. ⌜ now (starts .exit) ≡ set (now (starts .entry)) k (r + 1) ⌝ }
-    ensures { λ n. ⌜ now (kinds .exit) ≡ set (now (kinds .entry)) r kind ⌝ }
-    ensures { λ n. ⌜ now (arrays .exit) ≡ set (now (arrays .entry)) r q ⌝ }
-    ensures { λ n. ⌜ now (values .exit) ≡ set (now (values .entry)) r v ⌝ }
+    ensures { λ n. ⌜ now (store .exit) ≡ withRow k r kind q v (now (store .entry)) ⌝ }
 {
-    starts[k] = r + 1;
-    kinds[r] = kind;
-    arrays[r] = q;
-    values[r] = v;
+    store[STARTS_AT + k] = narrow(r + 1);
+    let at = ROWS_AT + 3 * r;
+    store[at] = kind;
+    store[at + 1] = q;
+    store[at + 2] = v;
     r + 1
 }
 
+fn put_bounds(k: usize, first: u32, last: u32, store: &mut Store)
+    requires { ⌜ k < 16 ⌝ }
+    ensures { λ n. ⌜ now (store .exit) ≡ withBounds k first last (now (store .entry)) ⌝ }
+{
+    store[FIRSTS_AT + k] = first;
+    store[LASTS_AT + k] = last;
+}
+
 // Stores a record that met no ground, in row r; answers how many rows there are then.
-fn keep(
-    x: Record,
-    t: Summary,
-    r: usize,
-    lens: &mut [u32; 16],
-    firsts: &mut [u32; 16],
-    lasts: &mut [u32; 16],
-    starts: &mut [usize; 17],
-    kinds: &mut [u8; 528],
-    arrays: &mut [u32; 528],
-    values: &mut [u32; 528],
-) -> usize
+fn keep(x: Record, t: Summary, r: usize, store: &mut Store) -> usize
     requires { ⌜ Room x t ⌝ }
     requires { ⌜ Places t r × (rowsAfter x r ≤ 528) ⌝ }
     ensures { λ n. ⌜ n ≡ rowsAfter x r ⌝ }
-    ensures { λ n. ⌜ columns (now (lens .exit)) (now (firsts .exit)) (now (lasts .exit)) (now (starts .exit)) (now (kinds .exit)) (now (arrays .exit)) (now (values .exit)) ≡ kept x t r (columns (now (lens .entry)) (now (firsts .entry)) (now (lasts .entry)) (now (starts .entry)) (now (kinds .entry)) (now (arrays .entry)) (now (values .entry))) ⌝ }
+    ensures { λ n. ⌜ now (store .exit) ≡ kept x t r (now (store .entry)) ⌝ }
 {
     let k = wide(t.loops);
     match x {
         Record::Unknown => r,
         Record::Array(n) => {
             let at = wide(t.arrays);
-            lens[at] = n;
+            store[at] = n;
             r
         }
         Record::Loop {
@@ -87,58 +133,35 @@ fn keep(
             array,
             offset,
         } => {
-            firsts[k] = first;
-            lasts[k] = last;
-            put_row(k + 1, r, 2, array, offset, starts, kinds, arrays, values)
+            put_bounds(k, first, last, store);
+            put_row(k + 1, r, 2, array, offset, store)
         }
-        Record::Read { array, offset } => {
-            put_row(k, r, 3, array, offset, starts, kinds, arrays, values)
-        }
-        Record::Constant(n) => put_row(k, r, 4, 0, n, starts, kinds, arrays, values),
-        Record::Operation(o) => put_row(k, r, 5, 0, o, starts, kinds, arrays, values),
+        Record::Read { array, offset } => put_row(k, r, 3, array, offset, store),
+        Record::Constant(n) => put_row(k, r, 4, 0, n, store),
+        Record::Operation(o) => put_row(k, r, 5, 0, o, store),
         Record::End => r,
     }
 }
 
-// The table that the bytes are, in the lent columns, or the ground that they meet and its place.
-pub fn read_table(
-    s: &[u8],
-    lens: &mut [u32; 16],
-    firsts: &mut [u32; 16],
-    lasts: &mut [u32; 16],
-    starts: &mut [usize; 17],
-    kinds: &mut [u8; 528],
-    arrays: &mut [u32; 528],
-    values: &mut [u32; 528],
-) -> Reading
-    requires { ⌜ Sized (columns (now lens) (now firsts) (now lasts) (now starts) (now kinds) (now arrays) (now values)) ⌝ }
-    ensures { λ r. ⌜ answer r (columns (now (lens .exit)) (now (firsts .exit)) (now (lasts .exit)) (now (starts .exit)) (now (kinds .exit)) (now (arrays .exit)) (now (values .exit))) ≡ reading (now (s .entry)) ⌝ }
-    ensures { λ r. ⌜ Filled r (columns (now (lens .exit)) (now (firsts .exit)) (now (lasts .exit)) (now (starts .exit)) (now (kinds .exit)) (now (arrays .exit)) (now (values .exit))) ⌝ }
+// The table that the bytes are, in the lent store, or the ground that they meet and its place.
+pub fn read_table(s: &[u8], store: &mut Store) -> Reading
+    requires { ⌜ Sized (now store) ⌝ }
+    ensures { λ r. ⌜ answer r (now (store .exit)) ≡ reading (now (s .entry)) ⌝ }
+    ensures { λ r. ⌜ Filled r (now (store .exit)) ⌝ }
 {
     let mut t = Summary::blank();
     let mut at: usize = 0;
     let mut rows: usize = 0;
-    starts[0] = 0;
+    store[STARTS_AT] = 0;
     loop {
-        let found = decoding::read_record(s, at, t, lens);
+        let found = decoding::read_record(s, at, t, store);
         match found {
             Tested::Refused(g) => return Reading::Refused {
                 number: g,
                 place: at,
             },
             Tested::Passed(x, n) => {
-                rows = keep(
-                    x,
-                    t,
-                    rows,
-                    lens,
-                    firsts,
-                    lasts,
-                    starts,
-                    kinds,
-                    arrays,
-                    values,
-                );
+                rows = keep(x, t, rows, store);
                 t = t.advance(x);
                 at = n;
             }

@@ -4,6 +4,9 @@ ghost use Prim.Native.Nat.{_+_, _<_, _≤_};
 ghost use Rattle.records.specs.History.{operands, withArray, withLoop, withItem, advanced, blank};
 ghost use Rattle.records.specs.Clear.{Room};
 
+// A table as it is kept (reader/specs/Store.antt): the lengths of the arrays come first.
+pub type Store = [u32; 1649];
+
 pub enum Kind {
     Unknown,
     Array,

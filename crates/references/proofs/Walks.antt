@@ -12,35 +12,34 @@ use Rattle.order.specs.Lists.{joined}
 use Rattle.model.specs.declared.Reference.{Reference}
 use Rattle.model.specs.Table.{Item, read, constant, operation}
 use Rattle.model.specs.References.{reads}
-use Rattle.reader.specs.Columns.{itemOf, itemAt, itemsFrom}
-use Rattle.reader.specs.Columns.{columns as kept}
+use Rattle.reader.specs.Store.{startAt, kindAt, arrayAt, valueAt, itemOf, itemAt, itemsFrom}
 use Rattle.reader.specs.Stored.{Row}
 use native.Mathlib.Decide.{ℕ-discrete}
 use Rattle.amounts.specs.Columns.{Columns, refsFrom}
 use Rattle.references.specs.Collected.{Long, withReference, long-more, Added, added-one, added-then, added-few, Held, rowRefs, Collected}
 
-no-items : (ks qs vs : List ℕ) (k r : ℕ) → reads k (itemsFrom ks qs vs r 0) ≡ []
+no-items : (cs : List ℕ) (k r : ℕ) → reads k (itemsFrom cs r 0) ≡ []
 unfolding itemsFrom
-no-items ks qs vs k r = refl
+no-items cs k r = refl
 
-module _ (ks qs vs : List ℕ) (k : ℕ) where
+module _ (cs : List ℕ) (k : ℕ) where
   -- one row: a read adds its reference, another item none
-  pub row-read : (row : ℕ) → getD ks row 0 ≡ 3
-      → reads k (itemsFrom ks qs vs row 1) ≡ record { number = k; array = getD qs row 0; offset = getD vs row 0; stores = false } ∷ []
+  pub row-read : (row : ℕ) → kindAt cs row ≡ 3
+      → reads k (itemsFrom cs row 1) ≡ record { number = k; array = arrayAt cs row; offset = valueAt cs row; stores = false } ∷ []
   unfolding itemsFrom itemOf
   row-read row e = rw e
 
-  pub row-other : (row : ℕ) → (getD ks row 0 ≡ 3 → ⊥) → reads k (itemsFrom ks qs vs row 1) ≡ []
+  pub row-other : (row : ℕ) → (kindAt cs row ≡ 3 → ⊥) → reads k (itemsFrom cs row 1) ≡ []
   unfolding itemsFrom itemOf
-  row-other row n = go (eqb (getD ks row 0) 4) refl
+  row-other row n = go (eqb (kindAt cs row) 4) refl
     where
-      go : (b : Bool) → eqb (getD ks row 0) 4 ≡ b → reads k (itemsFrom ks qs vs row 1) ≡ []
+      go : (b : Bool) → eqb (kindAt cs row) 4 ≡ b → reads k (itemsFrom cs row 1) ≡ []
       go true e = rw (ne-eqb _ _ n, e)
       go false e = rw (ne-eqb _ _ n, e)
 
   -- the reads of the rows from `row` up to `past`
   abbrev pub readsFrom : ℕ → ℕ → List Reference
-  readsFrom row past = reads k (itemsFrom ks qs vs row (past - row))
+  readsFrom row past = reads k (itemsFrom cs row (past - row))
 
   append : (xs ys : List Item) → reads k (xs ++ ys) ≡ reads k xs ++ reads k ys
   append [] ys = refl
@@ -48,11 +47,11 @@ module _ (ks qs vs : List ℕ) (k : ℕ) where
   append (constant n ∷ xs) ys = append xs ys
   append (operation n ∷ xs) ys = append xs ys
 
-  split : (row past : ℕ) → row < past → readsFrom row past ≡ reads k (itemsFrom ks qs vs row 1) ++ readsFrom (row + 1) past
+  split : (row past : ℕ) → row < past → readsFrom row past ≡ reads k (itemsFrom cs row 1) ++ readsFrom (row + 1) past
   unfolding itemsFrom
   split row past l =
       let e : past - row ≡ suc (past - suc row) = omega arith in
-      rw (e, add-one row) (append (itemAt ks qs vs row ∷ []) (itemsFrom ks qs vs (suc row) (past - suc row)))
+      rw (e, add-one row) (append (itemAt cs row ∷ []) (itemsFrom cs (suc row) (past - suc row)))
 
   -- what was added, and the reads from `row` on, are all the reads from `from` on
   pub record Inv (c : Columns) (from past start : ℕ) (d : Columns) (row n : ℕ) : Type 0 where
@@ -66,7 +65,7 @@ module _ (ks qs vs : List ℕ) (k : ℕ) where
   start-row c from past start l = record { long = l; low = omega arith; high = omega arith; few = omega arith; rest = refl }
 
   pub next-row : (c d e : Columns) (from past start row n m : ℕ) → Inv c from past start d row n → row < past
-      → Added d n e m (reads k (itemsFrom ks qs vs row 1)) 1 → Inv c from past start e (row + 1) m
+      → Added d n e m (reads k (itemsFrom cs row 1)) 1 → Inv c from past start e (row + 1) m
   next-row c d e from past start row n m i l a = record {
     long = a .long;
     low = omega (arith, i .low);
@@ -74,7 +73,7 @@ module _ (ks qs vs : List ℕ) (k : ℕ) where
     few = omega (arith, i .low, i .few, a .few);
     rest =
         ap (λ (x : List Reference). x ++ readsFrom (row + 1) past) (a .is)
-        ∙ append-assoc (refsFrom d 0 n) (reads k (itemsFrom ks qs vs row 1)) (readsFrom (row + 1) past)
+        ∙ append-assoc (refsFrom d 0 n) (reads k (itemsFrom cs row 1)) (readsFrom (row + 1) past)
         ∙ ap (λ (x : List Reference). refsFrom d 0 n ++ x) (sym (split row past l))
         ∙ i .rest;
   }
@@ -90,27 +89,27 @@ module _ (ks qs vs : List ℕ) (k : ℕ) where
       none : readsFrom row past ≡ []
       none = let e : past - row ≡ 0 = omega arith in rw e (empty row)
         where
-          empty : (r : ℕ) → reads k (itemsFrom ks qs vs r 0) ≡ []
-          empty r = no-items ks qs vs k r
+          empty : (r : ℕ) → reads k (itemsFrom cs r 0) ≡ []
+          empty r = no-items cs k r
 
 -- LOOPS
-module _ (ss ks qs vs : List ℕ) (l : ℕ) where
-  pub loops-start : (c : Columns) → Long c → Held ss ks qs vs l → Collected ss ks qs vs 0 c 0
+module _ (cs : List ℕ) (l : ℕ) where
+  pub loops-start : (c : Columns) → Long c → Held cs l → Collected cs 0 c 0
   unfolding refsFrom
   loops-start c long h = record { long = long; is = refl; few = omega arith }
 
-  starts-up : Held ss ks qs vs l → (j k : ℕ) → j ≤ k → k ≤ l → getD ss j 0 ≤ getD ss k 0
+  starts-up : Held cs l → (j k : ℕ) → j ≤ k → k ≤ l → startAt cs j ≤ startAt cs k
   starts-up h j zero m n = let e : j ≡ 0 = omega arith in rw e (omega arith)
   starts-up h j (suc k) m n = go (ℕ-discrete j (suc k)) (starts-up h j k)
     where
-      go : Dec (j ≡ suc k) → (j ≤ k → k ≤ l → getD ss j 0 ≤ getD ss k 0) → getD ss j 0 ≤ getD ss (suc k) 0
+      go : Dec (j ≡ suc k) → (j ≤ k → k ≤ l → startAt cs j ≤ startAt cs k) → startAt cs j ≤ startAt cs (suc k)
       go (yes e) ih = rw e (omega arith)
       go (no e) ih = omega (arith, ih (omega arith) (omega arith), h .rising k n)
 
   -- what a loop of the table asks
-  pub loop-ready : (c : Columns) (k n : ℕ) → Held ss ks qs vs l → Collected ss ks qs vs k c n → k < l
-      → (k < 16) × (getD ss k 0 < getD ss (k + 1) 0) × (getD ss (k + 1) 0 ≤ 528) × (n ≤ getD ss k 0)
-      × ((r : ℕ) → r < getD ss (k + 1) 0 → Row (kept [] [] [] [] ks qs vs) r)
+  pub loop-ready : (c : Columns) (k n : ℕ) → Held cs l → Collected cs k c n → k < l
+      → (k < 16) × (startAt cs k < startAt cs (k + 1)) × (startAt cs (k + 1) ≤ 528) × (n ≤ startAt cs k)
+      × ((r : ℕ) → r < startAt cs (k + 1) → Row cs r)
   loop-ready c k n h i m =
       let up = starts-up h (suc k) l m (omega arith) in
       rw (add-one k) (omega (arith, h .few), h .rising k m, omega (arith, up, h .end), i .few, λ r x. h .each r (omega (arith, up)))
@@ -118,23 +117,23 @@ module _ (ss ks qs vs : List ℕ) (l : ℕ) where
   -- a loop's references, as the code has them
   abbrev given : ℕ → List Reference
   given k =
-      record { number = k; array = getD qs (getD ss k 0) 0; offset = getD vs (getD ss k 0) 0; stores = true }
-      ∷ reads k (itemsFrom ks qs vs (getD ss k 0 + 1) (getD ss (k + 1) 0 - (getD ss k 0 + 1)))
+      record { number = k; array = arrayAt cs (startAt cs k); offset = valueAt cs (startAt cs k); stores = true }
+      ∷ reads k (itemsFrom cs (startAt cs k + 1) (startAt cs (k + 1) - (startAt cs k + 1)))
 
-  same-given : (k : ℕ) → given k ≡ rowRefs ss ks qs vs k
-  same-given k = rw (add-one k, add-one (getD ss k 0))
+  same-given : (k : ℕ) → given k ≡ rowRefs cs k
+  same-given k = rw (add-one k, add-one (startAt cs k))
 
-  pub loops-next : (c d : Columns) (k n m : ℕ) → Collected ss ks qs vs k c n → Held ss ks qs vs l → k < l
-      → Added c n d m (given k) (getD ss (k + 1) 0 - getD ss k 0) → Collected ss ks qs vs (k + 1) d m
+  pub loops-next : (c d : Columns) (k n m : ℕ) → Collected cs k c n → Held cs l → k < l
+      → Added c n d m (given k) (startAt cs (k + 1) - startAt cs k) → Collected cs (k + 1) d m
   loops-next c d k n m i h b a =
       rw (add-one k)
       (record {
         long = a .long;
-        is = a .is ∙ ap (λ (x : List Reference). x ++ given k) (i .is) ∙ ap (λ (x : List Reference). joined k (rowRefs ss ks qs vs) ++ x) (same-given k);
+        is = a .is ∙ ap (λ (x : List Reference). x ++ given k) (i .is) ∙ ap (λ (x : List Reference). joined k (rowRefs cs) ++ x) (same-given k);
         few = few;
       })
     where
-      few : m ≤ getD ss (suc k) 0
+      few : m ≤ startAt cs (suc k)
       few = let u = rw (add-one k) at (a .few) in omega (arith, u, i .few, h .rising k b)
 
 -- a loop: its destination, then its reads

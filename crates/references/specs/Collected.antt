@@ -12,9 +12,7 @@ use Rattle.order.specs.Lists.{joined}
 use Rattle.model.specs.declared.Reference.{Reference}
 use Rattle.model.specs.References.{reads, allRefs}
 use Rattle.model.specs.References.{refs as loopRefs}
-use Rattle.reader.specs.Columns.{itemsFrom, tableAt, count-table, loop-table}
-use Rattle.reader.specs.Columns.{columns as kept}
-use Rattle.reader.specs.Columns.{Columns as Kept·Columns}
+use Rattle.reader.specs.Store.{startAt, kindAt, arrayAt, valueAt, itemsFrom, tableAt, count-table, loop-table}
 use Rattle.reader.specs.Stored.{Row, Kept}
 use Rattle.amounts.specs.Columns.{Columns, columns, refAt, refsFrom}
 
@@ -115,27 +113,27 @@ pub added-few : (c d : Columns) (n m : ℕ) (rs : List Reference) (a b : ℕ) �
 added-few c d n m rs a b h x = record { long = x .long; is = x .is; few = omega (arith, x .few) }
 
 -- the rows of so many loops
-pub record Held (ss ks qs vs : List ℕ) (l : ℕ) : Type 0 where
+pub record Held (cs : List ℕ) (l : ℕ) : Type 0 where
   pub few : l ≤ 16
-  pub rising : (k : ℕ) → k < l → getD ss k 0 < getD ss (suc k) 0
-  pub end : getD ss l 0 ≤ 528
-  pub head : (k : ℕ) → k < l → getD ks (getD ss k 0) 0 ≡ 2
-  pub each : (r : ℕ) → r < getD ss l 0 → Row (kept [] [] [] [] ks qs vs) r
+  pub rising : (k : ℕ) → k < l → startAt cs k < startAt cs (suc k)
+  pub end : startAt cs l ≤ 528
+  pub head : (k : ℕ) → k < l → kindAt cs (startAt cs k) ≡ 2
+  pub each : (r : ℕ) → r < startAt cs l → Row cs r
 
 -- loop k's references, from its rows
-abbrev pub rowRefs : List ℕ → List ℕ → List ℕ → List ℕ → ℕ → List Reference
-rowRefs ss ks qs vs k =
-    record { number = k; array = getD qs (getD ss k 0) 0; offset = getD vs (getD ss k 0) 0; stores = true }
-    ∷ reads k (itemsFrom ks qs vs (suc (getD ss k 0)) (getD ss (suc k) 0 - suc (getD ss k 0)))
+abbrev pub rowRefs : List ℕ → ℕ → List Reference
+rowRefs cs k =
+    record { number = k; array = arrayAt cs (startAt cs k); offset = valueAt cs (startAt cs k); stores = true }
+    ∷ reads k (itemsFrom cs (suc (startAt cs k)) (startAt cs (suc k) - suc (startAt cs k)))
 
 -- the first n references of the columns are those of l loops
-pub record Collected (ss ks qs vs : List ℕ) (l : ℕ) (c : Columns) (n : ℕ) : Type 0 where
+pub record Collected (cs : List ℕ) (l : ℕ) (c : Columns) (n : ℕ) : Type 0 where
   pub long : Long c
-  pub is : refsFrom c 0 n ≡ joined l (rowRefs ss ks qs vs)
-  pub few : n ≤ getD ss l 0
+  pub is : refsFrom c 0 n ≡ joined l (rowRefs cs)
+  pub few : n ≤ startAt cs l
 
 -- an accepted table's columns are such rows, and its references are theirs
-pub held : (c : Kept·Columns) (a l rows : ℕ) → Kept c a l rows → Held (c .starts) (c .kinds) (c .arrays) (c .values) l
+pub held : (c : List ℕ) (a l rows : ℕ) → Kept c a l rows → Held c l
 held c a l rows h = record {
   few = h .few-loops;
   rising = h .rising;
@@ -148,10 +146,10 @@ joined-same : {A : Type 0} (f g : ℕ → List A) (n : ℕ) → ((k : ℕ) → k
 joined-same f g zero e = refl
 joined-same f g (suc n) e = ap (λ l. l ++ f n) (joined-same f g n (λ k h. e k (omega arith))) ∙ ap (λ l. joined n g ++ l) (e n (omega arith))
 
-pub table-refs : (c : Kept·Columns) (a l : ℕ) → allRefs (tableAt c a l) ≡ joined l (rowRefs (c .starts) (c .kinds) (c .arrays) (c .values))
+pub table-refs : (c : List ℕ) (a l : ℕ) → allRefs (tableAt c a l) ≡ joined l (rowRefs c)
 table-refs c a l =
     ap (λ (n : ℕ). joined n (loopRefs (tableAt c a l))) (count-table c a l)
-    ∙ joined-same (loopRefs (tableAt c a l)) (rowRefs (c .starts) (c .kinds) (c .arrays) (c .values)) l each
+    ∙ joined-same (loopRefs (tableAt c a l)) (rowRefs c) l each
   where
-    each : (k : ℕ) → k < l → loopRefs (tableAt c a l) k ≡ rowRefs (c .starts) (c .kinds) (c .arrays) (c .values) k
-    each k h = rw (loop-table c a l k h) (append-nil (rowRefs (c .starts) (c .kinds) (c .arrays) (c .values) k))
+    each : (k : ℕ) → k < l → loopRefs (tableAt c a l) k ≡ rowRefs c k
+    each k h = rw (loop-table c a l k h) (append-nil (rowRefs c k))

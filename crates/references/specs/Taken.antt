@@ -10,7 +10,7 @@ use lib.ListN.{length, getD, take, length-take, List·getD-eq-default}
 use lib.Seq.{getD-take}
 use Rattle.order.specs.Lists.{joined, Before, bhere, bthere, before-joined, mem-joined, before-left, before-right}
 use Rattle.model.specs.declared.Reference.{Reference}
-use Rattle.reader.specs.Columns.{itemsFrom}
+use Rattle.reader.specs.Store.{startAt, kindAt, arrayAt, valueAt, itemsFrom}
 use Rattle.amounts.specs.Columns.{Columns, columns, refAt, refsFrom, refs, refsFrom-mem, WellFormed}
 use Rattle.chains.specs.Tables.{reads-number}
 use Rattle.references.specs.Collected.{Long, Held, rowRefs, same-before}
@@ -19,8 +19,8 @@ abbrev pub cut : ℕ → Columns → Columns
 cut n c = columns (take n (c .loops)) (take n (c .arrays)) (take n (c .offsets)) (take n (c .stores))
 
 -- a loop's references have its number
-row-number : (ss ks qs vs : List ℕ) (k : ℕ) (r : Reference) → Mem r (rowRefs ss ks qs vs k) → r .number ≡ k
-row-number ss ks qs vs k r m = ⊎-elim (λ e. ap (λ (q : Reference). q .number) e) (reads-number k (itemsFrom ks qs vs (suc (getD ss k 0)) (getD ss (suc k) 0 - suc (getD ss k 0))) r) (cases-cons m)
+row-number : (cs : List ℕ) (k : ℕ) (r : Reference) → Mem r (rowRefs cs k) → r .number ≡ k
+row-number cs k r m = ⊎-elim (λ e. ap (λ (q : Reference). q .number) e) (reads-number k (itemsFrom cs (suc (startAt cs k)) (startAt cs (suc k) - suc (startAt cs k))) r) (cases-cons m)
 
 module _ (c : Columns) (n : ℕ) (long : Long c) (few : n ≤ 528) where
   cut-at : (j : ℕ) → j < n → refAt (cut n c) j ≡ refAt c j
@@ -51,18 +51,18 @@ module _ (c : Columns) (n : ℕ) (long : Long c) (few : n ≤ 528) where
       go (yes e) ih = bhere (ap (refAt c) (sym e)) (refsFrom-mem c (suc i) m k (omega arith) (omega arith))
       go (no e) ih = bthere (ih (omega arith) b (omega arith))
 
-  module _ (ss ks qs vs : List ℕ) (l : ℕ) (h : Held ss ks qs vs l) (is : refsFrom c 0 n ≡ joined l (rowRefs ss ks qs vs)) where
+  module _ (cs : List ℕ) (l : ℕ) (h : Held cs l) (is : refsFrom c 0 n ≡ joined l (rowRefs cs)) where
     number-at : (j : ℕ) → j < n → getD (c .loops) j 0 < l
     number-at j m =
-        let (k, a, b) = mem-joined (rowRefs ss ks qs vs) l (rw is at (refsFrom-mem c 0 n j (omega arith) (omega arith))) in
-        omega (arith, row-number ss ks qs vs k (refAt c j) b)
+        let (k, a, b) = mem-joined (rowRefs cs) l (rw is at (refsFrom-mem c 0 n j (omega arith) (omega arith))) in
+        omega (arith, row-number cs k (refAt c j) b)
 
     rising-at : (j k : ℕ) → j < k → k < n → getD (c .loops) j 0 ≤ getD (c .loops) k 0
     rising-at j k a b =
         ⊎-elim
-        (λ (i, p, q). omega (arith, row-number ss ks qs vs i (refAt c j) (before-left q), row-number ss ks qs vs i (refAt c k) (before-right q)))
-        (λ (i, m, p, q, r, u). omega (arith, row-number ss ks qs vs i (refAt c j) r, row-number ss ks qs vs m (refAt c k) u))
-        (before-joined (rowRefs ss ks qs vs) l (rw is at (before-at 0 n j k (omega arith) a (omega arith))))
+        (λ (i, p, q). omega (arith, row-number cs i (refAt c j) (before-left q), row-number cs i (refAt c k) (before-right q)))
+        (λ (i, m, p, q, r, u). omega (arith, row-number cs i (refAt c j) r, row-number cs m (refAt c k) u))
+        (before-joined (rowRefs cs) l (rw is at (before-at 0 n j k (omega arith) a (omega arith))))
 
     pub cut-formed : WellFormed (cut n c)
     cut-formed = record {

@@ -10,8 +10,8 @@ use lib.Dec.{eqb}
 use borrow.Author.Tests.{ne-eqb}
 use Rattle.model.specs.Table.{Item, read, constant, operation, loop}
 use Rattle.reader.specs.Reading.{accepted, refused, reading}
-use Rattle.reader.specs.Columns.{Columns, itemOf, itemAt, itemsFrom, loopAt, tableAt, loop-table, count-table}
-use Rattle.reader.specs.Stored.{Sized, Kept, starts-up}
+use Rattle.reader.specs.Store.{Sized, startAt, kindAt, arrayAt, valueAt, itemOf, itemAt, itemsFrom, loopAt, tableAt, loop-table, count-table}
+use Rattle.reader.specs.Stored.{Kept, starts-up}
 use Rattle.serial.specs.declared.Collision.{Collision}
 use Rattle.serial.specs.declared.Collision.the-variants.{Nothing, Read}
 use Rattle.serial.specs.declared.Checked.{Checked}
@@ -26,10 +26,10 @@ pub far : {a b x y : ℕ} (s : ℕ) → a ≡ x → b ≡ y → a + s < b → x 
 far s e f h = omega arith
 
 -- ROWS
-module _ (span a c : ℕ) (ks qs vs : List ℕ) where
+module _ (span a c : ℕ) (s : List ℕ) where
   -- the reads from a row on, where n came before
   abbrev pub hitFrom : ℕ → ℕ → ℕ → Collision
-  hitFrom row past n = hit span a c (itemsFrom ks qs vs row (past - row)) n
+  hitFrom row past n = hit span a c (itemsFrom s row (past - row)) n
 
   pub record Inv (from past row reads : ℕ) : Type 0 where
     pub low : from ≤ row
@@ -39,37 +39,37 @@ module _ (span a c : ℕ) (ks qs vs : List ℕ) where
   pub start : (from past : ℕ) → Inv from past from 0
   start from past = record { low = omega arith; few = omega arith; rest = refl }
 
-  split : (row past : ℕ) → row < past → itemsFrom ks qs vs row (past - row) ≡ itemAt ks qs vs row ∷ itemsFrom ks qs vs (row + 1) (past - (row + 1))
+  split : (row past : ℕ) → row < past → itemsFrom s row (past - row) ≡ itemAt s row ∷ itemsFrom s (row + 1) (past - (row + 1))
   unfolding itemsFrom
   split row past l = let e : past - row ≡ suc (past - (row + 1)) = omega arith in rw (e, add-one row)
 
-  at-read : (row : ℕ) → getD ks row 0 ≡ 3 → itemAt ks qs vs row ≡ read (getD qs row 0) (getD vs row 0)
+  at-read : (row : ℕ) → kindAt s row ≡ 3 → itemAt s row ≡ read (arrayAt s row) (valueAt s row)
   unfolding itemOf
   at-read row e = rw e
 
   module _ (from past row reads : ℕ) (inv : Inv from past row reads) (l : row < past) where
-    here : (x : Item) → itemAt ks qs vs row ≡ x → hit span a c (x ∷ itemsFrom ks qs vs (row + 1) (past - (row + 1))) reads ≡ hitFrom from past 0
-    here x e = ap (λ (xs : List Item). hit span a c xs reads) (sym (split row past l ∙ ap (λ (y : Item). y ∷ itemsFrom ks qs vs (row + 1) (past - (row + 1))) e)) ∙ inv .rest
+    here : (x : Item) → itemAt s row ≡ x → hit span a c (x ∷ itemsFrom s (row + 1) (past - (row + 1))) reads ≡ hitFrom from past 0
+    here x e = ap (λ (xs : List Item). hit span a c xs reads) (sym (split row past l ∙ ap (λ (y : Item). y ∷ itemsFrom s (row + 1) (past - (row + 1))) e)) ∙ inv .rest
 
-    pub found : getD ks row 0 ≡ 3 → collides span a c (getD qs row 0) (getD vs row 0) ≡ true → Read reads ≡ hitFrom from past 0
+    pub found : kindAt s row ≡ 3 → collides span a c (arrayAt s row) (valueAt s row) ≡ true → Read reads ≡ hitFrom from past 0
     unfolding hit
-    found k e = rw e at (here (read (getD qs row 0) (getD vs row 0)) (at-read row k))
+    found k e = rw e at (here (read (arrayAt s row) (valueAt s row)) (at-read row k))
 
-    pub passed : getD ks row 0 ≡ 3 → collides span a c (getD qs row 0) (getD vs row 0) ≡ false → Inv from past (row + 1) (reads + 1)
+    pub passed : kindAt s row ≡ 3 → collides span a c (arrayAt s row) (valueAt s row) ≡ false → Inv from past (row + 1) (reads + 1)
     unfolding hit
     passed k e = record {
       low = omega (arith, inv .low);
       few = omega (arith, inv .few);
-      rest = rw e at (here (read (getD qs row 0) (getD vs row 0)) (at-read row k));
+      rest = rw e at (here (read (arrayAt s row) (valueAt s row)) (at-read row k));
     }
 
-    pub other : (getD ks row 0 ≡ 3 → ⊥) → Inv from past (row + 1) reads
+    pub other : (kindAt s row ≡ 3 → ⊥) → Inv from past (row + 1) reads
     unfolding hit itemOf
-    other k = record { low = omega (arith, inv .low); few = omega (arith, inv .few); rest = go (eqb (getD ks row 0) 4) refl }
+    other k = record { low = omega (arith, inv .low); few = omega (arith, inv .few); rest = go (eqb (kindAt s row) 4) refl }
       where
-        go : (b : Bool) → eqb (getD ks row 0) 4 ≡ b → hitFrom (row + 1) past reads ≡ hitFrom from past 0
-        go true e = here (constant (getD vs row 0)) (rw (ne-eqb _ _ k, e))
-        go false e = here (operation (getD vs row 0)) (rw (ne-eqb _ _ k, e))
+        go : (b : Bool) → eqb (kindAt s row) 4 ≡ b → hitFrom (row + 1) past reads ≡ hitFrom from past 0
+        go true e = here (constant (valueAt s row)) (rw (ne-eqb _ _ k, e))
+        go false e = here (operation (valueAt s row)) (rw (ne-eqb _ _ k, e))
 
   pub none : (from past row reads : ℕ) → Inv from past row reads → past ≤ row → Nothing ≡ hitFrom from past 0
   unfolding hit itemsFrom
@@ -77,13 +77,13 @@ module _ (span a c : ℕ) (ks qs vs : List ℕ) where
 
 -- LOOPS
 -- the rows of a loop that there is
-pub rows-known : (c : Columns) (a l rows : ℕ) → Kept c a l rows → (k : ℕ) → k < l
-    → (k < 16) × (getD (c .starts) k 0 < 528) × (getD (c .starts) (k + 1) 0 ≤ 528)
+pub rows-known : (c : List ℕ) (a l rows : ℕ) → Kept c a l rows → (k : ℕ) → k < l
+    → (k < 16) × (startAt c k < 528) × (startAt c (k + 1) ≤ 528)
 rows-known c a l rows h k m =
     let p = starts-up c a l rows h (suc k) l m (omega arith) in
     (omega (arith, h .few-loops), omega (arith, p, h .rising k m, h .end, h .few-rows), rw (add-one k) (omega (arith, p, h .end, h .few-rows)))
 
-module _ (c : Columns) (a : ℕ) where
+module _ (c : List ℕ) (a : ℕ) where
   module _ (l rows : ℕ) where
     -- the loops from k on give what all loops give
     pub record LoopInv (k : ℕ) : Type 0 where
@@ -113,7 +113,7 @@ module _ (c : Columns) (a : ℕ) where
     loops-done k inv h = let e : l - k ≡ 0 = omega arith in record { is = rw e at (inv .rest); named = (refl, refl, refl) }
 
 -- A WHOLE TABLE
-module _ (c : Columns) (s : List ℕ) (a l rows : ℕ) (e : accepted (tableAt c a l) ≡ reading s) where
+module _ (c : List ℕ) (s : List ℕ) (a l rows : ℕ) (e : accepted (tableAt c a l) ≡ reading s) where
   whole : serialFrom (tableAt c a l) 0 l ≡ table s
   unfolding table through
   whole = ap (serialFrom (tableAt c a l) 0) (sym (count-table c a l)) ∙ ap through e
@@ -126,7 +126,7 @@ module _ (c : Columns) (s : List ℕ) (a l rows : ℕ) (e : accepted (tableAt c 
   pub checked : Sized c × Kept c a l rows → (r : Checked) → Lowest r c a l rows → (answer r c ≡ table s) × Left r c s
   checked f r h = (h .is ∙ whole, left f r (h .named))
 
-pub refused-reading : (c : Columns) (s : List ℕ) (g p : ℕ) → refused g p ≡ reading s
+pub refused-reading : (c : List ℕ) (s : List ℕ) (g p : ℕ) → refused g p ≡ reading s
     → (answer (Refused g p) c ≡ table s) × Left (Refused g p) c s
 unfolding table through answer
 refused-reading c s g p e = (ap through e, sym e)

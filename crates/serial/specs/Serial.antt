@@ -6,8 +6,8 @@ use mathlib.Core.List.{List, [], _∷_}
 use lib.Dec.{eqb, leb}
 use Rattle.model.specs.Table.{Item, read, constant, operation, Statement, Loop, Table, loop, count}
 use Rattle.reader.specs.Reading.{Answer, accepted, refused, reading}
-use Rattle.reader.specs.Columns.{Columns, loopAt, tableAt}
-use Rattle.reader.specs.Stored.{Sized, Kept}
+use Rattle.reader.specs.Store.{Sized, loopAt, tableAt}
+use Rattle.reader.specs.Stored.{Kept}
 use Rattle.serial.specs.declared.Collision.{Collision}
 use Rattle.serial.specs.declared.Collision.the-variants.{Nothing, Read}
 use Rattle.serial.specs.declared.Checked.{Checked}
@@ -54,25 +54,25 @@ through (accepted t) = serialFrom t 0 (count t)
 unfoldable pub table : List ℕ → Answer
 table s = through (reading s)
 
--- what the code's answer says, with the columns that it left
-unfoldable pub answer : Checked → Columns → Answer
+-- what the code's answer says, with the store that it left
+unfoldable pub answer : Checked → List ℕ → Answer
 answer (Refused g p) c = refused g p
 answer (Serial k n) c = refused 9 k
 answer (Accepted arrays loops rows) c = accepted (tableAt c arrays loops)
 
-abbrev pub Which : Checked → Columns → ℕ → ℕ → ℕ → Type 0
+abbrev pub Which : Checked → List ℕ → ℕ → ℕ → ℕ → Type 0
 Which (Refused g p) c a l rows = ⊥
 Which (Serial k n) c a l rows = (k < l) × (loopHit (loopAt c k) ≡ Read n)
 Which (Accepted b m r) c a l rows = (b ≡ a) × (m ≡ l) × (r ≡ rows)
 
--- the code's answer on a table in columns that was read: its loop is the lowest that collides, its read the first in that loop
-pub record Lowest (r : Checked) (c : Columns) (a l rows : ℕ) : Type 0 where
+-- the code's answer on a table in store that was read: its loop is the lowest that collides, its read the first in that loop
+pub record Lowest (r : Checked) (c : List ℕ) (a l rows : ℕ) : Type 0 where
   pub is : answer r c ≡ serialFrom (tableAt c a l) 0 l
   pub named : Which r c a l rows
 
 -- what is left with the answer: that the reading refused; of 9 that the loop is one of the table, with its first read that collides;
--- an accepted table's columns
-abbrev pub Left : Checked → Columns → List ℕ → Type 0
+-- an accepted table's store
+abbrev pub Left : Checked → List ℕ → List ℕ → Type 0
 Left (Refused g p) c s = reading s ≡ refused g p
 Left (Serial k n) c s = (a : ℕ) × (l : ℕ) × (reading s ≡ accepted (tableAt c a l)) × (k < l) × (loopHit (loopAt c k) ≡ Read n)
 Left (Accepted a l r) c s = Sized c × Kept c a l r

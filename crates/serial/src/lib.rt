@@ -1,11 +1,10 @@
 // Ground 9: two different iterations of one loop meet at an element, one of them storing.
 use reader::Reading;
+use records::Store;
 ghost use mathlib.Core.Path.{_≡_};
-ghost use mathlib.Core.List.{[]};
 ghost use Prim.Native.Nat.{_+_, _-_, _<_, _≤_};
-ghost use lib.ListN.{getD};
-ghost use Rattle.reader.specs.Columns.{columns, itemsFrom, loopAt};
-ghost use Rattle.reader.specs.Stored.{Sized, Kept};
+ghost use Rattle.reader.specs.Store.{Sized, startAt, itemsFrom, loopAt};
+ghost use Rattle.reader.specs.Stored.{Kept};
 ghost use Rattle.serial.specs.Serial.{collides, hit, loopHit, table, answer, Lowest, Left};
 
 // Whether a read of a loop meets its destination in another iteration, and which, numbered from 0 among the loop's reads.
@@ -14,7 +13,7 @@ pub enum Collision {
     Read(usize),
 }
 
-// A refusal with its number and its place; 9 with its loop and a read; or how many arrays, loops and rows the columns then hold.
+// A refusal with its number and its place; 9 with its loop and a read; or how many arrays, loops and rows the store then holds.
 pub enum Checked {
     Refused {
         number: u32,
@@ -58,24 +57,21 @@ fn collide(span: usize, a: u32, c: u32, b: u32, o: u32) -> bool
 }
 
 // The reads among the rows from `from` up to `past`, of a loop whose destination is in array a at offset c.
-fn first_hit(
-    kinds: &[u8; 528],
-    arrays: &[u32; 528],
-    values: &[u32; 528],
-    from: usize,
-    past: usize,
-    span: usize,
-    a: u32,
-    c: u32,
-) -> Collision
+fn first_hit(store: &Store, from: usize, past: usize, span: usize, a: u32, c: u32) -> Collision
     requires { ⌜ (past ≤ 528) × (span < 4294967296) ⌝ }
-    ensures { λ r. ⌜ r ≡ hit span a c (itemsFrom (now (kinds .entry)) (now (arrays .entry)) (now (values .entry)) from (past - from)) 0 ⌝ }
+    ensures { λ r. ⌜ r ≡ hit span a c (itemsFrom (now (store .entry)) from (past - from)) 0 ⌝ }
 {
     let mut row = from;
     let mut reads: usize = 0;
     while row < past {
-        if kinds[row] == 3 {
-            if collide(span, a, c, arrays[row], values[row]) {
+        if reader::kind_at(store, row) == 3 {
+            if collide(
+                span,
+                a,
+                c,
+                reader::array_at(store, row),
+                reader::value_at(store, row),
+            ) {
                 return Collision::Read(reads);
             }
             reads += 1;
@@ -93,52 +89,31 @@ fn span_of(first: u32, last: u32) -> usize
 }
 
 // The first read of loop k that collides.
-fn loop_hit(
-    k: usize,
-    firsts: &[u32; 16],
-    lasts: &[u32; 16],
-    starts: &[usize; 17],
-    kinds: &[u8; 528],
-    arrays: &[u32; 528],
-    values: &[u32; 528],
-) -> Collision
-    requires { ⌜ (k < 16) × (getD (now starts) k 0 < 528) × (getD (now starts) (k + 1) 0 ≤ 528) ⌝ }
-    ensures { λ r. ⌜ r ≡ loopHit (loopAt (columns [] (now (firsts .entry)) (now (lasts .entry)) (now (starts .entry)) (now (kinds .entry)) (now (arrays .entry)) (now (values .entry))) k) ⌝ }
+fn loop_hit(k: usize, store: &Store) -> Collision
+    requires { ⌜ (k < 16) × (startAt (now store) k < 528) × (startAt (now store) (k + 1) ≤ 528) ⌝ }
+    ensures { λ r. ⌜ r ≡ loopHit (loopAt (now (store .entry)) k) ⌝ }
 {
-    let from = starts[k];
-    let past = starts[k + 1];
-    let span = span_of(firsts[k], lasts[k]);
+    let from = reader::start_at(store, k);
+    let past = reader::start_at(store, k + 1);
+    let span = span_of(reader::first_at(store, k), reader::last_at(store, k));
     first_hit(
-        kinds,
-        arrays,
-        values,
+        store,
         from + 1,
         past,
         span,
-        arrays[from],
-        values[from],
+        reader::array_at(store, from),
+        reader::value_at(store, from),
     )
 }
 
-// The loops of a table in columns, from the first on.
-fn check_loops(
-    a: usize,
-    loops: usize,
-    rows: usize,
-    lens: &[u32; 16],
-    firsts: &[u32; 16],
-    lasts: &[u32; 16],
-    starts: &[usize; 17],
-    kinds: &[u8; 528],
-    arrays: &[u32; 528],
-    values: &[u32; 528],
-) -> Checked
-    requires { ⌜ Kept (columns (now lens) (now firsts) (now lasts) (now starts) (now kinds) (now arrays) (now values)) a loops rows ⌝ }
-    ensures { λ r. ⌜ Lowest r (columns (now (lens .entry)) (now (firsts .entry)) (now (lasts .entry)) (now (starts .entry)) (now (kinds .entry)) (now (arrays .entry)) (now (values .entry))) a loops rows ⌝ }
+// The loops of a table in a store, from the first on.
+fn check_loops(a: usize, loops: usize, rows: usize, store: &Store) -> Checked
+    requires { ⌜ Kept (now store) a loops rows ⌝ }
+    ensures { λ r. ⌜ Lowest r (now (store .entry)) a loops rows ⌝ }
 {
     let mut k: usize = 0;
     while k < loops {
-        let hit = loop_hit(k, firsts, lasts, starts, kinds, arrays, values);
+        let hit = loop_hit(k, store);
         match hit {
             Collision::Nothing => k += 1,
             Collision::Read(n) => return Checked::Serial { number: k, read: n },
@@ -151,41 +126,19 @@ fn check_loops(
     }
 }
 
-// The table that the bytes are, read through 9 into the lent columns, or the ground that they meet.
-pub fn check_table(
-    s: &[u8],
-    lens: &mut [u32; 16],
-    firsts: &mut [u32; 16],
-    lasts: &mut [u32; 16],
-    starts: &mut [usize; 17],
-    kinds: &mut [u8; 528],
-    arrays: &mut [u32; 528],
-    values: &mut [u32; 528],
-) -> Checked
-    requires { ⌜ Sized (columns (now lens) (now firsts) (now lasts) (now starts) (now kinds) (now arrays) (now values)) ⌝ }
-    ensures { λ r. ⌜ answer r (columns (now (lens .exit)) (now (firsts .exit)) (now (lasts .exit)) (now (starts .exit)) (now (kinds .exit)) (now (arrays .exit)) (now (values .exit))) ≡ table (now (s .entry)) ⌝ }
-    ensures { λ r. ⌜ Left r (columns (now (lens .exit)) (now (firsts .exit)) (now (lasts .exit)) (now (starts .exit)) (now (kinds .exit)) (now (arrays .exit)) (now (values .exit))) (now (s .entry)) ⌝ }
+// The table that the bytes are, read through 9 into the lent store, or the ground that they meet.
+pub fn check_table(s: &[u8], store: &mut Store) -> Checked
+    requires { ⌜ Sized (now store) ⌝ }
+    ensures { λ r. ⌜ answer r (now (store .exit)) ≡ table (now (s .entry)) ⌝ }
+    ensures { λ r. ⌜ Left r (now (store .exit)) (now (s .entry)) ⌝ }
 {
-    let r = reader::read_table(s, lens, firsts, lasts, starts, kinds, arrays, values);
+    let r = reader::read_table(s, store);
     match r {
         Reading::Refused { number, place } => Checked::Refused { number, place },
         Reading::Accepted {
-            arrays: a,
+            arrays,
             loops,
             rows,
-        } => {
-            check_loops(
-                a,
-                loops,
-                rows,
-                lens,
-                firsts,
-                lasts,
-                starts,
-                kinds,
-                arrays,
-                values,
-            )
-        }
+        } => check_loops(arrays, loops, rows, store),
     }
 }

@@ -4,14 +4,13 @@ use native.Mathlib.Omega.{arith}
 use mathlib.Core.Path.{_≡_, refl, sym, ap, _∙_}
 use mathlib.Core.List.{List}
 use Rattle.reader.specs.Reading.{accepted, refused}
-use Rattle.reader.specs.Columns.{Columns}
 use Rattle.serial.specs.declared.Checked.the-variants.{Refused, Serial, Accepted}
 use Rattle.serial.specs.Serial.{table, answer, Left}
 use Rattle.serial.specs.Named.{named-collides}
 use Rattle.grounds.specs.Theorems.{refused-number}
 use Rattle.tables.specs.Verdict.{numberOf, placeOf, Tells, refusing, Outlined}
 
-module _ (s : List ℕ) (c : Columns) where
+module _ (s : List ℕ) (c : List ℕ) where
   pub told-refused : (g p n : ℕ) → answer (Refused g p) c ≡ table s → Left (Refused g p) c s → n ≡ g
       → Tells s (table s) n p 0
   unfolding answer

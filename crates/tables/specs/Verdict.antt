@@ -6,8 +6,8 @@ use Rattle.model.specs.Table.{Table}
 use Rattle.reader.specs.Reading.{Answer, accepted, refused, reading}
 use Rattle.serial.specs.Serial.{table}
 use Rattle.serial.specs.Meeting.{Collides}
-use Rattle.reader.specs.Columns.{Columns, tableAt}
-use Rattle.reader.specs.Stored.{Sized, Kept}
+use Rattle.reader.specs.Store.{Sized, tableAt}
+use Rattle.reader.specs.Stored.{Kept}
 use Rattle.tables.specs.declared.Verdict.{Verdict}
 use Rattle.tables.specs.declared.Outline.{Outline}
 
@@ -30,11 +30,11 @@ pub record Tells (s : List ℕ) (a : Answer) (number place read : ℕ) : Type 0 
 abbrev pub Told : List ℕ → Answer → Verdict → Type 0
 Told s a v = Tells s a (v .number) (v .place) (v .read)
 
--- a refusal has no columns
+-- a refusal has no store
 abbrev pub refusing : ℕ → ℕ → ℕ → Outline
 refusing number place read = record { number = number; place = place; read = read; arrays = 0; loops = 0; rows = 0 }
 
--- the same of an outline, and where there is no refusal the columns hold the table
-pub record Outlined (s : List ℕ) (r : Outline) (c : Columns) : Type 0 where
+-- the same of an outline, and where there is no refusal the store holds the table
+pub record Outlined (s : List ℕ) (r : Outline) (c : List ℕ) : Type 0 where
   pub told : Tells s (table s) (r .number) (r .place) (r .read)
   pub held : r .number ≡ 0 → (table s ≡ accepted (tableAt c (r .arrays) (r .loops))) × Sized c × Kept c (r .arrays) (r .loops) (r .rows)

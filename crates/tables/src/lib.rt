@@ -1,8 +1,8 @@
 // A table's bytes, accepted or refused.
+use records::Store;
 use serial::Checked;
 ghost use mathlib.Core.Path.{_≡_};
-ghost use Rattle.reader.specs.Columns.{columns};
-ghost use Rattle.reader.specs.Stored.{Sized};
+ghost use Rattle.reader.specs.Store.{Sized};
 ghost use Rattle.serial.specs.Serial.{table};
 ghost use Rattle.tables.specs.Verdict.{Told, refusing, Outlined};
 
@@ -19,7 +19,7 @@ fn wide(x: u32) -> usize
     x as usize
 }
 
-// The same, with how many arrays, loops and rows the columns of an accepted table have.
+// The same, with how many arrays, loops and rows the store of an accepted table has.
 pub struct Outline {
     pub number: usize,
     pub place: usize,
@@ -42,33 +42,24 @@ fn refusal(number: usize, place: usize, read: usize) -> Outline
     }
 }
 
-// Reads a table through 9 into lent columns.
-pub fn read_through(
-    s: &[u8],
-    lens: &mut [u32; 16],
-    firsts: &mut [u32; 16],
-    lasts: &mut [u32; 16],
-    starts: &mut [usize; 17],
-    kinds: &mut [u8; 528],
-    arrays: &mut [u32; 528],
-    values: &mut [u32; 528],
-) -> Outline
-    requires { ⌜ Sized (columns (now lens) (now firsts) (now lasts) (now starts) (now kinds) (now arrays) (now values)) ⌝ }
-    ensures { λ r. ⌜ Outlined (now (s .entry)) r (columns (now (lens .exit)) (now (firsts .exit)) (now (lasts .exit)) (now (starts .exit)) (now (kinds .exit)) (now (arrays .exit)) (now (values .exit))) ⌝ }
+// Reads a table through 9 into a lent store.
+pub fn read_through(s: &[u8], store: &mut Store) -> Outline
+    requires { ⌜ Sized (now store) ⌝ }
+    ensures { λ r. ⌜ Outlined (now (s .entry)) r (now (store .exit)) ⌝ }
 {
-    let r = serial::check_table(s, lens, firsts, lasts, starts, kinds, arrays, values);
+    let r = serial::check_table(s, store);
     match r {
         Checked::Refused { number, place } => refusal(wide(number), place, 0),
         Checked::Serial { number, read } => refusal(9, number, read),
         Checked::Accepted {
-            arrays: a,
+            arrays,
             loops,
             rows,
         } => Outline {
             number: 0,
             place: 0,
             read: 0,
-            arrays: a,
+            arrays,
             loops,
             rows,
         },
@@ -78,23 +69,8 @@ pub fn read_through(
 pub fn check(s: &[u8]) -> Verdict
     ensures { λ r. ⌜ Told (now (s .entry)) (table (now (s .entry))) r ⌝ }
 {
-    let mut lens = [0u32; 16];
-    let mut firsts = [0u32; 16];
-    let mut lasts = [0u32; 16];
-    let mut starts = [0usize; 17];
-    let mut kinds = [0u8; 528];
-    let mut arrays = [0u32; 528];
-    let mut values = [0u32; 528];
-    let r = read_through(
-        s,
-        &mut lens,
-        &mut firsts,
-        &mut lasts,
-        &mut starts,
-        &mut kinds,
-        &mut arrays,
-        &mut values,
-    );
+    let mut store = [0u32; 1649];
+    let r = read_through(s, &mut store);
     Verdict {
         number: r.number,
         place: r.place,

@@ -1,7 +1,7 @@
 use native.Mathlib.Omega.{arith}
 use Rattle.bodies.proofs.Work.{at-bottom}
 use denote.Ref.{now}
-use Rattle.reader.specs.Columns.{itemsFrom}
+use Rattle.reader.specs.Store.{itemsFrom}
 use Prim.Native.Nat.{_-_}
 use borrow.Author.Needs.{needs}
 use Rattle.bodies.proofs.value_of.Statement.{statement}
@@ -18,7 +18,7 @@ element-copy-out-result c = search needs
 
 returns : tie.Need-returns
 returns c = let a = c .before .before .before .before .args in
-    λ ns b. at-bottom (itemsFrom (now (a .kinds)) (now (a .arrays)) (now (a .values)) (a .from) (a .past - a .from)) ns (a .i) (now (a .memory)) (c .before .before .none .result) (c .before .work-rows .result) (c .before .before .none .ensures) (c .before .work-rows .ensures .0) (c .before .work-rows .ensures .1 ns b)
+    λ ns b. at-bottom (itemsFrom (now (a .store)) (a .from) (a .past - a .from)) ns (a .i) (now (a .memory)) (c .before .before .none .result) (c .before .work-rows .result) (c .before .before .none .ensures) (c .before .work-rows .ensures .0) (c .before .work-rows .ensures .1 ns b)
 
 pub value-of-spec : {M : Type 1} → statement M
 value-of-spec =

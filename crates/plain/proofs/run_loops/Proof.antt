@@ -7,20 +7,20 @@ use Rattle.plain.proofs.run_loops.Statement.{statement}
 use Rattle.plain.proofs.run_loops.Tie as tie
 
 abbrev Inv-loop : tie.InvT-loop
-Inv-loop loops firsts lasts starts kinds arrays values bases memory₀ k₀ memory k = LoopsLeft firsts lasts starts kinds arrays values bases loops memory₀ k memory
+Inv-loop loops store bases memory₀ k₀ memory k = LoopsLeft store bases loops memory₀ k memory
 
 abbrev μ-loop : tie.MeasureT-loop
-μ-loop loops firsts lasts starts kinds arrays values bases memory₀ k₀ memory k = loops - k
+μ-loop loops store bases memory₀ k₀ memory k = loops - k
 
 loop-holds : tie.Need-loop-holds Inv-loop μ-loop
 loop-holds c = let a = c .before .args in
-    loops-start (now (a .firsts)) (now (a .lasts)) (now (a .starts)) (now (a .kinds)) (now (a .arrays)) (now (a .values)) (now (a .bases)) (a .loops) (now (a .memory))
+    loops-start (now (a .store)) (now (a .bases)) (a .loops) (now (a .memory))
 
 run-loop-requires : tie.Need-run-loop-requires Inv-loop μ-loop
 run-loop-requires c κs = let a = c .before .before .before .before .args in
     let (t, r, h, e) = c .before .before .before .before .pre in
     let l = c .before .before .loop in
-    loops-asks (now (a .firsts)) (now (a .lasts)) (now (a .starts)) (now (a .kinds)) (now (a .arrays)) (now (a .values)) (now (a .bases)) (a .loops) (now (a .memory)) (l .k) (l .memory) (l .inv) (c .before .loop-test .taken) t (r, h) e
+    loops-asks (now (a .store)) (now (a .bases)) (a .loops) (now (a .memory)) (l .k) (l .memory) (l .inv) (c .before .loop-test .taken) t (r, h) e
 
 add-k : tie.Need-add-k Inv-loop μ-loop
 add-k c = search needs
@@ -32,7 +32,7 @@ loop-again : tie.Need-loop-again Inv-loop μ-loop
 loop-again c = let a = c .before .before .before .before .before .before .before .args in
     let (t, r, h, e) = c .before .before .before .before .before .before .before .pre in
     let l = c .before .before .before .before .before .loop in
-    loops-next (now (a .firsts)) (now (a .lasts)) (now (a .starts)) (now (a .kinds)) (now (a .arrays)) (now (a .values)) (now (a .bases)) (a .loops) (now (a .memory)) (l .k) (l .memory) (l .inv) (c .before .before .before .before .loop-test .taken) _ t (r, h) (c .before .before .run-loop .ensures)
+    loops-next (now (a .store)) (now (a .bases)) (a .loops) (now (a .memory)) (l .k) (l .memory) (l .inv) (c .before .before .before .before .loop-test .taken) _ t (r, h) (c .before .before .run-loop .ensures)
 
 same-length : tie.Need-same-length Inv-loop μ-loop
 same-length c = c .before .loop .inv .long
@@ -40,7 +40,7 @@ same-length c = c .before .loop .inv .long
 returns : tie.Need-returns Inv-loop μ-loop
 returns c = let a = c .before .before .before .args in
     let l = c .before .loop in
-    loops-end (now (a .firsts)) (now (a .lasts)) (now (a .starts)) (now (a .kinds)) (now (a .arrays)) (now (a .values)) (now (a .bases)) (a .loops) (now (a .memory)) (l .k) (l .memory) (l .inv) (c .loop-test .left)
+    loops-end (now (a .store)) (now (a .bases)) (a .loops) (now (a .memory)) (l .k) (l .memory) (l .inv) (c .loop-test .left)
 
 pub run-loops-spec : {M : Type 1} → statement M
 run-loops-spec =

@@ -1,6 +1,6 @@
 use native.Mathlib.Omega.{arith}
 use mathlib.Core.Path.{refl, subst}
-use Rattle.reader.specs.Columns.{kept, rowsAfter, withRow, withBounds, withLength}
+use Rattle.reader.specs.Store.{kept, rowsAfter}
 use Rattle.records.specs.declared.Record.{Record}
 use Rattle.records.specs.Clear.{Room}
 use Prim.Native.Nat.{_≤_}
@@ -20,54 +20,45 @@ enum-known-x c = search needs
 wide-requires-2 : tie.Need-wide-requires-2
 wide-requires-2 c κs = search needs
 
-mul-lens : tie.Need-mul-lens
-mul-lens c = search needs
+mul-store : tie.Need-mul-store
+mul-store c = search needs
 
-element-write-lens : tie.Need-element-write-lens
-element-write-lens c = let room = subst (λ (x : Record). Room x (c .before .before .before .before .before .args .t)) (c .before .before .x .given .1) (c .before .before .before .before .before .pre .0) in omega (arith, c .wide2 .ensures .0, room .0)
+element-write-store : tie.Need-element-write-store
+element-write-store c = search needs
 
 enum-known-x-2 : tie.Need-enum-known-x-2
 enum-known-x-2 c = search needs
 
-mul-firsts : tie.Need-mul-firsts
-mul-firsts c = search needs
-
-element-write-firsts : tie.Need-element-write-firsts
-element-write-firsts c = let room = subst (λ (x : Record). Room x (c .before .before .before .before .args .t)) (c .before .x2 .given .1) (c .before .before .before .before .pre .0) in omega (arith, c .before .before .before .wide .ensures .0, room)
-
-mul-lasts : tie.Need-mul-lasts
-mul-lasts c = search needs
-
-element-write-lasts : tie.Need-element-write-lasts
-element-write-lasts c = let room = subst (λ (x : Record). Room x (c .before .before .before .before .args .t)) (c .before .x2 .given .1) (c .before .before .before .before .pre .0) in omega (arith, c .before .before .before .wide .ensures .0, room)
+put-bounds-requires : tie.Need-put-bounds-requires
+put-bounds-requires c κs = let room = subst (λ (x : Record). Room x (c .before .before .before .before .before .args .t)) (c .before .before .x2 .given .1) (c .before .before .before .before .before .pre .0) in omega (arith, c .before .before .before .before .wide .ensures .0, room)
 
 add-put-row : tie.Need-add-put-row
 add-put-row c = search needs
 
 put-row-requires : tie.Need-put-row-requires
 unfolding rowsAfter
-put-row-requires c κs = let room = subst (λ (x : Record). Room x (c .before .before .before .before .before .before .before .before .args .t)) (c .before .before .before .before .before .x2 .given .1) (c .before .before .before .before .before .before .before .before .pre .0) in let some = subst (λ (x : Record). rowsAfter x (c .before .before .before .before .before .before .before .before .args .r) ≤ 528) (c .before .before .before .before .before .x2 .given .1) (c .before .before .before .before .before .before .before .before .pre .1 .1) in omega (arith, c .before .before .before .before .before .before .before .wide .ensures .0, room, some)
+put-row-requires c κs = let room = subst (λ (x : Record). Room x (c .before .before .before .before .before .before .before .args .t)) (c .before .before .before .before .x2 .given .1) (c .before .before .before .before .before .before .before .pre .0) in let some = subst (λ (x : Record). rowsAfter x (c .before .before .before .before .before .before .before .args .r) ≤ 528) (c .before .before .before .before .x2 .given .1) (c .before .before .before .before .before .before .before .pre .1 .1) in omega (arith, c .before .before .before .before .before .before .wide .ensures .0, room, some)
 
 enum-known-x-3 : tie.Need-enum-known-x-3
 enum-known-x-3 c = search needs
 
 put-row-requires-2 : tie.Need-put-row-requires-2
 unfolding rowsAfter
-put-row-requires-2 c κs = let some = subst (λ (x : Record). rowsAfter x (c .before .before .before .before .before .before .before .before .args .r) ≤ 528) (c .before .before .before .before .before .x3 .given .1) (c .before .before .before .before .before .before .before .before .pre .1 .1) in omega (arith, c .before .before .before .before .before .before .before .wide .ensures .0, c .before .before .before .before .before .before .before .before .pre .1 .0 .loops, some)
+put-row-requires-2 c κs = let some = subst (λ (x : Record). rowsAfter x (c .before .before .before .before .before .args .r) ≤ 528) (c .before .before .x3 .given .1) (c .before .before .before .before .before .pre .1 .1) in omega (arith, c .before .before .before .before .wide .ensures .0, c .before .before .before .before .before .pre .1 .0 .loops, some)
 
 enum-known-x-4 : tie.Need-enum-known-x-4
 enum-known-x-4 c = search needs
 
 put-row-requires-3 : tie.Need-put-row-requires-3
 unfolding rowsAfter
-put-row-requires-3 c κs = let some = subst (λ (x : Record). rowsAfter x (c .before .before .before .before .before .before .before .before .args .r) ≤ 528) (c .before .before .before .before .before .x4 .given .1) (c .before .before .before .before .before .before .before .before .pre .1 .1) in omega (arith, c .before .before .before .before .before .before .before .wide .ensures .0, c .before .before .before .before .before .before .before .before .pre .1 .0 .loops, some)
+put-row-requires-3 c κs = let some = subst (λ (x : Record). rowsAfter x (c .before .before .before .before .before .args .r) ≤ 528) (c .before .before .x4 .given .1) (c .before .before .before .before .before .pre .1 .1) in omega (arith, c .before .before .before .before .wide .ensures .0, c .before .before .before .before .before .pre .1 .0 .loops, some)
 
 enum-known-x-5 : tie.Need-enum-known-x-5
 enum-known-x-5 c = search needs
 
 put-row-requires-4 : tie.Need-put-row-requires-4
 unfolding rowsAfter
-put-row-requires-4 c κs = let some = subst (λ (x : Record). rowsAfter x (c .before .before .before .before .before .before .before .before .args .r) ≤ 528) (c .before .before .before .before .before .x5 .given .1) (c .before .before .before .before .before .before .before .before .pre .1 .1) in omega (arith, c .before .before .before .before .before .before .before .wide .ensures .0, c .before .before .before .before .before .before .before .before .pre .1 .0 .loops, some)
+put-row-requires-4 c κs = let some = subst (λ (x : Record). rowsAfter x (c .before .before .before .before .before .args .r) ≤ 528) (c .before .before .x5 .given .1) (c .before .before .before .before .before .pre .1 .1) in omega (arith, c .before .before .before .before .wide .ensures .0, c .before .before .before .before .before .pre .1 .0 .loops, some)
 
 enum-told-2 : tie.Need-enum-told-2
 enum-told-2 c = search needs
@@ -77,24 +68,24 @@ unfolding kept rowsAfter
 returns c = rw (c .enum-told .given .1) (refl, refl)
 
 returns-2 : tie.Need-returns-2
-unfolding kept rowsAfter withLength
+unfolding kept rowsAfter
 returns-2 c = rw (c .before .before .x .given .1, ← (c .wide2 .ensures .0)) (refl, refl)
 
 returns-3 : tie.Need-returns-3
-unfolding kept rowsAfter withRow withBounds
-returns-3 c = rw (c .before .before .before .before .before .before .x2 .given .1, ← (c .before .before .before .before .before .before .before .before .wide .ensures .0)) (c .put-row .ensures .0, cc (c .put-row .ensures .1 .0, c .put-row .ensures .1 .1 .0, c .put-row .ensures .1 .1 .1 .0, c .put-row .ensures .1 .1 .1 .1))
+unfolding kept rowsAfter
+returns-3 c = rw (c .before .before .before .before .before .x2 .given .1, ← (c .before .before .before .before .before .before .before .wide .ensures .0), ← (c .before .before .put-bounds .ensures)) (c .put-row .ensures)
 
 returns-4 : tie.Need-returns-4
-unfolding kept rowsAfter withRow withBounds
-returns-4 c = rw (c .before .before .before .before .before .before .x3 .given .1, ← (c .before .before .before .before .before .before .before .before .wide .ensures .0)) (c .put-row2 .ensures .0, cc (c .put-row2 .ensures .1 .0, c .put-row2 .ensures .1 .1 .0, c .put-row2 .ensures .1 .1 .1 .0, c .put-row2 .ensures .1 .1 .1 .1))
+unfolding kept rowsAfter
+returns-4 c = rw (c .before .before .before .x3 .given .1, ← (c .before .before .before .before .before .wide .ensures .0)) (c .put-row2 .ensures)
 
 returns-5 : tie.Need-returns-5
-unfolding kept rowsAfter withRow withBounds
-returns-5 c = rw (c .before .before .before .before .before .before .x4 .given .1, ← (c .before .before .before .before .before .before .before .before .wide .ensures .0)) (c .put-row3 .ensures .0, cc (c .put-row3 .ensures .1 .0, c .put-row3 .ensures .1 .1 .0, c .put-row3 .ensures .1 .1 .1 .0, c .put-row3 .ensures .1 .1 .1 .1))
+unfolding kept rowsAfter
+returns-5 c = rw (c .before .before .before .x4 .given .1, ← (c .before .before .before .before .before .wide .ensures .0)) (c .put-row3 .ensures)
 
 returns-6 : tie.Need-returns-6
-unfolding kept rowsAfter withRow withBounds
-returns-6 c = rw (c .before .before .before .before .before .before .x5 .given .1, ← (c .before .before .before .before .before .before .before .before .wide .ensures .0)) (c .put-row4 .ensures .0, cc (c .put-row4 .ensures .1 .0, c .put-row4 .ensures .1 .1 .0, c .put-row4 .ensures .1 .1 .1 .0, c .put-row4 .ensures .1 .1 .1 .1))
+unfolding kept rowsAfter
+returns-6 c = rw (c .before .before .before .x5 .given .1, ← (c .before .before .before .before .before .wide .ensures .0)) (c .put-row4 .ensures)
 
 returns-7 : tie.Need-returns-7
 unfolding kept rowsAfter
@@ -108,13 +99,10 @@ keep-spec =
     enum-told
     enum-known-x
     wide-requires-2
-    mul-lens
-    element-write-lens
+    mul-store
+    element-write-store
     enum-known-x-2
-    mul-firsts
-    element-write-firsts
-    mul-lasts
-    element-write-lasts
+    put-bounds-requires
     add-put-row
     put-row-requires
     enum-known-x-3

@@ -1,40 +1,33 @@
 use native.Mathlib.Omega.{arith}
-use borrow.Author.Needs.{needs}
 use denote.Ref.{now}
 use lib.ListN.{length, set, length-set}
-use Prim.Native.Nat.{_-_}
-use Rattle.reader.specs.Columns.{columns}
-use Rattle.reader.proofs.Turns.{Inv, start, places, turn-refused, turn-tail, turn-ended, passed-room, further, passed-places, turn-passed}
 use lib.Seq.{getD-set-same}
+use Prim.Native.Nat.{_-_}
+use Rattle.reader.proofs.Turns.{Inv, start, places, turn-refused, turn-tail, turn-ended, passed-room, further, passed-places, turn-passed}
+use borrow.Author.Needs.{needs}
 use Rattle.reader.proofs.read_table.Statement.{statement}
 use Rattle.reader.proofs.read_table.Tie as tie
 
 abbrev Inv-loop : tie.InvT-loop
-Inv-loop s lens₀ firsts₀ lasts₀ starts₀ kinds₀ arrays₀ values₀ t₀ at₀ rows₀ lens firsts lasts starts kinds arrays values t at rows =
-    Inv s (columns lens firsts lasts starts kinds arrays values) t at rows
+Inv-loop s store₀ t₀ at₀ rows₀ store t at rows = Inv s store t at rows
 
 abbrev μ-loop : tie.MeasureT-loop
-μ-loop s lens₀ firsts₀ lasts₀ starts₀ kinds₀ arrays₀ values₀ t₀ at₀ rows₀ lens firsts lasts starts kinds arrays values t at rows =
-    length s - at
+μ-loop s store₀ t₀ at₀ rows₀ store t at rows = length s - at
 
 blank-requires : tie.Need-blank-requires Inv-loop μ-loop
 blank-requires c κs = search needs
 
-element-write-starts : tie.Need-element-write-starts Inv-loop μ-loop
-element-write-starts c = search needs
+element-write-store : tie.Need-element-write-store Inv-loop μ-loop
+element-write-store c = search needs
 
 loop-holds : tie.Need-loop-holds Inv-loop μ-loop
 loop-holds c = let a = c .before .before .args in
-    start (a .s .now) (columns (a .lens .now) (a .firsts .now) (a .lasts .now) (set (a .starts .now) 0 0) (a .kinds .now) (a .arrays .now) (a .values .now))
-    (c .blank .result) (c .blank .ensures)
-    (record { lens = c .before .before .pre .lens; firsts = c .before .before .pre .firsts; lasts = c .before .before .pre .lasts; starts = simp length-set (c .before .before .pre .starts); kinds = c .before .before .pre .kinds; arrays = c .before .before .pre .arrays; values = c .before .before .pre .values })
-    (getD-set-same (a .starts .now) 0 0 0 (omega (arith, c .before .before .pre .starts)))
+    start (now (a .s)) (set (a .store .now) 48 0) (c .blank .result) (c .blank .ensures) (simp length-set (c .before .before .pre)) (getD-set-same (a .store .now) 48 0 0 (omega (arith, c .before .before .pre)))
 
 read-record-requires : tie.Need-read-record-requires Inv-loop μ-loop
 read-record-requires c κs = let l = c .before .loop in
     let s = now (c .before .before .before .before .args .s) in
-    let d = columns (l .lens) (l .firsts) (l .lasts) (l .starts) (l .kinds) (l .arrays) (l .values) in
-    places s d (l .t) (l .at) (l .rows) (l .inv) .arrays
+    places s (l .store) (l .t) (l .at) (l .rows) (l .inv) .arrays
 
 enum-known-found : tie.Need-enum-known-found Inv-loop μ-loop
 enum-known-found c = search needs
@@ -42,36 +35,30 @@ enum-known-found c = search needs
 returns : tie.Need-returns Inv-loop μ-loop
 returns c = let l = c .before .before .before .before .before .loop in
     let s = now (c .before .before .before .before .before .before .before .before .args .s) in
-    let d = columns (l .lens) (l .firsts) (l .lasts) (l .starts) (l .kinds) (l .arrays) (l .values) in
-    (turn-refused s d (l .t) (l .at) (l .rows) (l .inv) (c .before .before .before .read-record .result) (c .before .before .before .read-record .ensures) (c .before .found .given .0 .0) (c .before .found .given .1), tt)
+    (turn-refused s (l .store) (l .t) (l .at) (l .rows) (l .inv) (c .before .before .before .read-record .result) (c .before .before .before .read-record .ensures) (c .before .found .given .0 .0) (c .before .found .given .1), tt)
 
 enum-known-found-2 : tie.Need-enum-known-found-2 Inv-loop μ-loop
 enum-known-found-2 c = search needs
 
 keep-requires : tie.Need-keep-requires Inv-loop μ-loop
-keep-requires c κs = let l = c .before .before .before .before .before .before .before .before .before .before .before .before .loop in
-    let s = now (c .before .before .before .before .before .before .before .before .before .before .before .before .before .before .before .args .s) in
-    let d = columns (l .lens) (l .firsts) (l .lasts) (l .starts) (l .kinds) (l .arrays) (l .values) in
-    (passed-room s d (l .t) (l .at) (l .rows) (l .inv) (c .before .before .before .before .before .before .before .before .before .before .read-record .result) (c .before .before .before .before .before .before .before .before .before .before .read-record .ensures) (c .before .before .before .before .before .before .before .before .found2 .given .0 .0) (c .before .before .before .before .before .before .before .before .found2 .given .0 .1 .0) (c .before .before .before .before .before .before .before .before .found2 .given .1), passed-places s d (l .t) (l .at) (l .rows) (l .inv) (c .before .before .before .before .before .before .before .before .before .before .read-record .result) (c .before .before .before .before .before .before .before .before .before .before .read-record .ensures) (c .before .before .before .before .before .before .before .before .found2 .given .0 .0) (c .before .before .before .before .before .before .before .before .found2 .given .0 .1 .0) (c .before .before .before .before .before .before .before .before .found2 .given .1))
+keep-requires c κs = let l = c .before .before .before .before .before .before .loop in
+    let s = now (c .before .before .before .before .before .before .before .before .before .args .s) in
+    (passed-room s (l .store) (l .t) (l .at) (l .rows) (l .inv) (c .before .before .before .before .read-record .result) (c .before .before .before .before .read-record .ensures) (c .before .before .found2 .given .0 .0) (c .before .before .found2 .given .0 .1 .0) (c .before .before .found2 .given .1), passed-places s (l .store) (l .t) (l .at) (l .rows) (l .inv) (c .before .before .before .before .read-record .result) (c .before .before .before .before .read-record .ensures) (c .before .before .found2 .given .0 .0) (c .before .before .found2 .given .0 .1 .0) (c .before .before .found2 .given .1))
 
 advance-requires : tie.Need-advance-requires Inv-loop μ-loop
-advance-requires c κs = let l = c .before .before .before .before .before .before .before .before .before .before .before .before .before .loop in
-    let s = now (c .before .before .before .before .before .before .before .before .before .before .before .before .before .before .before .before .args .s) in
-    let d = columns (l .lens) (l .firsts) (l .lasts) (l .starts) (l .kinds) (l .arrays) (l .values) in
-    passed-room s d (l .t) (l .at) (l .rows) (l .inv) (c .before .before .before .before .before .before .before .before .before .before .before .read-record .result) (c .before .before .before .before .before .before .before .before .before .before .before .read-record .ensures) (c .before .before .before .before .before .before .before .before .before .found2 .given .0 .0) (c .before .before .before .before .before .before .before .before .before .found2 .given .0 .1 .0) (c .before .before .before .before .before .before .before .before .before .found2 .given .1)
+advance-requires c κs = let l = c .before .before .before .before .before .before .before .loop in
+    let s = now (c .before .before .before .before .before .before .before .before .before .before .args .s) in
+    passed-room s (l .store) (l .t) (l .at) (l .rows) (l .inv) (c .before .before .before .before .before .read-record .result) (c .before .before .before .before .before .read-record .ensures) (c .before .before .before .found2 .given .0 .0) (c .before .before .before .found2 .given .0 .1 .0) (c .before .before .before .found2 .given .1)
 
 loop-less : tie.Need-loop-less Inv-loop μ-loop
-loop-less c = let l = c .before .before .before .before .before .before .before .before .before .before .before .before .before .before .loop in
-    let s = now (c .before .before .before .before .before .before .before .before .before .before .before .before .before .before .before .before .before .args .s) in
-    let d = columns (l .lens) (l .firsts) (l .lasts) (l .starts) (l .kinds) (l .arrays) (l .values) in
-    let f = further s d (l .t) (l .at) (l .rows) (l .inv) (c .before .before .before .before .before .before .before .before .before .before .before .before .read-record .result) (c .before .before .before .before .before .before .before .before .before .before .before .before .read-record .ensures) (c .before .before .before .before .before .before .before .before .before .before .found2 .given .0 .0) (c .before .before .before .before .before .before .before .before .before .before .found2 .given .0 .1 .0) (c .before .before .before .before .before .before .before .before .before .before .found2 .given .1) in
-    omega (arith, f)
+loop-less c = let l = c .before .before .before .before .before .before .before .before .loop in
+    let s = now (c .before .before .before .before .before .before .before .before .before .before .before .args .s) in
+    omega (arith, further s (l .store) (l .t) (l .at) (l .rows) (l .inv) (c .before .before .before .before .before .before .read-record .result) (c .before .before .before .before .before .before .read-record .ensures) (c .before .before .before .before .found2 .given .0 .0) (c .before .before .before .before .found2 .given .0 .1 .0) (c .before .before .before .before .found2 .given .1))
 
 loop-again : tie.Need-loop-again Inv-loop μ-loop
-loop-again c = let l = c .before .before .before .before .before .before .before .before .before .before .before .before .before .before .loop in
-    let s = now (c .before .before .before .before .before .before .before .before .before .before .before .before .before .before .before .before .before .args .s) in
-    let d = columns (l .lens) (l .firsts) (l .lasts) (l .starts) (l .kinds) (l .arrays) (l .values) in
-    turn-passed s d (l .t) (l .at) (l .rows) (l .inv) (c .before .before .before .before .before .before .before .before .before .before .before .before .read-record .result) (c .before .before .before .before .before .before .before .before .before .before .before .before .read-record .ensures) (c .before .before .before .before .before .before .before .before .before .before .found2 .given .0 .0) (c .before .before .before .before .before .before .before .before .before .before .found2 .given .0 .1 .0) (c .before .before .before .before .before .before .before .before .before .before .found2 .given .1) _ _ _ (c .before .keep .ensures .1) (c .advance .ensures) (c .before .keep .ensures .0)
+loop-again c = let l = c .before .before .before .before .before .before .before .before .loop in
+    let s = now (c .before .before .before .before .before .before .before .before .before .before .before .args .s) in
+    turn-passed s (l .store) (l .t) (l .at) (l .rows) (l .inv) (c .before .before .before .before .before .before .read-record .result) (c .before .before .before .before .before .before .read-record .ensures) (c .before .before .before .before .found2 .given .0 .0) (c .before .before .before .before .found2 .given .0 .1 .0) (c .before .before .before .before .found2 .given .1) _ _ _ (c .before .keep .ensures .1) (c .advance .ensures) (c .before .keep .ensures .0)
 
 enum-known-found-3 : tie.Need-enum-known-found-3 Inv-loop μ-loop
 enum-known-found-3 c = search needs
@@ -79,8 +66,7 @@ enum-known-found-3 c = search needs
 returns-2 : tie.Need-returns-2 Inv-loop μ-loop
 returns-2 c = let l = c .before .before .before .before .before .before .loop in
     let s = now (c .before .before .before .before .before .before .before .before .before .args .s) in
-    let d = columns (l .lens) (l .firsts) (l .lasts) (l .starts) (l .kinds) (l .arrays) (l .values) in
-    (turn-tail s d (l .t) (l .at) (l .rows) (l .inv) (c .before .before .before .before .read-record .result) (c .before .before .before .before .read-record .ensures) (c .before .before .found3 .given .0 .0) (c .before .before .found3 .given .1) (c .if1 .taken), tt)
+    (turn-tail s (l .store) (l .t) (l .at) (l .rows) (l .inv) (c .before .before .before .before .read-record .result) (c .before .before .before .before .read-record .ensures) (c .before .before .found3 .given .0 .0) (c .before .before .found3 .given .1) (c .if1 .taken), tt)
 
 wide-requires : tie.Need-wide-requires Inv-loop μ-loop
 wide-requires c κs = search needs
@@ -91,8 +77,7 @@ wide-requires-2 c κs = search needs
 returns-3 : tie.Need-returns-3 Inv-loop μ-loop
 returns-3 c = let l = c .before .before .before .before .before .before .before .before .loop in
     let s = now (c .before .before .before .before .before .before .before .before .before .before .before .args .s) in
-    let d = columns (l .lens) (l .firsts) (l .lasts) (l .starts) (l .kinds) (l .arrays) (l .values) in
-    turn-ended s d (l .t) (l .at) (l .rows) (l .inv) (c .before .before .before .before .before .before .read-record .result) (c .before .before .before .before .before .before .read-record .ensures) (c .before .before .before .before .found3 .given .0 .0) _ _ (c .before .before .before .before .found3 .given .1) (c .before .before .if1 .left) (c .before .wide .ensures .0) (c .wide2 .ensures .0)
+    turn-ended s (l .store) (l .t) (l .at) (l .rows) (l .inv) (c .before .before .before .before .before .before .read-record .result) (c .before .before .before .before .before .before .read-record .ensures) (c .before .before .before .before .found3 .given .0 .0) _ _ (c .before .before .before .before .found3 .given .1) (c .before .before .if1 .left) (c .before .wide .ensures .0) (c .wide2 .ensures .0)
 
 pub read-table-spec : {M : Type 1} → statement M
 read-table-spec =
@@ -101,7 +86,7 @@ read-table-spec =
     Inv-loop
     μ-loop
     blank-requires
-    element-write-starts
+    element-write-store
     loop-holds
     read-record-requires
     enum-known-found

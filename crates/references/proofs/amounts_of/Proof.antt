@@ -14,7 +14,7 @@ collect-requires c κs = search needs
 
 array-share-prefix-loops : tie.Need-array-share-prefix-loops
 array-share-prefix-loops c = let z = c .collect .last in
-    let d = columns (z .1 .1 .1 .1 .1 .0) (z .1 .1 .1 .1 .1 .1 .0) (z .1 .1 .1 .1 .1 .1 .1 .0) (z .1 .1 .1 .1 .1 .1 .1 .1 .0) in
+    let d = columns (z .1 .1 .0) (z .1 .1 .1 .0) (z .1 .1 .1 .1 .0) (z .1 .1 .1 .1 .1 .0) in
     let n = c .collect .result in
     let g = c .collect .ensures in
     let few : n ≤ 528 = omega (arith, g .few, c .before .before .before .before .before .pre .end) in
@@ -22,7 +22,7 @@ array-share-prefix-loops c = let z = c .collect .last in
 
 slice-aggregate-shifts-and-peels : tie.Need-slice-aggregate-shifts-and-peels
 slice-aggregate-shifts-and-peels c = let z = c .before .collect .last in
-    let d = columns (z .1 .1 .1 .1 .1 .0) (z .1 .1 .1 .1 .1 .1 .0) (z .1 .1 .1 .1 .1 .1 .1 .0) (z .1 .1 .1 .1 .1 .1 .1 .1 .0) in
+    let d = columns (z .1 .1 .0) (z .1 .1 .1 .0) (z .1 .1 .1 .1 .0) (z .1 .1 .1 .1 .1 .0) in
     let n = c .before .collect .result in
     let g = c .before .collect .ensures in
     let few : n ≤ 528 = omega (arith, g .few, c .before .before .before .before .before .before .pre .end) in
@@ -30,7 +30,7 @@ slice-aggregate-shifts-and-peels c = let z = c .before .collect .last in
 
 array-share-prefix-names : tie.Need-array-share-prefix-names
 array-share-prefix-names c = let z = c .before .collect .last in
-    let d = columns (z .1 .1 .1 .1 .1 .0) (z .1 .1 .1 .1 .1 .1 .0) (z .1 .1 .1 .1 .1 .1 .1 .0) (z .1 .1 .1 .1 .1 .1 .1 .1 .0) in
+    let d = columns (z .1 .1 .0) (z .1 .1 .1 .0) (z .1 .1 .1 .1 .0) (z .1 .1 .1 .1 .1 .0) in
     let n = c .before .collect .result in
     let g = c .before .collect .ensures in
     let few : n ≤ 528 = omega (arith, g .few, c .before .before .before .before .before .before .pre .end) in
@@ -38,7 +38,7 @@ array-share-prefix-names c = let z = c .before .collect .last in
 
 slice-aggregate-shifts-and-peels-2 : tie.Need-slice-aggregate-shifts-and-peels-2
 slice-aggregate-shifts-and-peels-2 c = let z = c .before .before .collect .last in
-    let d = columns (z .1 .1 .1 .1 .1 .0) (z .1 .1 .1 .1 .1 .1 .0) (z .1 .1 .1 .1 .1 .1 .1 .0) (z .1 .1 .1 .1 .1 .1 .1 .1 .0) in
+    let d = columns (z .1 .1 .0) (z .1 .1 .1 .0) (z .1 .1 .1 .1 .0) (z .1 .1 .1 .1 .1 .0) in
     let n = c .before .before .collect .result in
     let g = c .before .before .collect .ensures in
     let few : n ≤ 528 = omega (arith, g .few, c .before .before .before .before .before .before .before .pre .end) in
@@ -46,7 +46,7 @@ slice-aggregate-shifts-and-peels-2 c = let z = c .before .before .collect .last 
 
 array-share-prefix-offsets : tie.Need-array-share-prefix-offsets
 array-share-prefix-offsets c = let z = c .before .before .collect .last in
-    let d = columns (z .1 .1 .1 .1 .1 .0) (z .1 .1 .1 .1 .1 .1 .0) (z .1 .1 .1 .1 .1 .1 .1 .0) (z .1 .1 .1 .1 .1 .1 .1 .1 .0) in
+    let d = columns (z .1 .1 .0) (z .1 .1 .1 .0) (z .1 .1 .1 .1 .0) (z .1 .1 .1 .1 .1 .0) in
     let n = c .before .before .collect .result in
     let g = c .before .before .collect .ensures in
     let few : n ≤ 528 = omega (arith, g .few, c .before .before .before .before .before .before .before .pre .end) in
@@ -54,7 +54,7 @@ array-share-prefix-offsets c = let z = c .before .before .collect .last in
 
 slice-aggregate-shifts-and-peels-3 : tie.Need-slice-aggregate-shifts-and-peels-3
 slice-aggregate-shifts-and-peels-3 c = let z = c .before .before .before .collect .last in
-    let d = columns (z .1 .1 .1 .1 .1 .0) (z .1 .1 .1 .1 .1 .1 .0) (z .1 .1 .1 .1 .1 .1 .1 .0) (z .1 .1 .1 .1 .1 .1 .1 .1 .0) in
+    let d = columns (z .1 .1 .0) (z .1 .1 .1 .0) (z .1 .1 .1 .1 .0) (z .1 .1 .1 .1 .1 .0) in
     let n = c .before .before .before .collect .result in
     let g = c .before .before .before .collect .ensures in
     let few : n ≤ 528 = omega (arith, g .few, c .before .before .before .before .before .before .before .before .pre .end) in
@@ -62,7 +62,7 @@ slice-aggregate-shifts-and-peels-3 c = let z = c .before .before .before .collec
 
 array-share-prefix-stores : tie.Need-array-share-prefix-stores
 array-share-prefix-stores c = let z = c .before .before .before .collect .last in
-    let d = columns (z .1 .1 .1 .1 .1 .0) (z .1 .1 .1 .1 .1 .1 .0) (z .1 .1 .1 .1 .1 .1 .1 .0) (z .1 .1 .1 .1 .1 .1 .1 .1 .0) in
+    let d = columns (z .1 .1 .0) (z .1 .1 .1 .0) (z .1 .1 .1 .1 .0) (z .1 .1 .1 .1 .1 .0) in
     let n = c .before .before .before .collect .result in
     let g = c .before .before .before .collect .ensures in
     let few : n ≤ 528 = omega (arith, g .few, c .before .before .before .before .before .before .before .before .pre .end) in
@@ -70,7 +70,7 @@ array-share-prefix-stores c = let z = c .before .before .before .collect .last i
 
 slice-aggregate-shifts-and-peels-4 : tie.Need-slice-aggregate-shifts-and-peels-4
 slice-aggregate-shifts-and-peels-4 c = let z = c .before .before .before .before .collect .last in
-    let d = columns (z .1 .1 .1 .1 .1 .0) (z .1 .1 .1 .1 .1 .1 .0) (z .1 .1 .1 .1 .1 .1 .1 .0) (z .1 .1 .1 .1 .1 .1 .1 .1 .0) in
+    let d = columns (z .1 .1 .0) (z .1 .1 .1 .0) (z .1 .1 .1 .1 .0) (z .1 .1 .1 .1 .1 .0) in
     let n = c .before .before .before .before .collect .result in
     let g = c .before .before .before .before .collect .ensures in
     let few : n ≤ 528 = omega (arith, g .few, c .before .before .before .before .before .before .before .before .before .pre .end) in
@@ -78,15 +78,15 @@ slice-aggregate-shifts-and-peels-4 c = let z = c .before .before .before .before
 
 shifts-and-peels-requires : tie.Need-shifts-and-peels-requires
 shifts-and-peels-requires c κs = let z = c .before .before .before .before .collect .last in
-    let d = columns (z .1 .1 .1 .1 .1 .0) (z .1 .1 .1 .1 .1 .1 .0) (z .1 .1 .1 .1 .1 .1 .1 .0) (z .1 .1 .1 .1 .1 .1 .1 .1 .0) in
+    let d = columns (z .1 .1 .0) (z .1 .1 .1 .0) (z .1 .1 .1 .1 .0) (z .1 .1 .1 .1 .1 .0) in
     let n = c .before .before .before .before .collect .result in
     let g = c .before .before .before .before .collect .ensures in
     let few : n ≤ 528 = omega (arith, g .few, c .before .before .before .before .before .before .before .before .before .pre .end) in
-    cut-formed d n (g .long) few (now (c .before .before .before .before .before .before .before .before .before .args .starts)) (now (c .before .before .before .before .before .before .before .before .before .args .kinds)) (now (c .before .before .before .before .before .before .before .before .before .args .arrays)) (now (c .before .before .before .before .before .before .before .before .before .args .values)) (c .before .before .before .before .before .before .before .before .before .args .count) (c .before .before .before .before .before .before .before .before .before .pre) (g .is)
+    cut-formed d n (g .long) few (now (c .before .before .before .before .before .before .before .before .before .args .store)) (c .before .before .before .before .before .before .before .before .before .args .count) (c .before .before .before .before .before .before .before .before .before .pre) (g .is)
 
 returns : tie.Need-returns
 returns c = let z = c .before .before .before .before .before .collect .last in
-    let d = columns (z .1 .1 .1 .1 .1 .0) (z .1 .1 .1 .1 .1 .1 .0) (z .1 .1 .1 .1 .1 .1 .1 .0) (z .1 .1 .1 .1 .1 .1 .1 .1 .0) in
+    let d = columns (z .1 .1 .0) (z .1 .1 .1 .0) (z .1 .1 .1 .1 .0) (z .1 .1 .1 .1 .1 .0) in
     let n = c .before .before .before .before .before .collect .result in
     let g = c .before .before .before .before .before .collect .ensures in
     let few : n ≤ 528 = omega (arith, g .few, c .before .before .before .before .before .before .before .before .before .before .pre .end) in

@@ -7,15 +7,15 @@ use Rattle.references.proofs.collect_reads.Statement.{statement}
 use Rattle.references.proofs.collect_reads.Tie as tie
 
 abbrev Inv-loop : tie.InvT-loop
-Inv-loop k from past start kinds arrays values loops₀ names₀ offsets₀ stores₀ row₀ n₀ loops names offsets stores row n =
-    Inv kinds arrays values k (columns loops₀ names₀ offsets₀ stores₀) from past start (columns loops names offsets stores) row n
+Inv-loop k from past start store loops₀ names₀ offsets₀ stores₀ row₀ n₀ loops names offsets stores row n =
+    Inv store k (columns loops₀ names₀ offsets₀ stores₀) from past start (columns loops names offsets stores) row n
 
 abbrev μ-loop : tie.MeasureT-loop
-μ-loop k from past start kinds arrays values loops₀ names₀ offsets₀ stores₀ row₀ n₀ loops names offsets stores row n = past - row
+μ-loop k from past start store loops₀ names₀ offsets₀ stores₀ row₀ n₀ loops names offsets stores row n = past - row
 
 loop-holds : tie.Need-loop-holds Inv-loop μ-loop
 loop-holds c = let a = c .args in
-    start-row (now (a .kinds)) (now (a .arrays)) (now (a .values)) (a .k) (columns (now (c .args .loops)) (now (c .args .names)) (now (c .args .offsets)) (now (c .args .stores))) (a .from) (a .past) (a .start) (c .pre .1)
+    start-row (now (a .store)) (a .k) (columns (now (c .args .loops)) (now (c .args .names)) (now (c .args .offsets)) (now (c .args .stores))) (a .from) (a .past) (a .start) (c .pre .1)
 
 collect-row-requires : tie.Need-collect-row-requires Inv-loop μ-loop
 collect-row-requires c κs = let l = c .before .before .before .before .before .loop in
@@ -29,11 +29,11 @@ loop-less c = omega arith
 
 loop-again : tie.Need-loop-again Inv-loop μ-loop
 loop-again c = let a = c .before .before .before .before .before .before .before .args in
-    next-row (now (a .kinds)) (now (a .arrays)) (now (a .values)) (a .k) (columns (now (c .before .before .before .before .before .before .before .args .loops)) (now (c .before .before .before .before .before .before .before .args .names)) (now (c .before .before .before .before .before .before .before .args .offsets)) (now (c .before .before .before .before .before .before .before .args .stores))) (columns (c .before .before .before .before .before .before .loop .loops) (c .before .before .before .before .before .before .loop .names) (c .before .before .before .before .before .before .loop .offsets) (c .before .before .before .before .before .before .loop .stores)) _ (a .from) (a .past) (a .start) (c .before .before .before .before .before .before .loop .row) (c .before .before .before .before .before .before .loop .n) _ (c .before .before .before .before .before .before .loop .inv) (c .before .before .before .before .before .loop-test .taken) (c .collect-row .ensures)
+    next-row (now (a .store)) (a .k) (columns (now (c .before .before .before .before .before .before .before .args .loops)) (now (c .before .before .before .before .before .before .before .args .names)) (now (c .before .before .before .before .before .before .before .args .offsets)) (now (c .before .before .before .before .before .before .before .args .stores))) (columns (c .before .before .before .before .before .before .loop .loops) (c .before .before .before .before .before .before .loop .names) (c .before .before .before .before .before .before .loop .offsets) (c .before .before .before .before .before .before .loop .stores)) _ (a .from) (a .past) (a .start) (c .before .before .before .before .before .before .loop .row) (c .before .before .before .before .before .before .loop .n) _ (c .before .before .before .before .before .before .loop .inv) (c .before .before .before .before .before .loop-test .taken) (c .collect-row .ensures)
 
 returns : tie.Need-returns Inv-loop μ-loop
 returns c = let a = c .before .before .args in
-    last-row (now (a .kinds)) (now (a .arrays)) (now (a .values)) (a .k) (columns (now (c .before .before .args .loops)) (now (c .before .before .args .names)) (now (c .before .before .args .offsets)) (now (c .before .before .args .stores))) (columns (c .before .loop .loops) (c .before .loop .names) (c .before .loop .offsets) (c .before .loop .stores)) (a .from) (a .past) (a .start) (c .before .loop .row) (c .before .loop .n) (c .before .loop .inv) (c .loop-test .left)
+    last-row (now (a .store)) (a .k) (columns (now (c .before .before .args .loops)) (now (c .before .before .args .names)) (now (c .before .before .args .offsets)) (now (c .before .before .args .stores))) (columns (c .before .loop .loops) (c .before .loop .names) (c .before .loop .offsets) (c .before .loop .stores)) (a .from) (a .past) (a .start) (c .before .loop .row) (c .before .loop .n) (c .before .loop .inv) (c .loop-test .left)
 
 pub collect-reads-spec : {M : Type 1} → statement M
 collect-reads-spec =

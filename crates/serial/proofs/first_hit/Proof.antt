@@ -1,41 +1,35 @@
 use native.Mathlib.Omega.{arith}
 use mathlib.Core.Path.{sym, _∙_}
+use mathlib.Core.Logic.{⊎-elim}
 use denote.Ref.{now}
 use Prim.Native.Nat.{_-_}
 use Rattle.serial.proofs.Walks.{Inv, start, found, passed, other, none}
-use mathlib.Core.Logic.{⊎-elim}
 use Rattle.serial.proofs.first_hit.Statement.{statement}
 use Rattle.serial.proofs.first_hit.Tie as tie
 
 abbrev Inv-loop : tie.InvT-loop
-Inv-loop kinds arrays values from past span a c row₀ reads₀ row reads = Inv span a c kinds arrays values from past row reads
+Inv-loop store from past span a c row₀ reads₀ row reads = Inv span a c store from past row reads
 
 abbrev μ-loop : tie.MeasureT-loop
-μ-loop kinds arrays values from past span a c row₀ reads₀ row reads = past - row
+μ-loop store from past span a c row₀ reads₀ row reads = past - row
 
 loop-holds : tie.Need-loop-holds Inv-loop μ-loop
-loop-holds c = let a = c .args in start (a .span) (a .a) (a .c) (now (a .kinds)) (now (a .arrays)) (now (a .values)) (a .from) (a .past)
+loop-holds c = let a = c .args in start (a .span) (a .a) (a .c) (now (a .store)) (a .from) (a .past)
 
-element-copy-out-if1 : tie.Need-element-copy-out-if1 Inv-loop μ-loop
-element-copy-out-if1 c = omega (arith, c .before .before .pre .0)
+kind-at-requires : tie.Need-kind-at-requires Inv-loop μ-loop
+kind-at-requires c κs = omega (arith, c .before .before .pre .0)
 
-mul-collide : tie.Need-mul-collide Inv-loop μ-loop
-mul-collide c = omega (arith, c .before .before .before .before .pre .0)
+array-at-requires : tie.Need-array-at-requires Inv-loop μ-loop
+array-at-requires c κs = omega (arith, c .before .before .before .before .pre .0)
 
-element-copy-out-collide : tie.Need-element-copy-out-collide Inv-loop μ-loop
-element-copy-out-collide c = omega (arith, c .before .before .before .before .pre .0)
-
-mul-collide-2 : tie.Need-mul-collide-2 Inv-loop μ-loop
-mul-collide-2 c = omega (arith, c .before .before .before .before .before .pre .0)
-
-element-copy-out-collide-2 : tie.Need-element-copy-out-collide-2 Inv-loop μ-loop
-element-copy-out-collide-2 c = omega (arith, c .before .before .before .before .before .pre .0)
+value-at-requires : tie.Need-value-at-requires Inv-loop μ-loop
+value-at-requires c κs = omega (arith, c .before .before .before .before .before .pre .0)
 
 collide-requires : tie.Need-collide-requires Inv-loop μ-loop
 collide-requires c κs = c .before .before .before .before .before .before .pre .1
 
 returns : tie.Need-returns Inv-loop μ-loop
-returns c = let a = c .before .before .before .before .before .before .before .before .args in let l = c .before .before .before .before .before .before .before .loop in found (a .span) (a .a) (a .c) (now (a .kinds)) (now (a .arrays)) (now (a .values)) (a .from) (a .past) (l .row) (l .reads) (l .inv) (c .before .before .before .before .before .before .loop-test .taken) (c .before .before .before .before .if1 .taken) (sym (c .before .collide .ensures) ∙ c .if2 .taken)
+returns c = let a = c .before .before .before .before .before .before .before .before .args in let l = c .before .before .before .before .before .before .before .loop in found (a .span) (a .a) (a .c) (now (a .store)) (a .from) (a .past) (l .row) (l .reads) (l .inv) (c .before .before .before .before .before .before .loop-test .taken) (sym (c .before .before .before .before .before .kind-at .ensures) ∙ c .before .before .before .before .if1 .taken) (rw (c .before .before .before .array-at .ensures, c .before .before .value-at .ensures) at (sym (c .before .collide .ensures) ∙ c .if2 .taken))
 
 add-reads : tie.Need-add-reads Inv-loop μ-loop
 add-reads c = omega (arith, c .before .before .before .before .before .before .before .before .pre .0, c .before .before .before .before .before .before .before .loop .inv .few)
@@ -47,14 +41,14 @@ loop-less : tie.Need-loop-less Inv-loop μ-loop
 loop-less c = omega arith
 
 loop-again : tie.Need-loop-again Inv-loop μ-loop
-loop-again c = let a = c .before .before .before .before .args in let l = c .before .before .before .loop in
+loop-again c = let a = c .before .before .before .before .args in let l = c .before .before .before .loop in let k = c .before .kind-at .ensures in
     ⊎-elim
-    (λ w. rw (w .5) (passed (a .span) (a .a) (a .c) (now (a .kinds)) (now (a .arrays)) (now (a .values)) (a .from) (a .past) (l .row) (l .reads) (l .inv) (c .before .before .loop-test .taken) (w .0 .taken) (sym (w .3 .ensures) ∙ w .4 .left)))
-    (λ w. rw (w .1) (other (a .span) (a .a) (a .c) (now (a .kinds)) (now (a .arrays)) (now (a .values)) (a .from) (a .past) (l .row) (l .reads) (l .inv) (c .before .before .loop-test .taken) (w .0 .left)))
+    (λ w. rw (w .5) (passed (a .span) (a .a) (a .c) (now (a .store)) (a .from) (a .past) (l .row) (l .reads) (l .inv) (c .before .before .loop-test .taken) (sym k ∙ w .0 .taken) (rw (w .1 .ensures, w .2 .ensures) at (sym (w .3 .ensures) ∙ w .4 .left))))
+    (λ w. rw (w .1) (other (a .span) (a .a) (a .c) (now (a .store)) (a .from) (a .past) (l .row) (l .reads) (l .inv) (c .before .before .loop-test .taken) (λ e. w .0 .left (k ∙ e))))
     (c .if1 .came)
 
 returns-2 : tie.Need-returns-2 Inv-loop μ-loop
-returns-2 c = let a = c .before .before .args in let l = c .before .loop in none (a .span) (a .a) (a .c) (now (a .kinds)) (now (a .arrays)) (now (a .values)) (a .from) (a .past) (l .row) (l .reads) (l .inv) (c .loop-test .left)
+returns-2 c = let a = c .before .before .args in let l = c .before .loop in none (a .span) (a .a) (a .c) (now (a .store)) (a .from) (a .past) (l .row) (l .reads) (l .inv) (c .loop-test .left)
 
 pub first-hit-spec : {M : Type 1} → statement M
 first-hit-spec =
@@ -63,11 +57,9 @@ first-hit-spec =
     Inv-loop
     μ-loop
     loop-holds
-    element-copy-out-if1
-    mul-collide
-    element-copy-out-collide
-    mul-collide-2
-    element-copy-out-collide-2
+    kind-at-requires
+    array-at-requires
+    value-at-requires
     collide-requires
     returns
     add-reads

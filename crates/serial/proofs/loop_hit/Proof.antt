@@ -1,35 +1,25 @@
 use native.Mathlib.Numerals.{add-one}
+use denote.Ref.{now}
+use Rattle.reader.specs.Store.{startAt}
 use Rattle.serial.specs.Serial.{loopHit}
 use borrow.Author.Needs.{needs}
 use Rattle.serial.proofs.loop_hit.Statement.{statement}
 use Rattle.serial.proofs.loop_hit.Tie as tie
 
-mul-from : tie.Need-mul-from
-mul-from c = search needs
+start-at-requires : tie.Need-start-at-requires
+start-at-requires c κs = search needs
 
-element-copy-out-from : tie.Need-element-copy-out-from
-element-copy-out-from c = search needs
+add-start-at : tie.Need-add-start-at
+add-start-at c = search needs
 
-add-past : tie.Need-add-past
-add-past c = search needs
+start-at-requires-2 : tie.Need-start-at-requires-2
+start-at-requires-2 c κs = search needs
 
-mul-past : tie.Need-mul-past
-mul-past c = search needs
+first-at-requires : tie.Need-first-at-requires
+first-at-requires c κs = search needs
 
-element-copy-out-past : tie.Need-element-copy-out-past
-element-copy-out-past c = search needs
-
-mul-span-of : tie.Need-mul-span-of
-mul-span-of c = search needs
-
-element-copy-out-span-of : tie.Need-element-copy-out-span-of
-element-copy-out-span-of c = search needs
-
-mul-span-of-2 : tie.Need-mul-span-of-2
-mul-span-of-2 c = search needs
-
-element-copy-out-span-of-2 : tie.Need-element-copy-out-span-of-2
-element-copy-out-span-of-2 c = search needs
+last-at-requires : tie.Need-last-at-requires
+last-at-requires c κs = search needs
 
 span-of-requires : tie.Need-span-of-requires
 span-of-requires c κs = search needs
@@ -37,43 +27,31 @@ span-of-requires c κs = search needs
 add-first-hit : tie.Need-add-first-hit
 add-first-hit c = search needs
 
-mul-first-hit : tie.Need-mul-first-hit
-mul-first-hit c = search needs
+array-at-requires : tie.Need-array-at-requires
+array-at-requires c κs = search needs
 
-element-copy-out-first-hit : tie.Need-element-copy-out-first-hit
-element-copy-out-first-hit c = search needs
-
-mul-first-hit-2 : tie.Need-mul-first-hit-2
-mul-first-hit-2 c = search needs
-
-element-copy-out-first-hit-2 : tie.Need-element-copy-out-first-hit-2
-element-copy-out-first-hit-2 c = search needs
+value-at-requires : tie.Need-value-at-requires
+value-at-requires c κs = search needs
 
 first-hit-requires : tie.Need-first-hit-requires
 first-hit-requires c κs = search needs
 
 returns : tie.Need-returns
 unfolding loopHit
-returns c = rw (← (c .before .before .before .span-of .ensures .0)) (simp add-one at (c .first-hit .ensures))
+returns c = let a = c .before .before .before .before .before .before .before .before .args in rw (c .before .value-at .ensures, c .before .before .array-at .ensures, c .before .before .before .span-of .ensures .0, c .before .before .before .before .last-at .ensures, c .before .before .before .before .before .first-at .ensures, c .before .before .before .before .before .before .start-at2 .ensures, c .before .before .before .before .before .before .before .start-at .ensures, add-one (startAt (now (a .store)) (a .k)), add-one (a .k)) at (c .first-hit .ensures)
 
 pub loop-hit-spec : {M : Type 1} → statement M
 loop-hit-spec =
     tie.close
     (tie.spec
-    mul-from
-    element-copy-out-from
-    add-past
-    mul-past
-    element-copy-out-past
-    mul-span-of
-    element-copy-out-span-of
-    mul-span-of-2
-    element-copy-out-span-of-2
+    start-at-requires
+    add-start-at
+    start-at-requires-2
+    first-at-requires
+    last-at-requires
     span-of-requires
     add-first-hit
-    mul-first-hit
-    element-copy-out-first-hit
-    mul-first-hit-2
-    element-copy-out-first-hit-2
+    array-at-requires
+    value-at-requires
     first-hit-requires
     returns)

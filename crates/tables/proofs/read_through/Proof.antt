@@ -1,6 +1,5 @@
 use mathlib.Core.Path.{_≡_, subst}
 use denote.Ref.{now}
-use Rattle.reader.specs.Columns.{columns}
 use Rattle.serial.specs.declared.Checked.{Checked}
 use Rattle.serial.specs.Serial.{table, answer, Left}
 use Rattle.tables.proofs.Laws.{outlined-refused, outlined-serial, outlined-accepted}
@@ -30,23 +29,20 @@ enum-known-r-3 : tie.Need-enum-known-r-3
 enum-known-r-3 c = search needs
 
 returns : tie.Need-returns
-returns c = let z = c .before .before .before .before .before .check-table .last in
-    let d = columns (z .1 .0) (z .1 .1 .0) (z .1 .1 .1 .0) (z .1 .1 .1 .1 .0) (z .1 .1 .1 .1 .1 .0) (z .1 .1 .1 .1 .1 .1 .0) (z .1 .1 .1 .1 .1 .1 .1 .0) in
-    let s = now (c .before .before .before .before .before .before .before .before .before .before .before .before .before .before .args .s) in
+returns c = let d = c .before .before .before .before .before .check-table .last .1 .0 in
+    let s = now (c .before .before .before .before .before .before .before .before .args .s) in
     let e = subst (λ (x : Checked). (answer x d ≡ table s) × Left x d s) (c .before .before .before .r .given .1) (c .before .before .before .before .before .check-table .ensures) in
     rw (c .refusal .ensures) (outlined-refused s d _ _ _ (e .0) (e .1) (c .before .wide .ensures))
 
 returns-2 : tie.Need-returns-2
-returns-2 c = let z = c .before .before .before .before .check-table .last in
-    let d = columns (z .1 .0) (z .1 .1 .0) (z .1 .1 .1 .0) (z .1 .1 .1 .1 .0) (z .1 .1 .1 .1 .1 .0) (z .1 .1 .1 .1 .1 .1 .0) (z .1 .1 .1 .1 .1 .1 .1 .0) in
-    let s = now (c .before .before .before .before .before .before .before .before .before .before .before .before .before .args .s) in
+returns-2 c = let d = c .before .before .before .before .check-table .last .1 .0 in
+    let s = now (c .before .before .before .before .before .before .before .args .s) in
     let e = subst (λ (x : Checked). (answer x d ≡ table s) × Left x d s) (c .before .before .r2 .given .1) (c .before .before .before .before .check-table .ensures) in
     rw (c .refusal2 .ensures) (outlined-serial s d _ _ (e .0) (e .1))
 
 returns-3 : tie.Need-returns-3
-returns-3 c = let z = c .before .before .before .check-table .last in
-    let d = columns (z .1 .0) (z .1 .1 .0) (z .1 .1 .1 .0) (z .1 .1 .1 .1 .0) (z .1 .1 .1 .1 .1 .0) (z .1 .1 .1 .1 .1 .1 .0) (z .1 .1 .1 .1 .1 .1 .1 .0) in
-    let s = now (c .before .before .before .before .before .before .before .before .before .before .before .before .args .s) in
+returns-3 c = let d = c .before .before .before .check-table .last .1 .0 in
+    let s = now (c .before .before .before .before .before .before .args .s) in
     let e = subst (λ (x : Checked). (answer x d ≡ table s) × Left x d s) (c .before .r3 .given .1) (c .before .before .before .check-table .ensures) in
     outlined-accepted s d _ _ _ (e .0) (e .1)
 

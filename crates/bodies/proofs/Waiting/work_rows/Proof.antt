@@ -3,41 +3,35 @@ use lib.ListN.{length}
 use native.Mathlib.Omega.{arith}
 use denote.Ref.{now}
 use Prim.Native.Nat.{_-_}
-use borrow.Author.Needs.{needs}
 use Rattle.bodies.proofs.Work.{RowsLeft, rows-start, rows-ready, rows-next, rows-end}
+use borrow.Author.Needs.{needs}
 use Rattle.bodies.proofs.Waiting.work_rows.Statement.{statement}
 use Rattle.bodies.proofs.Waiting.work_rows.Tie as tie
 
 abbrev Inv-loop : tie.InvT-loop
-Inv-loop kinds arrays values bases from past i memory w₀ row₀ w row = (length (w .values) ≡ 8) × RowsLeft bases i memory kinds arrays values from past w₀ row w
+Inv-loop store bases from past i memory w₀ row₀ w row = (length (w .values) ≡ 8) × RowsLeft bases i memory store from past w₀ row w
 
 abbrev μ-loop : tie.MeasureT-loop
-μ-loop kinds arrays values bases from past i memory w₀ row₀ w row = past - row
+μ-loop store bases from past i memory w₀ row₀ w row = past - row
 
 loop-holds : tie.Need-loop-holds Inv-loop μ-loop
 loop-holds c = let a = c .before .args in
     let long : length (a .self .values) ≡ 8 = search needs in
-    (long, rows-start (now (a .bases)) (a .i) (now (a .memory)) (now (a .kinds)) (now (a .arrays)) (now (a .values)) (a .from) (a .past) (a .self) (c .before .pre .0 .2) (c .before .pre .1 .0) (c .before .pre .1 .1))
+    (long, rows-start (now (a .bases)) (a .i) (now (a .memory)) (now (a .store)) (a .from) (a .past) (a .self) (c .before .pre .0 .2) (c .before .pre .1 .0) (c .before .pre .1 .1))
 
-element-copy-out-work-item : tie.Need-element-copy-out-work-item Inv-loop μ-loop
-element-copy-out-work-item c = omega (arith, c .before .before .before .before .pre .0 .0, c .before .loop-test .taken)
+kind-at-requires : tie.Need-kind-at-requires Inv-loop μ-loop
+kind-at-requires c κs = omega (arith, c .before .before .before .pre .0 .0, c .loop-test .taken)
 
-mul-work-item : tie.Need-mul-work-item Inv-loop μ-loop
-mul-work-item c = omega (arith, c .before .before .before .before .before .pre .0 .0, c .before .before .loop-test .taken)
+array-at-requires : tie.Need-array-at-requires Inv-loop μ-loop
+array-at-requires c κs = omega (arith, c .before .before .before .before .pre .0 .0, c .before .loop-test .taken)
 
-element-copy-out-work-item-2 : tie.Need-element-copy-out-work-item-2 Inv-loop μ-loop
-element-copy-out-work-item-2 c = omega (arith, c .before .before .before .before .before .pre .0 .0, c .before .before .loop-test .taken)
-
-mul-work-item-2 : tie.Need-mul-work-item-2 Inv-loop μ-loop
-mul-work-item-2 c = omega (arith, c .before .before .before .before .before .before .pre .0 .0, c .before .before .before .loop-test .taken)
-
-element-copy-out-work-item-3 : tie.Need-element-copy-out-work-item-3 Inv-loop μ-loop
-element-copy-out-work-item-3 c = omega (arith, c .before .before .before .before .before .before .pre .0 .0, c .before .before .before .loop-test .taken)
+value-at-requires : tie.Need-value-at-requires Inv-loop μ-loop
+value-at-requires c κs = omega (arith, c .before .before .before .before .before .pre .0 .0, c .before .before .loop-test .taken)
 
 work-item-requires : tie.Need-work-item-requires Inv-loop μ-loop
 work-item-requires c κs = let a = c .before .before .before .before .before .before .before .args in
     let l = c .before .before .before .before .before .loop in
-    ((c .before .before .before .before .before .before .before .pre .0 .1, l .inv .0), rows-ready (now (a .bases)) (a .i) (now (a .memory)) (now (a .kinds)) (now (a .arrays)) (now (a .values)) (a .from) (a .past) (a .self) (l .row) (l .w) (l .inv .1) (c .before .before .before .before .loop-test .taken))
+    ((c .before .before .before .before .before .before .before .pre .0 .1, l .inv .0), rw (c .before .value-at .ensures, c .before .before .array-at .ensures, c .before .before .before .kind-at .ensures) (rows-ready (now (a .bases)) (a .i) (now (a .memory)) (now (a .store)) (a .from) (a .past) (a .self) (l .row) (l .w) (l .inv .1) (c .before .before .before .before .loop-test .taken)))
 
 add-row : tie.Need-add-row Inv-loop μ-loop
 add-row c = omega (arith, c .before .before .before .before .before .before .before .before .pre .0 .0, c .before .before .before .before .before .loop-test .taken)
@@ -48,13 +42,13 @@ loop-less c = omega (arith, c .before .before .before .before .before .loop-test
 loop-again : tie.Need-loop-again Inv-loop μ-loop
 loop-again c = let a = c .before .before .before .before .before .before .before .before .args in
     let l = c .before .before .before .before .before .before .loop in
-    let z = c .work-item .ensures in
-    (z .0 .0, rows-next (now (a .bases)) (a .i) (now (a .memory)) (now (a .kinds)) (now (a .arrays)) (now (a .values)) (a .from) (a .past) (a .self) (l .row) (l .w) (l .inv .1) (c .before .before .before .before .before .loop-test .taken) (record { values = c .work-item .last .0; count = c .work-item .result }) (z .0 .1) (z .1))
+    let z = rw (c .before .before .value-at .ensures, c .before .before .before .array-at .ensures, c .before .before .before .before .kind-at .ensures) at (c .work-item .ensures) in
+    (z .0 .0, rows-next (now (a .bases)) (a .i) (now (a .memory)) (now (a .store)) (a .from) (a .past) (a .self) (l .row) (l .w) (l .inv .1) (c .before .before .before .before .before .loop-test .taken) (record { values = c .work-item .last .0; count = c .work-item .result }) (z .0 .1) (z .1))
 
 returns : tie.Need-returns Inv-loop μ-loop
 returns c = let a = c .before .before .before .args in
     let l = c .before .loop in
-    rows-end (now (a .bases)) (a .i) (now (a .memory)) (now (a .kinds)) (now (a .arrays)) (now (a .values)) (a .from) (a .past) (a .self) (l .row) (l .w) (l .inv .1) (c .loop-test .left)
+    rows-end (now (a .bases)) (a .i) (now (a .memory)) (now (a .store)) (a .from) (a .past) (a .self) (l .row) (l .w) (l .inv .1) (c .loop-test .left)
 
 pub work-rows-spec : {M : Type 1} → statement M
 work-rows-spec =
@@ -63,11 +57,9 @@ work-rows-spec =
     Inv-loop
     μ-loop
     loop-holds
-    element-copy-out-work-item
-    mul-work-item
-    element-copy-out-work-item-2
-    mul-work-item-2
-    element-copy-out-work-item-3
+    kind-at-requires
+    array-at-requires
+    value-at-requires
     work-item-requires
     add-row
     loop-less

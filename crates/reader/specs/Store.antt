@@ -1,0 +1,213 @@
+-- A table as it is kept: one run of numbers, with a row for each destination and each item, in byte order.
+use Prim.Native.Nat.{ℕ, zero, suc, _+_, _-_, _*_, _≤_, _<_}
+use mathlib.Core.Bool.{cond}
+use mathlib.Core.List.{List, [], _∷_}
+use native.Mathlib.Omega.{arith}
+use mathlib.Core.Path.{_≡_, refl, ap, _∙_}
+use lib.ListN.{getD, set, take, length, length-set}
+use lib.Seq.{take-set-le, getD-set-same, getD-set-other}
+use lib.Dec.{eqb}
+use Rattle.records.specs.declared.Record.{Record}
+use Rattle.records.specs.declared.Record.the-variants as rec
+use Rattle.records.specs.declared.Summary.{Summary}
+use Rattle.model.specs.Table.{Item, read, constant, operation, Statement, Loop, Table, noLoop, loop, count}
+use Rattle.reader.specs.declared.Reading.{Reading}
+use Rattle.reader.specs.declared.Reading.the-variants.{Refused, Accepted}
+use Rattle.reader.specs.Reading.{Answer, accepted, refused}
+
+-- THE LAYOUT: the lengths of the arrays from 0 on; loop k has its bounds at k from 16 and from 32 on, and the rows from startAt k up to
+-- startAt (k + 1): its destination, then its items; a row is three numbers
+module _ (c : List ℕ) where
+  abbrev pub firstAt : ℕ → ℕ
+  firstAt k = getD c (16 + k) 0
+
+  abbrev pub lastAt : ℕ → ℕ
+  lastAt k = getD c (32 + k) 0
+
+  abbrev pub startAt : ℕ → ℕ
+  startAt k = getD c (48 + k) 0
+
+  abbrev pub kindAt : ℕ → ℕ
+  kindAt r = getD c (65 + 3 * r) 0
+
+  abbrev pub arrayAt : ℕ → ℕ
+  arrayAt r = getD c (65 + 3 * r + 1) 0
+
+  abbrev pub valueAt : ℕ → ℕ
+  valueAt r = getD c (65 + 3 * r + 2) 0
+
+abbrev pub Sized : List ℕ → Type 0
+Sized c = length c ≡ 1649
+
+-- the kind of a row is its record's: 2 a destination, 3 a read, 4 a constant, 5 an operation
+unfoldable pub itemOf : ℕ → ℕ → ℕ → Item
+itemOf kind q v = cond (eqb kind 3) (read q v) (cond (eqb kind 4) (constant v) (operation v))
+
+module _ (c : List ℕ) where
+  abbrev pub itemAt : ℕ → Item
+  itemAt r = itemOf (kindAt c r) (arrayAt c r) (valueAt c r)
+
+  -- the n items from row r on
+  unfoldable pub itemsFrom : ℕ → ℕ → List Item
+  itemsFrom r zero = []
+  itemsFrom r (suc n) = itemAt r ∷ itemsFrom (suc r) n
+
+  -- a statement: its destination's row, then its items up to the row `past`
+  abbrev pub statementAt : ℕ → ℕ → Statement
+  statementAt r past = record {
+    array = arrayAt c r;
+    offset = valueAt c r;
+    items = itemsFrom (suc r) (past - suc r);
+  }
+
+  abbrev pub loopAt : ℕ → Loop
+  loopAt k = record {
+    first = firstAt c k;
+    last = lastAt c k;
+    body = statementAt (startAt c k) (startAt c (suc k)) ∷ [];
+  }
+
+  -- the n loops from loop k on
+  unfoldable pub loopsFrom : ℕ → ℕ → List Loop
+  loopsFrom k zero = []
+  loopsFrom k (suc n) = loopAt k ∷ loopsFrom (suc k) n
+
+  -- the table of so many arrays and loops
+  abbrev pub tableAt : ℕ → ℕ → Table
+  tableAt arrays loops = record { lengths = take arrays c; loops = loopsFrom 0 loops }
+
+-- what the code's answer says, with the store that it left
+unfoldable pub answer : Reading → List ℕ → Answer
+answer (Refused g p) c = refused g p
+answer (Accepted arrays loops rows) c = accepted (tableAt c arrays loops)
+
+-- one row more
+unfoldable pub withRow : ℕ → ℕ → ℕ → ℕ → ℕ → List ℕ → List ℕ
+withRow k r kind q v c = set (set (set (set c (48 + k) (r + 1)) (65 + 3 * r) kind) (65 + 3 * r + 1) q) (65 + 3 * r + 2) v
+
+unfoldable pub withBounds : ℕ → ℕ → ℕ → List ℕ → List ℕ
+withBounds k f l c = set (set c (16 + k) f) (32 + k) l
+
+-- what a record adds, after records with the summary t, in row r
+unfoldable pub kept : Record → Summary → ℕ → List ℕ → List ℕ
+kept rec.Unknown t r c = c
+kept (rec.Array n) t r c = set c (t .arrays) n
+kept (rec.Loop f l q o) t r c = withRow (t .loops + 1) r 2 q o (withBounds (t .loops) f l c)
+kept (rec.Read q o) t r c = withRow (t .loops) r 3 q o c
+kept (rec.Constant n) t r c = withRow (t .loops) r 4 0 n c
+kept (rec.Operation o) t r c = withRow (t .loops) r 5 0 o c
+kept rec.End t r c = c
+
+-- how many rows then
+unfoldable pub rowsAfter : Record → ℕ → ℕ
+rowsAfter rec.Unknown r = r
+rowsAfter (rec.Array n) r = r
+rowsAfter (rec.Loop f l q o) r = r + 1
+rowsAfter (rec.Read q o) r = r + 1
+rowsAfter (rec.Constant n) r = r + 1
+rowsAfter (rec.Operation o) r = r + 1
+rowsAfter rec.End r = r
+
+-- places for all that a record adds
+pub record Places (t : Summary) (r : ℕ) : Type 0 where
+  pub arrays : t .arrays ≤ 16
+  pub loops : t .loops ≤ 16
+  pub rows : r ≤ 528
+
+-- LAWS: the table in the store has so many loops, and each is where it is kept
+module _ (c : List ℕ) where
+  length-loops : (k n : ℕ) → length (loopsFrom c k n) ≡ n
+  unfolding loopsFrom
+  length-loops k zero = refl
+  length-loops k (suc n) = ap suc (length-loops (suc k) n)
+
+  getD-loops : (k n j : ℕ) → j < n → getD (loopsFrom c k n) j noLoop ≡ loopAt c (k + j)
+  unfolding loopsFrom
+  getD-loops k zero j l = absurd (omega arith)
+  getD-loops k (suc n) zero l = let e : k ≡ k + 0 = omega arith in ap (loopAt c) e
+  getD-loops k (suc n) (suc j) l = let e : suc k + j ≡ k + suc j = omega arith in getD-loops (suc k) n j (omega arith) ∙ ap (loopAt c) e
+
+  pub count-table : (a l : ℕ) → count (tableAt c a l) ≡ l
+  count-table a l = length-loops 0 l
+
+  pub loop-table : (a l k : ℕ) → k < l → loop (tableAt c a l) k ≡ loopAt c k
+  loop-table a l k h = let e : 0 + k ≡ k = omega arith in getD-loops 0 l k h ∙ ap (loopAt c) e
+
+-- LAWS: what a row leaves, and what it holds
+module _ (c : List ℕ) (k r kind q v : ℕ) where
+  abbrev s1 : List ℕ
+  s1 = set c (48 + k) (r + 1)
+
+  abbrev s2 : List ℕ
+  s2 = set s1 (65 + 3 * r) kind
+
+  abbrev s3 : List ℕ
+  s3 = set s2 (65 + 3 * r + 1) q
+
+  pub sized-row : Sized c → Sized (withRow k r kind q v c)
+  unfolding withRow
+  sized-row z = simp length-set z
+
+  pub row-leaves : (i : ℕ) → i < 65 + 3 * r → (i ≡ 48 + k → ⊥) → getD (withRow k r kind q v c) i 0 ≡ getD c i 0
+  unfolding withRow
+  row-leaves i l n =
+      getD-set-other s3 (65 + 3 * r + 2) i v 0 (λ e. omega arith)
+      ∙ getD-set-other s2 (65 + 3 * r + 1) i q 0 (λ e. omega arith)
+      ∙ getD-set-other s1 (65 + 3 * r) i kind 0 (λ e. omega arith)
+      ∙ getD-set-other c (48 + k) i (r + 1) 0 n
+
+  pub row-lengths : (n : ℕ) → n ≤ 16 → take n (withRow k r kind q v c) ≡ take n c
+  unfolding withRow
+  row-lengths n l =
+      take-set-le n s3 (65 + 3 * r + 2) v (omega arith)
+      ∙ take-set-le n s2 (65 + 3 * r + 1) q (omega arith)
+      ∙ take-set-le n s1 (65 + 3 * r) kind (omega arith)
+      ∙ take-set-le n c (48 + k) (r + 1) (omega arith)
+
+  module _ (z : Sized c) (few : r < 528) where
+    pub row-kind : kindAt (withRow k r kind q v c) r ≡ kind
+    unfolding withRow
+    row-kind =
+        getD-set-other s3 (65 + 3 * r + 2) (65 + 3 * r) v 0 (λ e. omega arith)
+        ∙ getD-set-other s2 (65 + 3 * r + 1) (65 + 3 * r) q 0 (λ e. omega arith)
+        ∙ getD-set-same s1 (65 + 3 * r) kind 0 (simp length-set (omega (arith, z)))
+
+    pub row-array : arrayAt (withRow k r kind q v c) r ≡ q
+    unfolding withRow
+    row-array =
+        getD-set-other s3 (65 + 3 * r + 2) (65 + 3 * r + 1) v 0 (λ e. omega arith)
+        ∙ getD-set-same s2 (65 + 3 * r + 1) q 0 (simp length-set (omega (arith, z)))
+
+    pub row-value : valueAt (withRow k r kind q v c) r ≡ v
+    unfolding withRow
+    row-value = getD-set-same s3 (65 + 3 * r + 2) v 0 (simp length-set (omega (arith, z)))
+
+    pub row-start : k < 17 → startAt (withRow k r kind q v c) k ≡ r + 1
+    unfolding withRow
+    row-start l =
+        getD-set-other s3 (65 + 3 * r + 2) (48 + k) v 0 (λ e. omega arith)
+        ∙ getD-set-other s2 (65 + 3 * r + 1) (48 + k) q 0 (λ e. omega arith)
+        ∙ getD-set-other s1 (65 + 3 * r) (48 + k) kind 0 (λ e. omega arith)
+        ∙ getD-set-same c (48 + k) (r + 1) 0 (omega (arith, z))
+
+module _ (c : List ℕ) (k f l : ℕ) where
+  pub sized-bounds : Sized c → Sized (withBounds k f l c)
+  unfolding withBounds
+  sized-bounds z = simp length-set z
+
+  pub bounds-leave : (i : ℕ) → (i ≡ 16 + k → ⊥) → (i ≡ 32 + k → ⊥) → getD (withBounds k f l c) i 0 ≡ getD c i 0
+  unfolding withBounds
+  bounds-leave i m n = getD-set-other (set c (16 + k) f) (32 + k) i l 0 n ∙ getD-set-other c (16 + k) i f 0 m
+
+  pub bounds-lengths : (n : ℕ) → n ≤ 16 → take n (withBounds k f l c) ≡ take n c
+  unfolding withBounds
+  bounds-lengths n m = take-set-le n (set c (16 + k) f) (32 + k) l (omega arith) ∙ take-set-le n c (16 + k) f (omega arith)
+
+  module _ (z : Sized c) (few : k < 16) where
+    pub bounds-first : firstAt (withBounds k f l c) k ≡ f
+    unfolding withBounds
+    bounds-first = getD-set-other (set c (16 + k) f) (32 + k) (16 + k) l 0 (λ e. omega arith) ∙ getD-set-same c (16 + k) f 0 (omega (arith, z))
+
+    pub bounds-last : lastAt (withBounds k f l c) k ≡ l
+    unfolding withBounds
+    bounds-last = getD-set-same (set c (16 + k) f) (32 + k) l 0 (simp length-set (omega (arith, z)))
