@@ -17,8 +17,8 @@ use Rattle.records.specs.Clear.{Room, clear-room}
 use Rattle.records.specs.Outcome.{Whole, passed-whole, tested-same}
 use Rattle.reader.specs.declared.Reading.the-variants.{Refused, Accepted}
 use Rattle.reader.specs.Reading.{accepted, follow, readFrom, reading, tableOf}
-use Rattle.reader.specs.Store.{Sized, startAt, answer, kept, rowsAfter, tableAt, Places}
-use Rattle.reader.specs.Stored.{Stored, Filled, stored-all, stored-start, kept-stored}
+use Rattle.reader.specs.Store.{Sized, startAt, answer, kept, rowsAfter, tableAt, withCounts, Places}
+use Rattle.reader.specs.Stored.{Stored, Kept, Filled, stored-all, stored-start, kept-stored, counted-table, counted-holds}
 
 -- the records before `at` have been read, and the rest from there gives the whole reading
 pub record Inv (s : List ℕ) (c : List ℕ) (t : Summary) (at rows : ℕ) : Type 0 where
@@ -70,13 +70,16 @@ module _ (s : List ℕ) (c : List ℕ) (t : Summary) (at rows : ℕ) (inv : Inv 
     unfolding answer follow
     turn-tail n e l = rw (lt-ltb _ _ l) at (turn (found.Ended n) e)
 
-    pub turn-ended : (n a l : ℕ) → x ≡ found.Ended n → length s ≤ n → a ≡ t .arrays → l ≡ t .loops
-        → (answer (Accepted a l rows) c ≡ reading s) × Filled (Accepted a l rows) c
+    pub turn-ended : (n : ℕ) (d : List ℕ) → x ≡ found.Ended n → length s ≤ n → d ≡ withCounts (t .arrays) (t .loops) c
+        → (answer Accepted d ≡ reading s) × Filled Accepted d
     unfolding answer follow
-    turn-ended n a l e h f g = (table ∙ rw (le-ltb _ _ h) at (turn (found.Ended n) e), (stored .sized, rw (f, g, summed) (stored .kept)))
+    turn-ended n d e h f = rw f (ap accepted (counted-table c (t .arrays) (t .loops) rows (stored .sized) here-kept ∙ table) ∙ rw (le-ltb _ _ h) at (turn (found.Ended n) e), counted-holds c (t .arrays) (t .loops) rows (stored .sized) here-kept)
       where
-        table : accepted (tableAt c a l) ≡ accepted (tableOf rs)
-        table = rw (f, g, summed, stored .lens, stored-all c rs rows stored)
+        here-kept : Kept c (t .arrays) (t .loops) rows
+        here-kept = rw summed (stored .kept)
+
+        table : tableAt c (t .arrays) (t .loops) ≡ tableOf rs
+        table = rw (summed, stored .lens, stored-all c rs rows stored)
 
     module _ (r : Record) (n : ℕ) (e : x ≡ found.Passed r n) where
       whole : Whole s at (summary rs) (lengths rs) r n × (r ≡ rec.End → ⊥)

@@ -4,5 +4,7 @@ pub mod Reading
 pub mod Store
 -- the store holds what was read
 pub mod Stored
+-- what is known of a store that holds a table, field by field
+pub mod Held
 -- how a reading that accepts goes
 pub mod Accepting

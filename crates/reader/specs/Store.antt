@@ -16,7 +16,10 @@ use Rattle.reader.specs.declared.Reading.the-variants.{Refused, Accepted
 use Rattle.reader.specs.Reading.{Answer, accepted, refused}
 
 -- THE LAYOUT: the lengths of the arrays from 0 on; loop k has its bounds at k from 16 and from 32 on, and the rows from startAt k up to
--- startAt (k + 1): its destination, then its items; a row is three numbers
+-- startAt (k + 1): its destination, then its items; a row is three numbers; past all rows stand how many arrays and how many loops there are
+abbrev pub mostRows : ℕ
+mostRows = 528
+
 module _ (c : List ℕ) where
   abbrev pub firstAt : ℕ → ℕ
   firstAt k = getD c (16 + k) 0
@@ -36,8 +39,14 @@ module _ (c : List ℕ) where
   abbrev pub valueAt : ℕ → ℕ
   valueAt r = getD c (65 + 3 * r + 2) 0
 
+  abbrev pub arraysIn : ℕ
+  arraysIn = getD c 1649 0
+
+  abbrev pub loopsIn : ℕ
+  loopsIn = getD c 1650 0
+
 abbrev pub Sized : List ℕ → Type 0
-Sized c = length c ≡ 1649
+Sized c = length c ≡ 1651
 
 -- the kind of a row is its record's: 2 a destination, 3 a read, 4 a constant, 5 an operation
 unfoldable pub itemOf : ℕ → ℕ → ℕ → Item
@@ -76,10 +85,14 @@ module _ (c : List ℕ) where
   abbrev pub tableAt : ℕ → ℕ → Table
   tableAt arrays loops = record { lengths = take arrays c; loops = loopsFrom 0 loops }
 
+-- THE TABLE IN A STORE
+abbrev pub tableIn : List ℕ → Table
+tableIn c = tableAt c (arraysIn c) (loopsIn c)
+
 -- what the code's answer says, with the store that it left
 unfoldable pub answer : Reading → List ℕ → Answer
 answer (Refused g p) c = refused g p
-answer (Accepted arrays loops rows) c = accepted (tableAt c arrays loops)
+answer Accepted c = accepted (tableIn c)
 
 -- one row more
 unfoldable pub withRow : ℕ → ℕ → ℕ → ℕ → ℕ → List ℕ → List ℕ
@@ -87,6 +100,9 @@ withRow k r kind q v c = set (set (set (set c (48 + k) (r + 1)) (65 + 3 * r) kin
 
 unfoldable pub withBounds : ℕ → ℕ → ℕ → List ℕ → List ℕ
 withBounds k f l c = set (set c (16 + k) f) (32 + k) l
+
+unfoldable pub withCounts : ℕ → ℕ → List ℕ → List ℕ
+withCounts arrays loops c = set (set c 1649 arrays) 1650 loops
 
 -- what a record adds, after records with the summary t, in row r
 unfoldable pub kept : Record → Summary → ℕ → List ℕ → List ℕ
@@ -211,3 +227,25 @@ module _ (c : List ℕ) (k f l : ℕ) where
     pub bounds-last : lastAt (withBounds k f l c) k ≡ l
     unfolding withBounds
     bounds-last = getD-set-same (set c (16 + k) f) (32 + k) l 0 (simp length-set (omega (arith, z)))
+
+module _ (c : List ℕ) (a l : ℕ) where
+  pub sized-counts : Sized c → Sized (withCounts a l c)
+  unfolding withCounts
+  sized-counts z = simp length-set z
+
+  pub counts-leave : (i : ℕ) → i < 1649 → getD (withCounts a l c) i 0 ≡ getD c i 0
+  unfolding withCounts
+  counts-leave i m = getD-set-other (set c 1649 a) 1650 i l 0 (λ e. omega arith) ∙ getD-set-other c 1649 i a 0 (λ e. omega arith)
+
+  pub counts-lengths : (n : ℕ) → n ≤ 16 → take n (withCounts a l c) ≡ take n c
+  unfolding withCounts
+  counts-lengths n m = take-set-le n (set c 1649 a) 1650 l (omega arith) ∙ take-set-le n c 1649 a (omega arith)
+
+  module _ (z : Sized c) where
+    pub counts-arrays : arraysIn (withCounts a l c) ≡ a
+    unfolding withCounts
+    counts-arrays = getD-set-other (set c 1649 a) 1650 1649 l 0 (λ e. omega arith) ∙ getD-set-same c 1649 a 0 (omega (arith, z))
+
+    pub counts-loops : loopsIn (withCounts a l c) ≡ l
+    unfolding withCounts
+    counts-loops = getD-set-same (set c 1649 a) 1650 l 0 (simp length-set (omega (arith, z)))

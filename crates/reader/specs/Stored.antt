@@ -12,11 +12,13 @@ use Rattle.records.specs.declared.Record.the-variants as rec
 use Rattle.records.specs.declared.Summary.{Summary}
 use Rattle.records.specs.History.{summary, lengths, advanced, blank, withArray, withLoop, withItem}
 use Rattle.records.specs.Clear.{Clear}
-use Rattle.model.specs.Table.{Item, read, constant, operation, Loop}
+use Rattle.model.specs.Table.{Item, read, constant, operation, Loop, Table}
 use Rattle.reader.specs.declared.Reading.{Reading}
 use Rattle.reader.specs.declared.Reading.the-variants.{Refused, Accepted}
 use Rattle.reader.specs.Reading.{loopsOf}
-use Rattle.reader.specs.Store.{Sized, firstAt, lastAt, startAt, kindAt, arrayAt, valueAt, itemOf, itemAt, itemsFrom, statementAt, loopAt, loopsFrom, withRow, withBounds, kept, rowsAfter, sized-row, row-leaves, row-lengths, row-kind, row-array, row-value, row-start, sized-bounds, bounds-leave, bounds-lengths, bounds-first, bounds-last}
+use Rattle.reader.specs.Store.{Sized, firstAt, lastAt, startAt, kindAt, arrayAt, valueAt, arraysIn, loopsIn, tableAt, tableIn, itemOf, itemAt, itemsFrom, statementAt, loopAt, loopsFrom, withRow, withBounds, withCounts, kept, rowsAfter}
+use Rattle.reader.specs.Store.{sized-row, row-leaves, row-lengths, row-kind, row-array, row-value, row-start, sized-bounds, bounds-leave, bounds-lengths, bounds-first, bounds-last}
+use Rattle.reader.specs.Store.{sized-counts, counts-leave, counts-lengths, counts-arrays, counts-loops}
 
 -- what holds of each row: its array is one of sixteen, and what a destination or a read has for an offset is one
 pub record Row (c : List ℕ) (r : ℕ) : Type 0 where
@@ -34,10 +36,16 @@ pub record Kept (c : List ℕ) (arrays loops rows : ℕ) : Type 0 where
   pub head : (k : ℕ) → k < loops → kindAt c (startAt c k) ≡ 2
   pub each : (r : ℕ) → r < rows → Row c r
 
+-- THE STORE HOLDS THE TABLE t: it is read off the store, and what is kept is in order
+pub record Holds (c : List ℕ) (t : Table) : Type 0 where
+  pub is : tableIn c ≡ t
+  pub sized : Sized c
+  pub kept : Kept c (arraysIn c) (loopsIn c) (startAt c (loopsIn c))
+
 -- of an accepted table
 abbrev pub Filled : Reading → List ℕ → Type 0
 Filled (Refused g p) c = Unit {0}
-Filled (Accepted a l r) c = Sized c × Kept c a l r
+Filled Accepted c = Holds c (tableIn c)
 
 -- LAWS OF THE STORE
 items-snoc : (c : List ℕ) (r n : ℕ) → itemsFrom c r (suc n) ≡ itemsFrom c r n ++ (itemAt c (r + n) ∷ [])
@@ -440,3 +448,56 @@ stored-start c z e = record {
   items = omega arith;
   room = omega arith;
 }
+
+-- AT THE END the counts are put beside the table
+module _ (c : List ℕ) (a l rows : ℕ) (z : Sized c) (h : Kept c a l rows) where
+  full : List ℕ
+  full = withCounts a l c
+
+  unmoved : (i : ℕ) → i < 1649 → getD c i 0 ≡ getD full i 0
+  unfolding full
+  unmoved i m = sym (counts-leave c a l i m)
+
+  before-end : (k : ℕ) → k ≤ l → startAt c k ≤ rows
+  before-end k m = omega (arith, starts-up c a l rows h k l m (omega arith), h .end)
+
+  same : Agree c full l rows
+  same = record {
+    firsts = λ k m. unmoved (16 + k) (omega (arith, h .few-loops));
+    lasts = λ k m. unmoved (32 + k) (omega (arith, h .few-loops));
+    starts = λ k m. unmoved (48 + k) (omega (arith, h .few-loops));
+    inside = λ k m. omega (arith, h .rising k m, before-end (suc k) m);
+    within = before-end;
+    kinds = λ r m. unmoved (65 + 3 * r) (omega (arith, h .few-rows));
+    arrays = λ r m. unmoved (65 + 3 * r + 1) (omega (arith, h .few-rows));
+    values = λ r m. unmoved (65 + 3 * r + 2) (omega (arith, h .few-rows));
+  }
+
+  pub counted-table : tableIn (withCounts a l c) ≡ tableAt c a l
+  unfolding full
+  counted-table =
+      rw (counts-arrays c a l z, counts-loops c a l z, counts-lengths c a l a (h .few-arrays), ← (loops-agree c full l rows same 0 l (omega arith)))
+
+  row-same : (r : ℕ) → r < rows → Row full r
+  row-same r m = record {
+    array = rw (← (same .arrays r m)) (h .each r m .array);
+    offset = λ k. rw (← (same .values r m)) (h .each r m .offset (rw (← (same .kinds r m)) at k));
+  }
+
+  counted-kept : Kept (withCounts a l c) (arraysIn (withCounts a l c)) (loopsIn (withCounts a l c)) (startAt (withCounts a l c) (loopsIn (withCounts a l c)))
+  unfolding full
+  counted-kept =
+      let e : startAt full l ≡ rows = sym (same .starts l (omega arith)) ∙ h .end in
+      rw (counts-arrays c a l z, counts-loops c a l z, e) (record {
+        few-arrays = h .few-arrays;
+        few-loops = h .few-loops;
+        few-rows = h .few-rows;
+        start = sym (same .starts 0 (omega arith)) ∙ h .start;
+        rising = λ k m. rw (← (same .starts k (omega arith)), ← (same .starts (suc k) m)) (h .rising k m);
+        end = e;
+        head = λ k m. rw (← (same .starts k (omega arith)), ← (same .kinds (startAt c k) (same .inside k m))) (h .head k m);
+        each = row-same;
+      })
+
+  pub counted-holds : Holds (withCounts a l c) (tableIn (withCounts a l c))
+  counted-holds = record { is = refl; sized = sized-counts c a l z; kept = counted-kept }

@@ -7,20 +7,13 @@ ghost use mathlib.Core.Path.{_≡_};
 ghost use Prim.Native.Nat.{_+_, _<_, _≤_};
 ghost use Rattle.records.specs.Clear.{Room};
 ghost use Rattle.reader.specs.Reading.{reading};
-ghost use Rattle.reader.specs.Store.{Sized, firstAt, lastAt, startAt, kindAt, arrayAt, valueAt, answer, kept, rowsAfter, withRow, withBounds, Places};
+ghost use Rattle.reader.specs.Store.{Sized, firstAt, lastAt, startAt, kindAt, arrayAt, valueAt, arraysIn, loopsIn, answer, kept, rowsAfter, withRow, withBounds, withCounts, Places};
 ghost use Rattle.reader.specs.Stored.{Filled};
 
-// A refusal with its number and its place, or how many arrays, loops and rows the store then holds.
+// A refusal with its number and its place, or that the store then holds the table.
 pub enum Reading {
-    Refused {
-        number: u32,
-        place: usize,
-    },
-    Accepted {
-        arrays: usize,
-        loops: usize,
-        rows: usize,
-    },
+    Refused { number: u32, place: usize },
+    Accepted,
 }
 
 fn wide(x: u32) -> usize
@@ -44,6 +37,23 @@ const LASTS_AT: usize = 32;
 const STARTS_AT: usize = 48;
 
 const ROWS_AT: usize = 65;
+
+const ARRAYS_AT: usize = 1649;
+
+const LOOPS_AT: usize = 1650;
+
+// How many arrays and how many loops there are.
+pub fn arrays_in(store: &Store) -> usize
+    ensures { λ x. ⌜ x ≡ arraysIn (now (store .entry)) ⌝ }
+{
+    wide(store[ARRAYS_AT])
+}
+
+pub fn loops_in(store: &Store) -> usize
+    ensures { λ x. ⌜ x ≡ loopsIn (now (store .entry)) ⌝ }
+{
+    wide(store[LOOPS_AT])
+}
 
 // The bounds of loop k.
 pub fn first_at(store: &Store, k: usize) -> u32
@@ -112,6 +122,13 @@ fn put_bounds(k: usize, first: u32, last: u32, store: &mut Store)
     store[LASTS_AT + k] = last;
 }
 
+fn put_counts(arrays: u32, loops: u32, store: &mut Store)
+    ensures { λ _. ⌜ now (store .exit) ≡ withCounts arrays loops (now (store .entry)) ⌝ }
+{
+    store[ARRAYS_AT] = arrays;
+    store[LOOPS_AT] = loops;
+}
+
 // Stores a record that met no ground, in row r; answers how many rows there are then.
 fn keep(x: Record, t: Summary, r: usize, store: &mut Store) -> usize
     requires { ⌜ Room x t ⌝ }
@@ -172,11 +189,8 @@ pub fn read_table(s: &[u8], store: &mut Store) -> Reading
                         place: n,
                     };
                 }
-                return Reading::Accepted {
-                    arrays: wide(t.arrays),
-                    loops: wide(t.loops),
-                    rows,
-                };
+                put_counts(t.arrays, t.loops, store);
+                return Reading::Accepted;
             }
         }
     }

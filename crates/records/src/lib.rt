@@ -5,7 +5,7 @@ ghost use Rattle.records.specs.History.{operands, withArray, withLoop, w
 ghost use Rattle.records.specs.Clear.{Room};
 
 // A table as it is kept (reader/specs/Store.antt): the lengths of the arrays come first.
-pub type Store = [u32; 1649];
+pub type Store = [u32; 1651];
 
 pub enum Kind {
     Unknown,

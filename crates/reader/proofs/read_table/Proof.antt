@@ -68,16 +68,14 @@ returns-2 c = let l = c .before .before .before .before .before .before .loop in
     let s = now (c .before .before .before .before .before .before .before .before .before .args .s) in
     (turn-tail s (l .store) (l .t) (l .at) (l .rows) (l .inv) (c .before .before .before .before .read-record .result) (c .before .before .before .before .read-record .ensures) (c .before .before .found3 .given .0 .0) (c .before .before .found3 .given .1) (c .if1 .taken), tt)
 
-wide-requires : tie.Need-wide-requires Inv-loop μ-loop
-wide-requires c κs = search needs
-
-wide-requires-2 : tie.Need-wide-requires-2 Inv-loop μ-loop
-wide-requires-2 c κs = search needs
+put-counts-requires : tie.Need-put-counts-requires Inv-loop μ-loop
+put-counts-requires c κs = search needs
 
 returns-3 : tie.Need-returns-3 Inv-loop μ-loop
 returns-3 c = let l = c .before .before .before .before .before .before .before .before .loop in
     let s = now (c .before .before .before .before .before .before .before .before .before .before .before .args .s) in
-    turn-ended s (l .store) (l .t) (l .at) (l .rows) (l .inv) (c .before .before .before .before .before .before .read-record .result) (c .before .before .before .before .before .before .read-record .ensures) (c .before .before .before .before .found3 .given .0 .0) _ _ (c .before .before .before .before .found3 .given .1) (c .before .before .if1 .left) (c .before .wide .ensures .0) (c .wide2 .ensures .0)
+    let x = c .before .before .before .before .before .before .read-record in
+    turn-ended s (l .store) (l .t) (l .at) (l .rows) (l .inv) (x .result) (x .ensures) (c .before .before .before .before .found3 .given .0 .0) _ (c .before .before .before .before .found3 .given .1) (c .before .before .if1 .left) (c .put-counts .ensures)
 
 pub read-table-spec : {M : Type 1} → statement M
 read-table-spec =
@@ -98,6 +96,5 @@ read-table-spec =
     loop-again
     enum-known-found-3
     returns-2
-    wide-requires
-    wide-requires-2
+    put-counts-requires
     returns-3)
