@@ -8,10 +8,14 @@ use mathlib.Core.List.{List, _∷_}
 use lib.ListN.{getD}
 use lib.Dec.{eqb}
 use borrow.Author.Tests.{ne-eqb}
-use Rattle.model.specs.Table.{Item, read, constant, operation, loop}
+use Rattle.model.specs.Table.{Item, read, constant, operation, loop, count}
 use Rattle.reader.specs.Reading.{accepted, refused, reading}
-use Rattle.reader.specs.Store.{Sized, startAt, kindAt, arrayAt, valueAt, itemOf, itemAt, itemsFrom, loopAt, tableAt, loop-table, count-table}
-use Rattle.reader.specs.Stored.{Kept, starts-up}
+use Rattle.reader.specs.Store.{startAt, kindAt, arrayAt, valueAt, loopsIn, itemOf, itemAt, itemsFrom, loopAt, tableIn}
+use Rattle.reader.specs.Store as reader
+use Rattle.reader.specs.Stored.{Filled}
+use Rattle.reader.specs.declared.Reading.{Reading}
+use Rattle.reader.specs.declared.Reading.the-variants as was
+use Rattle.reader.specs.Held.{Held, count-held, few-loops, few-rows, rows-rise, loop-held}
 use Rattle.serial.specs.declared.Collision.{Collision}
 use Rattle.serial.specs.declared.Collision.the-variants.{Nothing, Read}
 use Rattle.serial.specs.declared.Checked.{Checked}
@@ -76,57 +80,74 @@ module _ (span a c : ℕ) (s : List ℕ) where
   none from past row reads inv l = let e : past - row ≡ 0 = omega arith in rw e at (inv .rest)
 
 -- LOOPS
--- the rows of a loop that there is
-pub rows-known : (c : List ℕ) (a l rows : ℕ) → Kept c a l rows → (k : ℕ) → k < l
-    → (k < 16) × (startAt c k < 528) × (startAt c (k + 1) ≤ 528)
-rows-known c a l rows h k m =
-    let p = starts-up c a l rows h (suc k) l m (omega arith) in
-    (omega (arith, h .few-loops), omega (arith, p, h .rising k m, h .end, h .few-rows), rw (add-one k) (omega (arith, p, h .end, h .few-rows)))
+-- of l loops, those from k on give what all give
+pub record LoopInv (c : List ℕ) (l k : ℕ) : Type 0 where
+  pub all : l ≡ count (tableIn c)
+  pub within : k ≤ l
+  pub rest : serialFrom (tableIn c) k (l - k) ≡ through (accepted (tableIn c))
 
-module _ (c : List ℕ) (a : ℕ) where
-  module _ (l rows : ℕ) where
-    -- the loops from k on give what all loops give
-    pub record LoopInv (k : ℕ) : Type 0 where
-      pub within : k ≤ l
-      pub rest : serialFrom (tableAt c a l) k (l - k) ≡ serialFrom (tableAt c a l) 0 l
+module _ (c : List ℕ) (h : Held c) where
+  -- the rows of a loop that there is
+  pub rows-known : (k : ℕ) → k < count (tableIn c) → (k < 16) × (startAt c k < 528) × (startAt c (k + 1) ≤ 528)
+  rows-known k m =
+      let last = few-rows h (suc k) m in
+      (omega (arith, count-held h, few-loops h), omega (arith, last, rows-rise h k m), rw (add-one k) last)
 
-    pub loops-start : LoopInv 0
-    loops-start = let e : l - 0 ≡ l = omega arith in record { within = omega arith; rest = rw e refl }
+  module _ (l : ℕ) where
+    pub loops-start : l ≡ loopsIn c → LoopInv c l 0
+    unfolding through
+    loops-start z =
+        let a : l ≡ count (tableIn c) = z ∙ sym (count-held h) in
+        let e : l - 0 ≡ l = omega arith in
+        record { all = a; within = omega arith; rest = rw e (ap (serialFrom (tableIn c) 0) a) }
 
-    module _ (k : ℕ) (inv : LoopInv k) (h : k < l) (x : Collision) (found : x ≡ loopHit (loopAt c k)) where
-      turn : afterLoop k x (serialFrom (tableAt c a l) (suc k) (l - suc k)) ≡ serialFrom (tableAt c a l) 0 l
-      unfolding serialFrom
-      turn =
-          let e : l - k ≡ suc (l - suc k) = omega arith in
-          let f : loopHit (loop (tableAt c a l) k) ≡ x = ap loopHit (loop-table c a l k h) ∙ sym found in
-          rw f at (subst (λ (n : ℕ). serialFrom (tableAt c a l) k n ≡ serialFrom (tableAt c a l) 0 l) e (inv .rest))
+    module _ (k : ℕ) (inv : LoopInv c l k) where
+      module _ (m : k < l) where
+        pub there : k < count (tableIn c)
+        there = omega (arith, inv .all)
 
-      pub loop-passed : x ≡ Nothing → LoopInv (k + 1)
-      loop-passed e = rw (add-one k) (record { within = h; rest = rw e at turn })
+        module _ (x : Collision) (found : x ≡ loopHit (loopAt c k)) where
+          hit-here : loopHit (loop (tableIn c) k) ≡ x
+          hit-here = ap loopHit (loop-held h k there) ∙ sym found
 
-      pub loop-collides : (n : ℕ) → x ≡ Read n → Lowest (Serial k n) c a l rows
-      unfolding answer
-      loop-collides n e = record { is = rw e at turn; named = (h, sym found ∙ e) }
+          turn : afterLoop k x (serialFrom (tableIn c) (suc k) (l - suc k)) ≡ through (accepted (tableIn c))
+          unfolding serialFrom
+          turn =
+              let e : l - k ≡ suc (l - suc k) = omega arith in
+              rw hit-here at (subst (λ (n : ℕ). serialFrom (tableIn c) k n ≡ through (accepted (tableIn c))) e (inv .rest))
 
-    pub loops-done : (k : ℕ) → LoopInv k → l ≤ k → Lowest (Accepted a l rows) c a l rows
-    unfolding answer serialFrom
-    loops-done k inv h = let e : l - k ≡ 0 = omega arith in record { is = rw e at (inv .rest); named = (refl, refl, refl) }
+          pub loop-passed : x ≡ Nothing → LoopInv c l (k + 1)
+          loop-passed e = rw (add-one k) (record { all = inv .all; within = m; rest = rw e at turn })
 
--- A WHOLE TABLE
-module _ (c : List ℕ) (s : List ℕ) (a l rows : ℕ) (e : accepted (tableAt c a l) ≡ reading s) where
-  whole : serialFrom (tableAt c a l) 0 l ≡ table s
-  unfolding table through
-  whole = ap (serialFrom (tableAt c a l) 0) (sym (count-table c a l)) ∙ ap through e
+          pub loop-collides : (n : ℕ) → x ≡ Read n → Lowest (Serial k n) c
+          unfolding answer
+          loop-collides n e = record { is = rw e at turn; named = (there, hit-here ∙ e) }
 
-  left : Sized c × Kept c a l rows → (r : Checked) → Which r c a l rows → Left r c s
-  left f (Refused g p) h = absurd h
-  left f (Serial k n) h = (a, l, sym e, h .0, h .1)
-  left f (Accepted b m r) h = rw (h .0, h .1, h .2) f
+      pub loops-done : l ≤ k → Lowest Accepted c
+      unfolding answer serialFrom
+      loops-done m = let e : l - k ≡ 0 = omega arith in record { is = rw e at (inv .rest); named = tt }
 
-  pub checked : Sized c × Kept c a l rows → (r : Checked) → Lowest r c a l rows → (answer r c ≡ table s) × Left r c s
-  checked f r h = (h .is ∙ whole, left f r (h .named))
+-- A WHOLE TABLE, by what its reading answers
+module _ (c s : List ℕ) (x : Reading) (read : (reader.answer x c ≡ reading s) × Filled x c) where
+  pub store-held : x ≡ was.Accepted → Held c
+  store-held e = subst (λ (y : Reading). Filled y c) e (read .1)
 
-pub refused-reading : (c : List ℕ) (s : List ℕ) (g p : ℕ) → refused g p ≡ reading s
-    → (answer (Refused g p) c ≡ table s) × Left (Refused g p) c s
-unfolding table through answer
-refused-reading c s g p e = (ap through e, sym e)
+  module _ (e : x ≡ was.Accepted) where
+    is : accepted (tableIn c) ≡ reading s
+    unfolding reader.answer
+    is = subst (λ (y : Reading). reader.answer y c ≡ reading s) e (read .0)
+
+    left : (r : Checked) → Which r c → Left r c s
+    left (Refused g p) h = absurd h
+    left (Serial k n) h = (sym is, h)
+    left Accepted h = store-held e
+
+    pub checked : (r : Checked) → Lowest r c → (answer r c ≡ table s) × Left r c s
+    unfolding table
+    checked r h = (h .is ∙ ap through is, left r (h .named))
+
+  pub refused-reading : (g p : ℕ) → x ≡ was.Refused g p → (answer (Refused g p) c ≡ table s) × Left (Refused g p) c s
+  unfolding table through answer reader.answer
+  refused-reading g p e =
+      let z : refused g p ≡ reading s = subst (λ (y : Reading). reader.answer y c ≡ reading s) e (read .0) in
+      (ap through z, sym z)

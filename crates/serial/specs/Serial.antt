@@ -6,8 +6,8 @@ use mathlib.Core.List.{List, [], _∷_}
 use lib.Dec.{eqb, leb}
 use Rattle.model.specs.Table.{Item, read, constant, operation, Statement, Loop, Table, loop, count}
 use Rattle.reader.specs.Reading.{Answer, accepted, refused, reading}
-use Rattle.reader.specs.Store.{Sized, loopAt, tableAt}
-use Rattle.reader.specs.Stored.{Kept}
+use Rattle.reader.specs.Store.{tableIn}
+use Rattle.reader.specs.Held.{Held}
 use Rattle.serial.specs.declared.Collision.{Collision}
 use Rattle.serial.specs.declared.Collision.the-variants.{Nothing, Read}
 use Rattle.serial.specs.declared.Checked.{Checked}
@@ -58,21 +58,25 @@ table s = through (reading s)
 unfoldable pub answer : Checked → List ℕ → Answer
 answer (Refused g p) c = refused g p
 answer (Serial k n) c = refused 9 k
-answer (Accepted arrays loops rows) c = accepted (tableAt c arrays loops)
+answer Accepted c = accepted (tableIn c)
 
-abbrev pub Which : Checked → List ℕ → ℕ → ℕ → ℕ → Type 0
-Which (Refused g p) c a l rows = ⊥
-Which (Serial k n) c a l rows = (k < l) × (loopHit (loopAt c k) ≡ Read n)
-Which (Accepted b m r) c a l rows = (b ≡ a) × (m ≡ l) × (r ≡ rows)
+-- loop k of the table t collides, read n first
+abbrev pub Hits : Table → ℕ → ℕ → Type 0
+Hits t k n = (k < count t) × (loopHit (loop t k) ≡ Read n)
 
--- the code's answer on a table in store that was read: its loop is the lowest that collides, its read the first in that loop
-pub record Lowest (r : Checked) (c : List ℕ) (a l rows : ℕ) : Type 0 where
-  pub is : answer r c ≡ serialFrom (tableAt c a l) 0 l
-  pub named : Which r c a l rows
+abbrev pub Which : Checked → List ℕ → Type 0
+Which (Refused g p) c = ⊥
+Which (Serial k n) c = Hits (tableIn c) k n
+Which Accepted c = Unit {0}
+
+-- the code's answer on a table in a store: its loop is the lowest that collides, its read the first in that loop
+pub record Lowest (r : Checked) (c : List ℕ) : Type 0 where
+  pub is : answer r c ≡ through (accepted (tableIn c))
+  pub named : Which r c
 
 -- what is left with the answer: that the reading refused; of 9 that the loop is one of the table, with its first read that collides;
--- an accepted table's store
+-- that the store holds an accepted table
 abbrev pub Left : Checked → List ℕ → List ℕ → Type 0
 Left (Refused g p) c s = reading s ≡ refused g p
-Left (Serial k n) c s = (a : ℕ) × (l : ℕ) × (reading s ≡ accepted (tableAt c a l)) × (k < l) × (loopHit (loopAt c k) ≡ Read n)
-Left (Accepted a l r) c s = Sized c × Kept c a l r
+Left (Serial k n) c s = (reading s ≡ accepted (tableIn c)) × Hits (tableIn c) k n
+Left Accepted c s = Held c

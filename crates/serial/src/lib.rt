@@ -4,7 +4,7 @@ use records::Store;
 ghost use mathlib.Core.Path.{_≡_};
 ghost use Prim.Native.Nat.{_+_, _-_, _<_, _≤_};
 ghost use Rattle.reader.specs.Store.{Sized, startAt, itemsFrom, loopAt};
-ghost use Rattle.reader.specs.Stored.{Kept};
+ghost use Rattle.reader.specs.Held.{Held};
 ghost use Rattle.serial.specs.Serial.{collides, hit, loopHit, table, answer, Lowest, Left};
 
 // Whether a read of a loop meets its destination in another iteration, and which, numbered from 0 among the loop's reads.
@@ -13,21 +13,11 @@ pub enum Collision {
     Read(usize),
 }
 
-// A refusal with its number and its place; 9 with its loop and a read; or how many arrays, loops and rows the store then holds.
+// A refusal with its number and its place; 9 with its loop and a read; or that the store then holds the table.
 pub enum Checked {
-    Refused {
-        number: u32,
-        place: usize,
-    },
-    Serial {
-        number: usize,
-        read: usize,
-    },
-    Accepted {
-        arrays: usize,
-        loops: usize,
-        rows: usize,
-    },
+    Refused { number: u32, place: usize },
+    Serial { number: usize, read: usize },
+    Accepted,
 }
 
 fn wide(x: u32) -> usize
@@ -107,10 +97,11 @@ fn loop_hit(k: usize, store: &Store) -> Collision
 }
 
 // The loops of a table in a store, from the first on.
-fn check_loops(a: usize, loops: usize, rows: usize, store: &Store) -> Checked
-    requires { ⌜ Kept (now store) a loops rows ⌝ }
-    ensures { λ r. ⌜ Lowest r (now (store .entry)) a loops rows ⌝ }
+fn check_loops(store: &Store) -> Checked
+    requires { ⌜ Held (now store) ⌝ }
+    ensures { λ r. ⌜ Lowest r (now (store .entry)) ⌝ }
 {
+    let loops = reader::loops_in(store);
     let mut k: usize = 0;
     while k < loops {
         let hit = loop_hit(k, store);
@@ -119,11 +110,7 @@ fn check_loops(a: usize, loops: usize, rows: usize, store: &Store) -> Checked
             Collision::Read(n) => return Checked::Serial { number: k, read: n },
         }
     }
-    Checked::Accepted {
-        arrays: a,
-        loops,
-        rows,
-    }
+    Checked::Accepted
 }
 
 // The table that the bytes are, read through 9 into the lent store, or the ground that they meet.
@@ -135,10 +122,6 @@ pub fn check_table(s: &[u8], store: &mut Store) -> Checked
     let r = reader::read_table(s, store);
     match r {
         Reading::Refused { number, place } => Checked::Refused { number, place },
-        Reading::Accepted {
-            arrays,
-            loops,
-            rows,
-        } => check_loops(arrays, loops, rows, store),
+        Reading::Accepted => check_loops(store),
     }
 }

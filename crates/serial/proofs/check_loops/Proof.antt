@@ -1,43 +1,65 @@
 use native.Mathlib.Omega.{arith}
 use denote.Ref.{now}
 use Prim.Native.Nat.{_-_}
-use Rattle.serial.proofs.Walks.{LoopInv, loops-start, loop-passed, loop-collides, loops-done, rows-known}
+use Rattle.reader.specs.Held.{few-loops, count-held}
+use Rattle.serial.proofs.Walks.{LoopInv, loops-start, there, loop-passed, loop-collides, loops-done, rows-known}
 use borrow.Author.Needs.{needs}
 use Rattle.serial.proofs.check_loops.Statement.{statement}
 use Rattle.serial.proofs.check_loops.Tie as tie
 
 abbrev Inv-loop : tie.InvT-loop
-Inv-loop a loops rows store k₀ k = LoopInv store a loops rows k
+Inv-loop store loops k₀ k = LoopInv store loops k
 
 abbrev μ-loop : tie.MeasureT-loop
-μ-loop a loops rows store k₀ k = loops - k
+μ-loop store loops k₀ k = loops - k
+
+loops-in-requires : tie.Need-loops-in-requires Inv-loop μ-loop
+loops-in-requires c κs = search needs
 
 loop-holds : tie.Need-loop-holds Inv-loop μ-loop
-loop-holds c = let a = c .args in loops-start (now (a .store)) (a .a) (a .loops) (a .rows)
+loop-holds c = let b = c .before in loops-start (now (b .args .store)) (b .pre) (c .loops-in .result) (c .loops-in .ensures)
 
 loop-hit-requires : tie.Need-loop-hit-requires Inv-loop μ-loop
-loop-hit-requires c κs = let a = c .before .before .args in rows-known (now (a .store)) (a .a) (a .loops) (a .rows) (c .before .before .pre) (c .before .loop .k) (c .loop-test .taken)
+loop-hit-requires c κs =
+    let l = c .before .loop in
+    let b = c .before .before .before in
+    rows-known (now (b .args .store)) (b .pre) (l .k) (there (now (b .args .store)) (b .pre) _ (l .k) (l .inv) (c .loop-test .taken))
 
 enum-told : tie.Need-enum-told Inv-loop μ-loop
 enum-told c = search needs
 
 add-k : tie.Need-add-k Inv-loop μ-loop
-add-k c = omega (arith, c .before .before .before .before .before .pre .few-loops)
+add-k c =
+    let l = c .before .before .before .before .loop in
+    let h = c .before .before .before .before .before .before .pre in
+    omega (arith, few-loops h, count-held h, l .inv .all)
 
 loop-less : tie.Need-loop-less Inv-loop μ-loop
 loop-less c = omega arith
 
 loop-again : tie.Need-loop-again Inv-loop μ-loop
-loop-again c = let a = c .before .before .before .before .before .args in loop-passed (now (a .store)) (a .a) (a .loops) (a .rows) (c .before .before .before .before .loop .k) (c .before .before .before .before .loop .inv) (c .before .before .before .loop-test .taken) (c .before .before .loop-hit .result) (c .before .before .loop-hit .ensures) (c .enum-told .given .1)
+loop-again c =
+    let d = c .before .before in
+    let l = d .before .before .loop in
+    let b = d .before .before .before .before in
+    loop-passed (now (b .args .store)) (b .pre) _ (l .k) (l .inv) (d .before .loop-test .taken) (d .loop-hit .result) (d .loop-hit .ensures) (c .enum-told .given .1)
 
 enum-known-hit : tie.Need-enum-known-hit Inv-loop μ-loop
 enum-known-hit c = search needs
 
 returns : tie.Need-returns Inv-loop μ-loop
-returns c = let a = c .before .before .before .before .before .before .args in loop-collides (now (a .store)) (a .a) (a .loops) (a .rows) (c .before .before .before .before .before .loop .k) (c .before .before .before .before .before .loop .inv) (c .before .before .before .before .loop-test .taken) (c .before .before .before .loop-hit .result) (c .before .before .before .loop-hit .ensures) (c .before .hit .given .0 .0) (c .before .hit .given .1)
+returns c =
+    let d = c .before .before .before in
+    let l = d .before .before .loop in
+    let b = d .before .before .before .before in
+    let g = c .before .hit .given in
+    loop-collides (now (b .args .store)) (b .pre) _ (l .k) (l .inv) (d .before .loop-test .taken) (d .loop-hit .result) (d .loop-hit .ensures) (g .0 .0) (g .1)
 
 returns-2 : tie.Need-returns-2 Inv-loop μ-loop
-returns-2 c = let a = c .before .before .args in loops-done (now (a .store)) (a .a) (a .loops) (a .rows) (c .before .loop .k) (c .before .loop .inv) (c .loop-test .left)
+returns-2 c =
+    let l = c .before .loop in
+    let b = c .before .before .before in
+    loops-done (now (b .args .store)) (b .pre) _ (l .k) (l .inv) (c .loop-test .left)
 
 pub check-loops-spec : {M : Type 1} → statement M
 check-loops-spec =
@@ -45,6 +67,7 @@ check-loops-spec =
     (tie.spec
     Inv-loop
     μ-loop
+    loops-in-requires
     loop-holds
     loop-hit-requires
     enum-told
