@@ -9,6 +9,8 @@ ghost use Rattle.chains.specs.Walk.{required, shifts, peels};
 ghost use Rattle.chains.specs.Threshold.{threshold};
 ghost use Rattle.amounts.specs.Columns.{columns, refAt, refs, requiredAt, WellFormed};
 ghost use Rattle.amounts.specs.Stores.{NextStores, nextPlace};
+use arithmetic::above;
+use arithmetic::larger;
 use model::Reference;
 
 // The amounts of shifting and peeling, for each loop a shift and a peel; 0 past the last loop.
@@ -21,19 +23,6 @@ pub struct Amounts {
 struct Requirement {
     shift: usize,
     peel: usize,
-}
-
-fn larger(a: usize, b: usize) -> usize
-    ensures { λ r. ⌜ r ≡ max a b ⌝ }
-{
-    if a < b { b } else { a }
-}
-
-// a - b where a is above b, else 0.
-fn above(a: usize, b: usize) -> usize
-    ensures { λ r. ⌜ r ≡ a - b ⌝ }
-{
-    if b < a { a - b } else { 0 }
 }
 
 fn either(a: bool, b: bool) -> bool

@@ -1,5 +1,7 @@
 // How the indices are cut into blocks, which part of a loop each block has, and when a block is too short.
-
+use arithmetic::greater;
+use arithmetic::lesser;
+use arithmetic::minus;
 ghost use mathlib.Core.Path.{_≡_};
 ghost use mathlib.Core.Bool.{cond};
 ghost use Prim.Native.Nat.{ℕ, suc, _+_, _-_, _*_, _/_, _%_, _^_, _≤_, _<_, min, max};
@@ -23,42 +25,13 @@ pub struct Span {
     pub count: u32,
 }
 
-fn lesser(x: u32, y: u32) -> u32
-    ensures { λ r. ⌜ r ≡ min x y ⌝ }
-{
-    if x < y { x } else { y }
-}
-
-fn greater(x: u32, y: u32) -> u32
-    ensures { λ r. ⌜ r ≡ max x y ⌝ }
-{
-    if x < y { y } else { x }
-}
-
-// The difference, 0 where it would be below.
-fn minus(x: u32, y: u32) -> u32
-    ensures { λ r. ⌜ r ≡ x - y ⌝ }
-{
-    if x < y { 0 } else { x - y }
-}
-
-// The indices that loops run over: the least first, and how many up to the greatest last.
-pub fn span_of(firsts: &[u32], lasts: &[u32]) -> Span
-    requires { ⌜ (0 < length (now firsts)) × (length (now firsts) ≤ length (now lasts)) × ((k : ℕ) → k < length (now firsts) → getD (now lasts) k 0 < 2 ^ 31) ⌝ }
-    ensures { λ r. ⌜ r ≡ spanOf (length (now (firsts .entry))) (column (now (firsts .entry))) (column (now (lasts .entry))) ⌝ }
-{
-    let mut low = firsts[0];
-    let mut high: u32 = 0;
-    let mut k: usize = 0;
-    while k < firsts.len() {
-        low = lesser(low, firsts[k]);
-        high = greater(high, lasts[k]);
-        k += 1;
-    }
-    Span {
-        first: low,
-        count: minus(high + 1, low),
-    }
+// A plan along one index: the `count` indices from `first` on are cut into `blocks` blocks, and each loop has a shift and a peel.
+pub struct Axis {
+    pub first: u32,
+    pub count: u32,
+    pub blocks: u32,
+    pub shifts: [u32; 16],
+    pub peels: [u32; 16],
 }
 
 // How many of `count` indices stand before block b of `blocks`.

@@ -9,9 +9,10 @@ use Prim.Native.Nat.{ℕ, zero, suc, _+_, _*_, _≤_, _<_}
 use native.Mathlib.Omega.{arith}
 use lib.ListN.{length}
 use Rattle.order.specs.Lists.{Before, before-left, before-right, NoDup}
-use Rattle.order.specs.Rows.{Rows, two-rows}
+use Rattle.order.specs.Rows.{Rows}
 use Rattle.model.specs.declared.Iteration.{Iteration}
 use Rattle.model.specs.Table.{Table, count, first, last, Inside}
+use Rattle.blocks.specs.declared.Axis.{Axis}
 use Rattle.blocks.specs.declared.Range.{Range}
 use Rattle.blocks.specs.Sums.{largest, largest-bound, column}
 use Rattle.blocks.specs.Span.{tableSpan}
@@ -50,6 +51,14 @@ module _ (t : Table) (c : Fusion) where
   -- past the barrier it runs its peeled part loop by loop, i rising
   abbrev pub peeledList : ℕ → List Iteration
   peeledList b = byLoops (count t) (peeledRange b)
+
+  -- the lists by phase: 0 the fused lists, 1 the peeled ones
+  abbrev pub phases : ℕ
+  phases = 2
+
+  abbrev pub work : ℕ → ℕ → List Iteration
+  work zero b = fusedList b
+  work (suc n) b = peeledList b
 
   -- there is a processor, and for each loop the middle blocks are no smaller than its shift and peel together
   pub record Wide : Type 0 where
@@ -149,33 +158,49 @@ module _ (t : Table) (c : Fusion) where
         (less-key pastAll (x .number) (x .index) (y .number) (y .index) (index-below x i)
         (by-loops-before (count t) (peeledRange b) x y q))
 
-    -- what the crate order asks of a plan: two phases, the fused lists and then the peeled ones
-    abbrev pub rows : Rows Iteration
-    rows = two-rows processors fusedList peeledList owner phase key fused-known peeled-known fused-sorted peeled-sorted
+    pub work-known : (n b : ℕ) (x : Iteration) → n < phases → b < processors → Mem x (work n b) → (owner x ≡ b) × (phase x ≡ n)
+    work-known zero b x l i m = fused-known b x i m
+    work-known (suc n) b x l i m = let (e, q) = peeled-known b x i m in (e, omega arith)
 
-    -- EVERY ITERATION ONCE: each iteration of the table stands in one list of one processor, there once, and nothing else does.
-    -- `work 0` are the fused lists, `work 1` the peeled ones
+    pub work-sorted : (n b : ℕ) (x y : Iteration) → n < phases → b < processors → Before x y (work n b) → key x < key y
+    work-sorted zero b x y l i q = fused-sorted b x y i q
+    work-sorted (suc n) b x y l i q = peeled-sorted b x y i q
+
+    -- what the crate order asks of a plan: the fused lists, and then the peeled ones
+    abbrev pub rows : Rows Iteration
+    rows = record {
+      size = processors;
+      phases = phases;
+      work = work;
+      owner = owner;
+      phase = phase;
+      key = key;
+      known = work-known;
+      sorted = work-sorted;
+    }
+
+    -- EVERY ITERATION ONCE: each iteration of the table stands in one list of one processor, there once, and nothing else does
     pub record Once : Type 0 where
-      pub listed : (x : Iteration) → Inside t x → (owner x < processors) × (phase x < 2) × Mem x (rows .work (phase x) (owner x))
-      pub alone : (n b : ℕ) (x : Iteration) → n < 2 → b < processors → Mem x (rows .work n b) → Inside t x × (b ≡ owner x) × (n ≡ phase x)
-      pub single : (n b : ℕ) → n < 2 → b < processors → NoDup (rows .work n b)
+      pub listed : (x : Iteration) → Inside t x → (owner x < processors) × (phase x < phases) × Mem x (work (phase x) (owner x))
+      pub alone : (n b : ℕ) (x : Iteration) → n < phases → b < processors → Mem x (work n b) → Inside t x × (b ≡ owner x) × (n ≡ phase x)
+      pub single : (n b : ℕ) → n < phases → b < processors → NoDup (work n b)
 
     pub once : Once
-    once = record { listed = listed; alone = alone; single = λ n b l i x h. omega (arith, rows .sorted n b x x l i h) }
+    once = record { listed = listed; alone = alone; single = λ n b l i x h. omega (arith, work-sorted n b x x l i h) }
       where
-        listed : (x : Iteration) → Inside t x → (owner x < processors) × (phase x < 2) × Mem x (rows .work (phase x) (owner x))
+        listed : (x : Iteration) → Inside t x → (owner x < processors) × (phase x < phases) × Mem x (work (phase x) (owner x))
         listed x i =
             ⊎-elim
             (λ (e, f). (f .block, omega arith, rw e (fused-list (owner x) x (f .block) .1 (i, f))))
             (λ (e, f). let l = f .block in (omega arith, omega arith, rw e (peeled-list (owner x) x (omega arith) .1 (i, f))))
             (in-part processors edge (shift (x .number)) (peel (x .number)) (x .index) some)
 
-        inside : (n b : ℕ) (x : Iteration) → b < processors → Mem x (rows .work n b) → Inside t x
+        inside : (n b : ℕ) (x : Iteration) → b < processors → Mem x (work n b) → Inside t x
         inside zero b x l m = fused-list b x l .0 m .0
         inside (suc n) b x l m = peeled-list b x l .0 m .0
 
-        alone : (n b : ℕ) (x : Iteration) → n < 2 → b < processors → Mem x (rows .work n b) → Inside t x × (b ≡ owner x) × (n ≡ phase x)
-        alone n b x l i m = let (e, f) = rows .known n b x l i m in (inside n b x i m, sym e, sym f)
+        alone : (n b : ℕ) (x : Iteration) → n < phases → b < processors → Mem x (work n b) → Inside t x × (b ≡ owner x) × (n ≡ phase x)
+        alone n b x l i m = let (e, f) = work-known n b x l i m in (inside n b x i m, sym e, sym f)
 
 -- with the blocks as the paper cuts them: P of the indices from the least first to the greatest last
 abbrev pub fusionOf : Table → ℕ → (ℕ → ℕ) → (ℕ → ℕ) → Fusion
@@ -186,3 +211,12 @@ pub fusion-wide : (t : Table) (P : ℕ) (s p : ℕ → ℕ) (threshold : ℕ) �
     → isShort (tableSpan t .count) P threshold ≡ false → Wide t (fusionOf t P s p)
 fusion-wide t P s p threshold h pos e =
     wide-by t (fusionOf t P s p) threshold h (not-short-gaps (tableSpan t .first) (tableSpan t .count) P threshold pos e)
+
+-- the plan that code keeps of one index
+abbrev pub fusionIn : Axis → Fusion
+fusionIn a = record {
+  shift = column (a .shifts);
+  peel = column (a .peels);
+  processors = a .blocks;
+  edge = edgeOf (a .first) (a .count) (a .blocks);
+}

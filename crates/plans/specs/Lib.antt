@@ -1,6 +1,4 @@
 -- a table's plan: shifts, peels, threshold, and for P processors its blocks and lists; 10 and 11
 pub mod Plans
--- what is known of a table that was accepted
-pub mod Known
--- what is known where a plan is not refused
-pub mod Fitting
+-- what is known of an accepted plan
+pub mod Accepted

@@ -7,19 +7,25 @@ use lib.Dec.{eqb, ltb, leb}
 use lib.ListN.{getD}
 use Rattle.model.specs.Table.{Table}
 use Rattle.model.specs.References.{allRefs}
-use Rattle.reader.specs.Reading.{Answer, accepted, refused, choose}
-use Rattle.reader.specs.Columns.{Columns, tableAt}
-use Rattle.reader.specs.Stored.{Sized, Kept}
+use Rattle.reader.specs.Reading.{Answer, AnswerOf, accepted, refused, choose}
 use Rattle.serial.specs.Serial.{table}
-use Rattle.amounts.specs.declared.Amounts.{Amounts}
 use Rattle.chains.specs.Walk.{shifts, peels}
 use Rattle.chains.specs.Threshold.{threshold}
 use Rattle.blocks.specs.Span.{tableSpan}
 use Rattle.blocks.specs.Blocks.{isShort}
 use Rattle.lists.specs.Fusion.{Fusion, fusionOf}
-use Rattle.tables.specs.Verdict.{Tells, Outlined}
-use Rattle.plans.specs.declared.Measured.{Measured}
-use Rattle.plans.specs.declared.Plan.{Plan}
+
+-- what settles the lists beside the table: the count of processors
+pub record Settings : Type 0 where
+  pub processors : ℕ
+
+abbrev pub settings : ℕ → Settings
+settings P = record { processors = P }
+
+-- a table with its plan: shifts, peels, blocks and the count of processors, and so the lists of each phase (lists' Fusion)
+pub record Planned : Type 0 where
+  pub table : Table
+  pub plan : Fusion
 
 module _ (t : Table) where
   abbrev pub shiftOf : ℕ → ℕ
@@ -32,58 +38,28 @@ module _ (t : Table) where
   abbrev pub thresholdOf : ℕ
   thresholdOf = threshold (shifts (allRefs t)) (peels (allRefs t))
 
-  -- for P processors: their blocks, and so their fused and peeled lists (lists' Fusion)
-  abbrev pub planOf : ℕ → Fusion
-  planOf P = fusionOf t P shiftOf peelOf
+  abbrev pub planOf : Settings → Fusion
+  planOf w = fusionOf t (w .processors) shiftOf peelOf
+
+  -- 11, of an accepted table
+  abbrev pub shortFor : Settings → Bool
+  shortFor w = isShort (tableSpan t .count) (w .processors) thresholdOf
 
 -- 10: P outside 1 to 64
-abbrev pub badProcessors : ℕ → Bool
-badProcessors P = eqb P 0 || ltb 64 P
-
--- after 1 to 9: 10 where the processors are wrong, then 11
-unfoldable pub fitting : Bool → ℕ → Answer → Answer
-fitting wrong P (refused n p) = refused n p
-fitting wrong P (accepted t) =
-    choose wrong (refused 10 0) (choose (isShort (tableSpan t .count) P (thresholdOf t)) (refused 11 0) (accepted t))
-
-unfoldable pub planned : List ℕ → ℕ → Answer
-planned s P = fitting (badProcessors P) P (table s)
+abbrev pub badProcessors : Settings → Bool
+badProcessors w = eqb (w .processors) 0 || ltb 64 (w .processors)
 
 -- where a call names a processor, 10 is asked of P and then of that number, which must be below P
-unfoldable pub plannedFor : List ℕ → ℕ → ℕ → Answer
-plannedFor s P b = fitting (badProcessors P || leb P b) P (table s)
+abbrev pub badNumber : Settings → ℕ → Bool
+badNumber w b = badProcessors w || leb (w .processors) b
 
--- what the code leaves of a table read through 9: its columns, shifts and peels
-pub record Measures (s : List ℕ) (r : Measured) (c : Columns) : Type 0 where
-  pub outlined : Outlined s (r .outline) c
-  pub shifts-are : r .outline .number ≡ 0 → r .amounts .shifts ≡ shifts (allRefs (tableAt c (r .outline .arrays) (r .outline .loops)))
-  pub peels-are : r .outline .number ≡ 0 → r .amounts .peels ≡ peels (allRefs (tableAt c (r .outline .arrays) (r .outline .loops)))
+-- after 1 to 9: 10 where the processors are wrong, then 11, then the plan
+unfoldable pub fitting : Bool → Settings → Answer → AnswerOf Planned
+fitting wrong w (refused n p) = refused n p
+fitting wrong w (accepted t) = choose wrong (refused 10 0) (choose (shortFor t w) (refused 11 0) (accepted (record { table = t; plan = planOf t w })))
 
--- where nothing is refused: the table, its amounts, and the least first and T
-pub record Made (a : Answer) (r : Plan) (c : Columns) : Type 0 where
-  pub is : a ≡ accepted (tableAt c (r .arrays) (r .loops))
-  pub sized : Sized c
-  pub kept : Kept c (r .arrays) (r .loops) (r .rows)
-  pub shifts-are : r .amounts .shifts ≡ shifts (allRefs (tableAt c (r .arrays) (r .loops)))
-  pub peels-are : r .amounts .peels ≡ peels (allRefs (tableAt c (r .arrays) (r .loops)))
-  pub first-is : r .first ≡ tableSpan (tableAt c (r .arrays) (r .loops)) .first
-  pub count-is : r .count ≡ tableSpan (tableAt c (r .arrays) (r .loops)) .count
+unfoldable pub planned : List ℕ → Settings → AnswerOf Planned
+planned s w = fitting (badProcessors w) w (table s)
 
--- a plan tells the answer a, for the table's bytes s
-pub record Plans (s : List ℕ) (a : Answer) (r : Plan) (c : Columns) : Type 0 where
-  pub tells : Tells s a (r .number) (r .place) (r .read)
-  pub made : r .number ≡ 0 → Made a r c
-
--- a refusal has no columns
-abbrev pub refusing : ℕ → ℕ → ℕ → Amounts → Plan
-refusing number place read a = record {
-  number = number;
-  place = place;
-  read = read;
-  arrays = 0;
-  loops = 0;
-  rows = 0;
-  first = 0;
-  count = 0;
-  amounts = a;
-}
+unfoldable pub plannedFor : List ℕ → Settings → ℕ → AnswerOf Planned
+plannedFor s w b = fitting (badNumber w b) w (table s)

@@ -10,6 +10,10 @@ ghost use Rattle.lists.specs.Lists.{loopAt, sumAt, ranges, fusedColumns, peeled
 ghost use Rattle.lists.specs.Below.{clip, weighted, lengths};
 ghost use Rattle.positions.specs.Search.{belowColumns, boundColumns, Aligned, Sized, Bracket, Located};
 ghost use Rattle.positions.specs.Lines.{Extended, Linear, OnLine};
+use arithmetic::larger;
+use arithmetic::length_of;
+use arithmetic::smaller;
+use arithmetic::wide;
 use model::Iteration;
 
 // A sum, and how many iterations of that sum come before the one that is sought.
@@ -33,24 +37,6 @@ pub struct Line {
     pub past: usize,
     pub slope: usize,
     pub offset: usize,
-}
-
-fn wide(x: u32) -> usize
-    ensures { λ r. ⌜ r ≡ x ⌝ }
-{
-    x as usize
-}
-
-fn greater(x: usize, y: usize) -> usize
-    ensures { λ r. ⌜ r ≡ max x y ⌝ }
-{
-    if x < y { y } else { x }
-}
-
-fn lesser(x: usize, y: usize) -> usize
-    ensures { λ r. ⌜ r ≡ min x y ⌝ }
-{
-    if x < y { x } else { y }
 }
 
 // How many indices from f up to p, p not among them, have a sum with s below t.
@@ -115,7 +101,7 @@ pub fn sum_bound(froms: &[u32], pasts: &[u32], shifts: &[u32]) -> usize
     let mut most: usize = 0;
     let mut k: usize = 0;
     while k < froms.len() {
-        most = greater(most, past_sum(pasts, shifts, k));
+        most = larger(most, past_sum(pasts, shifts, k));
         k += 1;
     }
     most
@@ -235,8 +221,8 @@ fn extended(l: Line, f: u32, p: u32, s: u32, w: u32) -> Line
     let start = f as usize + shift;
     let weight = w as usize;
     Line {
-        from: greater(l.from, start),
-        past: lesser(l.past, p as usize + shift),
+        from: larger(l.from, start),
+        past: smaller(l.past, p as usize + shift),
         slope: l.slope + weight,
         offset: l.offset + weight * start,
     }
@@ -339,13 +325,6 @@ pub fn nth_at_sum(froms: &[u32], pasts: &[u32], shifts: &[u32], t: usize, n: usi
         number: 0,
         index: 0,
     }
-}
-
-// How long a range is.
-fn length_of(f: u32, p: u32) -> usize
-    ensures { λ r. ⌜ (r ≡ p - f) × (r < 2 ^ 32) ⌝ }
-{
-    if f < p { (p - f) as usize } else { 0 }
 }
 
 // How long the fused list is, whatever the shifts, and the peeled list of the same ranges.

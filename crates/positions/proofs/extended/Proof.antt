@@ -13,14 +13,14 @@ returns c = let a = c .before .args in extended-none (a .l) (record { from = a .
 add-start : tie.Need-add-start
 add-start c = omega arith
 
-greater-requires : tie.Need-greater-requires
-greater-requires c κs = tt
+larger-requires : tie.Need-larger-requires
+larger-requires c κs = tt
 
-add-lesser : tie.Need-add-lesser
-add-lesser c = omega arith
+add-smaller : tie.Need-add-smaller
+add-smaller c = omega arith
 
-lesser-requires : tie.Need-lesser-requires
-lesser-requires c κs = tt
+smaller-requires : tie.Need-smaller-requires
+smaller-requires c κs = tt
 
 add-t14 : tie.Need-add-t14
 add-t14 c = omega arith
@@ -34,7 +34,7 @@ add-t16 c = let a = c .before .before .before .before .before .args in omega (ar
 returns-2 : tie.Need-returns-2
 returns-2 c =
     let a = c .before .before .before .before .before .args in
-    extended-more (a .l) _ (record { from = a .f; past = a .p }) (a .s) (a .w) (omega arith) (c .before .before .before .before .before .pre .0) (c .before .before .before .greater .ensures) (c .before .before .lesser .ensures) refl refl
+    extended-more (a .l) _ (record { from = a .f; past = a .p }) (a .s) (a .w) (omega arith) (c .before .before .before .before .before .pre .0) (c .before .before .before .larger .ensures) (c .before .before .smaller .ensures) refl refl
 
 pub extended-spec : {M : Type 1} → statement M
 extended-spec =
@@ -42,9 +42,9 @@ extended-spec =
     (tie.spec
     returns
     add-start
-    greater-requires
-    add-lesser
-    lesser-requires
+    larger-requires
+    add-smaller
+    smaller-requires
     add-t14
     mul-t15
     add-t16

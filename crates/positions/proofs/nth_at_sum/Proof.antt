@@ -59,7 +59,7 @@ sub-t23 c =
     omega (
       arith,
       at-sum-fits (length (now (a .froms))) (ranges (now (a .froms)) (now (a .pasts))) (column (now (a .shifts))) (a .t) (l .k) (a .n) (l .left) (h .result) (c .before .before .if1 .taken) (h .ensures (l .k)),
-      c .wide .ensures,
+      c .wide .ensures .0,
     )
 
 returns : tie.Need-returns Inv-loop μ-loop
@@ -68,7 +68,7 @@ returns c =
     let l = c .before .before .before .before .before .before .before .before .loop in
     let h = c .before .before .before .held in
     at-sum-here (length (now (a .froms))) (ranges (now (a .froms)) (now (a .pasts))) (column (now (a .shifts))) (a .t) (l .k) (a .n) (l .left) (h .result) (c .wide .result)
-    (c .before .before .before .before .before .before .before .loop-test .taken) (l .inv .1) (c .before .before .if1 .taken) (h .ensures (l .k)) (c .wide .ensures)
+    (c .before .before .before .before .before .before .before .loop-test .taken) (l .inv .1) (c .before .before .if1 .taken) (h .ensures (l .k)) (c .wide .ensures .0)
 
 add-k : tie.Need-add-k Inv-loop μ-loop
 add-k c = omega arith

@@ -44,14 +44,14 @@ wide-requires : tie.Need-wide-requires Inv-loop μ-loop
 wide-requires c κs = tt
 
 add-t18 : tie.Need-add-t18 Inv-loop μ-loop
-add-t18 c = let l = c .before .before .before .before .before .before .before .loop in omega (arith, c .before .shared-slice-known5 .given (l .k), c .before .before .before .length-of .ensures, c .wide .ensures)
+add-t18 c = let l = c .before .before .before .before .before .before .before .loop in omega (arith, c .before .shared-slice-known5 .given (l .k), c .before .before .before .length-of .ensures, c .wide .ensures .0)
 
 returns : tie.Need-returns Inv-loop μ-loop
 returns c =
     let a = c .before .before .before .before .before .before .before .before .before .before .args in
     let l = c .before .before .before .before .before .before .before .loop in
     by-loops-here (length (now (a .froms))) (ranges (now (a .froms)) (now (a .pasts))) (l .k) (a .n) (l .left) (c .wide .result) (c .before .before .before .before .before .before .loop-test .taken) (l .inv .1)
-    (omega (arith, c .before .before .before .length-of .ensures .0, c .before .before .if1 .taken)) (c .wide .ensures)
+    (omega (arith, c .before .before .before .length-of .ensures .0, c .before .before .if1 .taken)) (c .wide .ensures .0)
 
 add-k : tie.Need-add-k Inv-loop μ-loop
 add-k c = omega arith

@@ -22,8 +22,8 @@ loop-holds c = (omega arith, omega arith, refl)
 past-sum-requires : tie.Need-past-sum-requires Inv-loop μ-loop
 past-sum-requires c κs = let p = c .before .before .before .before .before .pre in (omega arith, omega arith)
 
-greater-requires : tie.Need-greater-requires Inv-loop μ-loop
-greater-requires c κs = tt
+larger-requires : tie.Need-larger-requires Inv-loop μ-loop
+larger-requires c κs = tt
 
 add-k : tie.Need-add-k Inv-loop μ-loop
 add-k c = omega arith
@@ -36,7 +36,7 @@ loop-again c =
     let a = c .before .before .before .before .before .before .before .args in (
       omega arith,
       omega arith,
-      c .greater .ensures
+      c .larger .ensures
           ∙ largest-next _ (λ j. column (now (a .pasts)) j + column (now (a .shifts)) j) _ _ (c .before .before .before .loop .inv .2) (c .before .past-sum .ensures .0),
     )
 
@@ -54,7 +54,7 @@ sum-bound-spec =
     μ-loop
     loop-holds
     past-sum-requires
-    greater-requires
+    larger-requires
     add-k
     loop-less
     loop-again

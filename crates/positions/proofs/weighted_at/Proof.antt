@@ -48,7 +48,7 @@ returns : tie.Need-returns
 unfolding weighted
 returns c =
     let s = c .before .before .before .before .before .before .before .before .before .before in (
-      ap₂ (λ (x y : ℕ). x * y) (c .before .before .before .before .wide .ensures) (c .clipped .ensures .0),
+      ap₂ (λ (x y : ℕ). x * y) (c .before .before .before .before .wide .ensures .0) (c .clipped .ensures .0),
       weight-product (c .before .before .before .before .wide .result) (c .clipped .result) (2 ^ 32) (omega (arith, s .pre .0 .small (s .args .k))) (c .clipped .ensures .1),
     )
 

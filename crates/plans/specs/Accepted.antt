@@ -1,0 +1,139 @@
+-- What is known of an accepted plan. All that stands above the planner needs of a plan is here, however it was found.
+use Prim.Native.Nat.{ℕ, _+_, _≤_, _<_}
+use native.Mathlib.Omega.{arith}
+use mathlib.Core.Path.{_≡_, refl, sym, ap, subst, _∙_}
+use mathlib.Core.Bool.{Bool, true, false, false≢true, _||_, or-false}
+use mathlib.Core.List.{List}
+use lib.Dec.{eqb, ltb, leb}
+use borrow.Author.Tests.{eqb-false, ltb-false, leb-false, lt-leb}
+use Rattle.model.specs.Table.{Table, count, first, last}
+use Rattle.model.specs.References.{allRefs}
+use Rattle.model.specs.Sound.{Sound}
+use Rattle.reader.specs.Reading.{Answer, AnswerOf, accepted, refused, choose}
+use Rattle.serial.specs.Serial.{table}
+use Rattle.grounds.specs.Accepted.{Valid, accepted-valid, valid-last}
+use Rattle.tables.specs.Nine.{accepted-read, accepted-sound}
+use Rattle.chains.specs.Dependence.{Dependence}
+use Rattle.chains.specs.Walk.{shifts, peels}
+use Rattle.chains.specs.Tables.{allRefs-refs, allRefs-below, refs-number, plan-legal}
+use Rattle.chains.specs.Bounds.{InRange, shifts-bound, peels-bound, plan-threshold-bound}
+use Rattle.chains.specs.Threshold.{threshold-upper}
+use Rattle.blocks.specs.Span.{tableSpan, span-most}
+use Rattle.blocks.specs.Blocks.{start-up, start-last}
+use Rattle.lists.specs.Fusion.{Fusion, Wide, fusion-wide}
+use Rattle.rows.specs.Legal.{Legal}
+use Rattle.plans.specs.Plans.{Settings, Planned, shiftOf, peelOf, thresholdOf, planOf, shortFor, badProcessors, badNumber, fitting, planned, plannedFor}
+
+-- the table meets none of the grounds 1 to 9; every dependence is kept; the blocks are no smaller than any loop's shift and peel together; and
+-- the bounds that the code's sums need
+pub record Fit (t : Table) (c : Fusion) : Type 0 where
+  pub valid : Valid t
+  pub sound : Sound t
+  pub legal : Legal (Dependence (allRefs t)) t c
+  pub wide : Wide t c
+  pub few : c .processors ≤ 64
+  pub small-shift : (k : ℕ) → c .shift k ≤ 10000
+  pub small-peel : (k : ℕ) → c .peel k ≤ 10000
+  pub small-edge : (b : ℕ) → b ≤ c .processors → c .edge b ≤ 65791
+
+-- THE LAW of an accepted plan: its table was read through 9, and it fits
+pub record Accepts (s : List ℕ) (w : Settings) (q : Planned) : Type 0 where
+  pub read : table s ≡ accepted (q .table)
+  pub counted : q .plan .processors ≡ w .processors
+  pub fit : Fit (q .table) (q .plan)
+
+pub neither : (a b : Bool) → (a || b) ≡ false → (a ≡ false) × (b ≡ false)
+neither true b e = absurd (false≢true (let z : false ≡ true = cc in z))
+neither false b e = (refl, e)
+
+-- OUR SHIFTS AND PEELS
+module _ (t : Table) (v : Valid t) where
+  in-range : InRange (allRefs t)
+  in-range r m = let (l, i) = allRefs-refs t r m in v .each (r .number) l .near r i
+
+  pub shift-small : (k : ℕ) → shiftOf t k ≤ 7650
+  shift-small = shifts-bound (allRefs t) (allRefs-below t (v .few-loops)) in-range
+
+  pub peel-small : (k : ℕ) → peelOf t k ≤ 7650
+  peel-small = peels-bound (allRefs t) (allRefs-below t (v .few-loops)) in-range
+
+  pub threshold-small : thresholdOf t ≤ 15300
+  threshold-small = plan-threshold-bound (allRefs t) (allRefs-below t (v .few-loops)) in-range
+
+  -- an accepted table's span ends early
+  pub span-small : tableSpan t .first + tableSpan t .count ≤ 65791
+  span-small = span-most (count t) (first t) (last t) 65790 (v .some-loops) (v .each 0 (v .some-loops) .rising) (valid-last t v)
+
+  module _ (w : Settings) where
+    plan-keeps : Legal (Dependence (allRefs t)) t (planOf t w)
+    plan-keeps =
+        let (shift, peel) = plan-legal t (v .few-loops) in
+        record {
+          shifted = λ j k r q d. omega (arith, shift r q (d .counts), ap (shiftOf t) (refs-number t j r (d .left)), ap (shiftOf t) (refs-number t k q (d .right)));
+          peeled = λ j k r q d. omega (arith, peel r q (d .counts), ap (peelOf t) (refs-number t j r (d .left)), ap (peelOf t) (refs-number t k q (d .right)));
+        }
+
+    plan-wide : 0 < w .processors → shortFor t w ≡ false → Wide t (planOf t w)
+    plan-wide pos e =
+        fusion-wide t (w .processors) (shiftOf t) (peelOf t) (thresholdOf t)
+        (λ k l. threshold-upper (shifts (allRefs t)) (peels (allRefs t)) k (omega (arith, v .few-loops))) pos e
+
+    pub plan-fits : Sound t → badProcessors w ≡ false → shortFor t w ≡ false → Fit t (planOf t w)
+    plan-fits sound b e =
+        let (z, m) = neither (eqb (w .processors) 0) (ltb 64 (w .processors)) b in
+        let n = eqb-false (w .processors) 0 z in
+        let pos : 0 < w .processors = omega (arith, n) in
+        record {
+          valid = v;
+          sound = sound;
+          legal = plan-keeps;
+          wide = plan-wide pos e;
+          few = ltb-false 64 (w .processors) m;
+          small-shift = λ k. omega (arith, shift-small k);
+          small-peel = λ k. omega (arith, peel-small k);
+          small-edge = λ b l.
+              omega (arith, start-up (tableSpan t .count) (w .processors) b (w .processors) l, start-last (tableSpan t .count) (w .processors) pos, span-small);
+        }
+
+-- ACCEPTED
+pub valid : (s : List ℕ) (t : Table) → table s ≡ accepted t → Valid t
+valid s t e = accepted-valid s t (accepted-read s t e .0)
+
+fitting-accepted : (wrong : Bool) (w : Settings) (a : Answer) (q : Planned) → fitting wrong w a ≡ accepted q
+    → (a ≡ accepted (q .table)) × (q .plan ≡ planOf (q .table) w) × (wrong ≡ false) × (shortFor (q .table) w ≡ false)
+unfolding fitting
+fitting-accepted wrong w (refused n p) q e = let z : _≡_ {A = ℕ} 0 1 = cc in absurd (omega arith)
+fitting-accepted wrong w (accepted t) q e = go wrong (shortFor t w) refl e
+  where
+    go : (b d : Bool) → shortFor t w ≡ d
+        → choose b (refused 10 0) (choose d (refused 11 0) (accepted (record { table = t; plan = planOf t w }))) ≡ accepted q
+        → (accepted t ≡ accepted (q .table)) × (q .plan ≡ planOf (q .table) w) × (b ≡ false) × (shortFor (q .table) w ≡ false)
+    go true d g r = let z : _≡_ {A = ℕ} 0 1 = cc in absurd (omega arith)
+    go false true g r = let z : _≡_ {A = ℕ} 0 1 = cc in absurd (omega arith)
+    go false false g r =
+        let z : record { table = t; plan = planOf t w } ≡ q = cc in
+        subst (λ (x : Planned). (accepted t ≡ accepted (x .table)) × (x .plan ≡ planOf (x .table) w) × (false ≡ false) × (shortFor (x .table) w ≡ false)) z
+        (refl, refl, refl, g)
+
+pub planned-accepts : (s : List ℕ) (w : Settings) (q : Planned) → planned s w ≡ accepted q → Accepts s w q
+unfolding planned
+planned-accepts s w q e =
+    let (r, f, b, short) = fitting-accepted (badProcessors w) w (table s) q e in
+    record {
+      read = r;
+      counted = ap (λ (c : Fusion). c .processors) f;
+      fit = rw f (plan-fits (q .table) (valid s (q .table) r) w (accepted-sound s (q .table) r) b short);
+    }
+
+-- where a processor is named, it is below P, and nothing else is asked
+pub named-below : (s : List ℕ) (w : Settings) (b : ℕ) → b < w .processors → plannedFor s w b ≡ planned s w
+unfolding planned plannedFor
+named-below s w b l = rw (lt-leb (w .processors) b l, or-false (badProcessors w))
+
+pub named-accepts : (s : List ℕ) (w : Settings) (b : ℕ) (q : Planned) → plannedFor s w b ≡ accepted q → (planned s w ≡ accepted q) × (b < w .processors)
+unfolding plannedFor
+named-accepts s w b q e =
+    let (r, f, z, short) = fitting-accepted (badNumber w b) w (table s) q e in
+    let (x, m) = neither (badProcessors w) (leb (w .processors) b) z in
+    let l : b < w .processors = leb-false (w .processors) b m in
+    (sym (named-below s w b l) ∙ e, l)
