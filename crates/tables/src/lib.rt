@@ -4,7 +4,7 @@ use serial::Checked;
 ghost use mathlib.Core.Path.{_≡_};
 ghost use Rattle.reader.specs.Store.{Sized};
 ghost use Rattle.serial.specs.Serial.{table};
-ghost use Rattle.tables.specs.Verdict.{Told, refusing, Outlined};
+ghost use Rattle.tables.specs.Verdict.{Told, verdict, ReadThrough};
 
 // The number of the refusal, 0 where there is none; its place; and the read that 9 names, else 0.
 pub struct Verdict {
@@ -19,49 +19,29 @@ fn wide(x: u32) -> usize
     x as usize
 }
 
-// The same, with how many arrays, loops and rows the store of an accepted table has.
-pub struct Outline {
-    pub number: usize,
-    pub place: usize,
-    pub read: usize,
-    pub arrays: usize,
-    pub loops: usize,
-    pub rows: usize,
-}
-
-fn refusal(number: usize, place: usize, read: usize) -> Outline
-    ensures { λ r. ⌜ r ≡ refusing number place read ⌝ }
+fn refusal(number: usize, place: usize, read: usize) -> Verdict
+    ensures { λ r. ⌜ r ≡ verdict number place read ⌝ }
 {
-    Outline {
+    Verdict {
         number,
         place,
         read,
-        arrays: 0,
-        loops: 0,
-        rows: 0,
     }
 }
 
 // Reads a table through 9 into a lent store.
-pub fn read_through(s: &[u8], store: &mut Store) -> Outline
+pub fn read_through(s: &[u8], store: &mut Store) -> Verdict
     requires { ⌜ Sized (now store) ⌝ }
-    ensures { λ r. ⌜ Outlined (now (s .entry)) r (now (store .exit)) ⌝ }
+    ensures { λ r. ⌜ ReadThrough (now (s .entry)) r (now (store .exit)) ⌝ }
 {
     let r = serial::check_table(s, store);
     match r {
         Checked::Refused { number, place } => refusal(wide(number), place, 0),
         Checked::Serial { number, read } => refusal(9, number, read),
-        Checked::Accepted {
-            arrays,
-            loops,
-            rows,
-        } => Outline {
+        Checked::Accepted => Verdict {
             number: 0,
             place: 0,
             read: 0,
-            arrays,
-            loops,
-            rows,
         },
     }
 }
@@ -69,11 +49,6 @@ pub fn read_through(s: &[u8], store: &mut Store) -> Outline
 pub fn check(s: &[u8]) -> Verdict
     ensures { λ r. ⌜ Told (now (s .entry)) (table (now (s .entry))) r ⌝ }
 {
-    let mut store = [0u32; 1649];
-    let r = read_through(s, &mut store);
-    Verdict {
-        number: r.number,
-        place: r.place,
-        read: r.read,
-    }
+    let mut store = [0u32; 1651];
+    read_through(s, &mut store)
 }

@@ -29,7 +29,14 @@ collide-requires : tie.Need-collide-requires Inv-loop μ-loop
 collide-requires c κs = c .before .before .before .before .before .before .pre .1
 
 returns : tie.Need-returns Inv-loop μ-loop
-returns c = let a = c .before .before .before .before .before .before .before .before .args in let l = c .before .before .before .before .before .before .before .loop in found (a .span) (a .a) (a .c) (now (a .store)) (a .from) (a .past) (l .row) (l .reads) (l .inv) (c .before .before .before .before .before .before .loop-test .taken) (sym (c .before .before .before .before .before .kind-at .ensures) ∙ c .before .before .before .before .if1 .taken) (rw (c .before .before .before .array-at .ensures, c .before .before .value-at .ensures) at (sym (c .before .collide .ensures) ∙ c .if2 .taken))
+returns c =
+    let f = c .before .before .before .before in
+    let k = f .before in
+    let l = k .before .before .loop in
+    let a = k .before .before .before .args in
+    let three = sym (k .kind-at .ensures) ∙ f .if1 .taken in
+    found (a .span) (a .a) (a .c) (now (a .store)) (a .from) (a .past) (l .row) (l .reads) (l .inv) (k .before .loop-test .taken) three
+    (rw (c .before .before .before .array-at .ensures, c .before .before .value-at .ensures) at (sym (c .before .collide .ensures) ∙ c .if2 .taken))
 
 add-reads : tie.Need-add-reads Inv-loop μ-loop
 add-reads c = omega (arith, c .before .before .before .before .before .before .before .before .pre .0, c .before .before .before .before .before .before .before .loop .inv .few)
@@ -41,14 +48,26 @@ loop-less : tie.Need-loop-less Inv-loop μ-loop
 loop-less c = omega arith
 
 loop-again : tie.Need-loop-again Inv-loop μ-loop
-loop-again c = let a = c .before .before .before .before .args in let l = c .before .before .before .loop in let k = c .before .kind-at .ensures in
+loop-again c =
+    let a = c .before .before .before .before .args in
+    let l = c .before .before .before .loop in
+    let m = c .before .before .loop-test .taken in
+    let k = c .before .kind-at .ensures in
     ⊎-elim
-    (λ w. rw (w .5) (passed (a .span) (a .a) (a .c) (now (a .store)) (a .from) (a .past) (l .row) (l .reads) (l .inv) (c .before .before .loop-test .taken) (sym k ∙ w .0 .taken) (rw (w .1 .ensures, w .2 .ensures) at (sym (w .3 .ensures) ∙ w .4 .left))))
-    (λ w. rw (w .1) (other (a .span) (a .a) (a .c) (now (a .store)) (a .from) (a .past) (l .row) (l .reads) (l .inv) (c .before .before .loop-test .taken) (λ e. w .0 .left (k ∙ e))))
+    (λ w.
+        rw (w .5)
+        (passed (a .span) (a .a) (a .c) (now (a .store)) (a .from) (a .past) (l .row) (l .reads) (l .inv) m (sym k ∙ w .0 .taken)
+        (rw (w .1 .ensures, w .2 .ensures) at (sym (w .3 .ensures) ∙ w .4 .left))))
+    (λ w.
+        rw (w .1)
+        (other (a .span) (a .a) (a .c) (now (a .store)) (a .from) (a .past) (l .row) (l .reads) (l .inv) m (λ e. w .0 .left (k ∙ e))))
     (c .if1 .came)
 
 returns-2 : tie.Need-returns-2 Inv-loop μ-loop
-returns-2 c = let a = c .before .before .args in let l = c .before .loop in none (a .span) (a .a) (a .c) (now (a .store)) (a .from) (a .past) (l .row) (l .reads) (l .inv) (c .loop-test .left)
+returns-2 c =
+    let a = c .before .before .args in
+    let l = c .before .loop in
+    none (a .span) (a .a) (a .c) (now (a .store)) (a .from) (a .past) (l .row) (l .reads) (l .inv) (c .loop-test .left)
 
 pub first-hit-spec : {M : Type 1} → statement M
 first-hit-spec =

@@ -38,7 +38,21 @@ first-hit-requires c κs = search needs
 
 returns : tie.Need-returns
 unfolding loopHit
-returns c = let a = c .before .before .before .before .before .before .before .before .args in rw (c .before .value-at .ensures, c .before .before .array-at .ensures, c .before .before .before .span-of .ensures .0, c .before .before .before .before .last-at .ensures, c .before .before .before .before .before .first-at .ensures, c .before .before .before .before .before .before .start-at2 .ensures, c .before .before .before .before .before .before .before .start-at .ensures, add-one (startAt (now (a .store)) (a .k)), add-one (a .k)) at (c .first-hit .ensures)
+returns c =
+    let l = c .before .before .before .before in
+    let s = l .before .before in
+    let a = s .before .before .args in
+    rw (
+      c .before .value-at .ensures,
+      c .before .before .array-at .ensures,
+      c .before .before .before .span-of .ensures .0,
+      l .last-at .ensures,
+      l .before .first-at .ensures,
+      s .start-at2 .ensures,
+      s .before .start-at .ensures,
+      add-one (startAt (now (a .store)) (a .k)),
+      add-one (a .k),
+    ) at (c .first-hit .ensures)
 
 pub loop-hit-spec : {M : Type 1} → statement M
 loop-hit-spec =

@@ -1,8 +1,5 @@
-use mathlib.Core.Path.{_≡_, subst}
 use denote.Ref.{now}
-use Rattle.serial.specs.declared.Checked.{Checked}
-use Rattle.serial.specs.Serial.{table, answer, Left}
-use Rattle.tables.proofs.Laws.{outlined-refused, outlined-serial, outlined-accepted}
+use Rattle.tables.proofs.Laws.{through-refused, through-serial, through-accepted}
 use borrow.Author.Needs.{needs}
 use Rattle.tables.proofs.read_through.Statement.{statement}
 use Rattle.tables.proofs.read_through.Tie as tie
@@ -25,26 +22,30 @@ enum-known-r-2 c = search needs
 refusal-requires-2 : tie.Need-refusal-requires-2
 refusal-requires-2 c κs = search needs
 
-enum-known-r-3 : tie.Need-enum-known-r-3
-enum-known-r-3 c = search needs
+enum-told : tie.Need-enum-told
+enum-told c = search needs
 
 returns : tie.Need-returns
-returns c = let d = c .before .before .before .before .before .check-table .last .1 .0 in
-    let s = now (c .before .before .before .before .before .before .before .before .args .s) in
-    let e = subst (λ (x : Checked). (answer x d ≡ table s) × Left x d s) (c .before .before .before .r .given .1) (c .before .before .before .before .before .check-table .ensures) in
-    rw (c .refusal .ensures) (outlined-refused s d _ _ _ (e .0) (e .1) (c .before .wide .ensures))
+returns c =
+    let d = c .before .before .before in
+    let b = d .before .before in
+    let s = now (b .before .before .before .args .s) in
+    rw (c .refusal .ensures)
+    (through-refused s (b .check-table .last .1 .0) (b .check-table .result) (b .check-table .ensures) _ _ _ (d .r .given .1) (c .before .wide .ensures))
 
 returns-2 : tie.Need-returns-2
-returns-2 c = let d = c .before .before .before .before .check-table .last .1 .0 in
-    let s = now (c .before .before .before .before .before .before .before .args .s) in
-    let e = subst (λ (x : Checked). (answer x d ≡ table s) × Left x d s) (c .before .before .r2 .given .1) (c .before .before .before .before .check-table .ensures) in
-    rw (c .refusal2 .ensures) (outlined-serial s d _ _ (e .0) (e .1))
+returns-2 c =
+    let d = c .before .before in
+    let b = d .before .before in
+    let s = now (b .before .before .before .args .s) in
+    rw (c .refusal2 .ensures)
+    (through-serial s (b .check-table .last .1 .0) (b .check-table .result) (b .check-table .ensures) _ _ (d .r2 .given .1))
 
 returns-3 : tie.Need-returns-3
-returns-3 c = let d = c .before .before .before .check-table .last .1 .0 in
-    let s = now (c .before .before .before .before .before .before .args .s) in
-    let e = subst (λ (x : Checked). (answer x d ≡ table s) × Left x d s) (c .before .r3 .given .1) (c .before .before .before .check-table .ensures) in
-    outlined-accepted s d _ _ _ (e .0) (e .1)
+returns-3 c =
+    let b = c .before .before in
+    let s = now (b .before .before .before .args .s) in
+    through-accepted s (b .check-table .last .1 .0) (b .check-table .result) (b .check-table .ensures) (c .enum-told .given .1)
 
 pub read-through-spec : {M : Type 1} → statement M
 read-through-spec =
@@ -56,7 +57,7 @@ read-through-spec =
     refusal-requires
     enum-known-r-2
     refusal-requires-2
-    enum-known-r-3
+    enum-told
     returns
     returns-2
     returns-3)
