@@ -2,3 +2,7 @@
 pub mod Turn
 -- the same for two phases, as the paper says it
 pub mod TwoPhases
+-- rows of calls
+pub mod Row
+-- the counts that rows reach, and what a turn does from them
+pub mod Reach
