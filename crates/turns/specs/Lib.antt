@@ -6,3 +6,7 @@ pub mod TwoPhases
 pub mod Row
 -- the counts that rows reach, and what a turn does from them
 pub mod Reach
+-- what a turn says
+pub mod Meaning
+-- a turn is a turn of the machine that order drives
+pub mod Machine

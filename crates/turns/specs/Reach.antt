@@ -11,7 +11,7 @@ use borrow.Author.Tests.{ltb-true, ltb-false, lt-ltb, le-ltb, le-leb, lt-leb}
 use lib.ListN.{length, getD, set, length-set}
 use lib.Seq.{getD-set-same, getD-set-other}
 use Rattle.blocks.specs.Sums.{column, some, total-up, some-none, some-which, some-each}
-use Rattle.turns.specs.Turn.{Work, Said, refuses, performs, waits, ends, After, before, closed, comeTo, phaseOf, wrongCount, wrongState, next, after, turn}
+use Rattle.turns.specs.Turn.{Work, Said, refuses, performs, waits, ends, After, before, closed, comeTo, phaseOf, wrongCount, wrongState, next, after, turn, stepped}
 use Rattle.turns.specs.Row.{noneDone, none-done}
 
 neither : (a b : Bool) → (a || b) ≡ false → (a ≡ false) × (b ≡ false)
@@ -224,3 +224,8 @@ module _ {A : Type 0} (none : A) (w : Work A) where
                 at (no z) = absurd (omega (arith, before-up w (suc n) k b (omega arith)))
         go s (halts n c z h) = r
         go s (stops u o) = r
+
+  -- a step from such counts is a turn
+  pub stepped-turn : {M : Type 0} (run : A → M → M) (b : ℕ) (cs : List ℕ) (m : M) → Reachable w cs → stepped none w run b cs m ≡ turn none w run b cs m
+  unfolding stepped
+  stepped-turn run b cs m r = rw (reachable-right w cs r)
