@@ -10,3 +10,7 @@ pub mod Reach
 pub mod Meaning
 -- a turn is a turn of the machine that order drives
 pub mod Machine
+-- a row of calls is a schedule of that machine
+pub mod Follows
+-- each processor's calls report its own lists, in order
+pub mod Own
