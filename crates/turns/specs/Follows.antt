@@ -3,7 +3,7 @@
 use Prim.Native.Nat.{ℕ, _≤_, _<_}
 use native.Mathlib.Omega.{arith}
 use native.Mathlib.Decide.{decLt}
-use mathlib.Core.Path.{_≡_, refl, sym, ap, _∙_, fun-ext}
+use mathlib.Core.Path.{_≡_, refl, sym, ap, subst, _∙_, fun-ext}
 use mathlib.Core.List.{List, [], _∷_, _++_}
 use lib.ListN.{drop}
 use lib.Seq.{drop-nil}
@@ -75,15 +75,15 @@ module _ {A M : Type 0} {none : A} {r : Rows A} {run : A → M → M} {Fits : M 
             fits = f;
           })
 
-  -- a row
-  pub record Follows (bs cs : List ℕ) (m : M) : Type 0 where
-    pub actions : performed (reports step bs cs m) ≡ trace (plan r) bs (column cs)
-    pub counts : column (countsAfter step bs cs m) ≡ final (plan r) bs (column cs)
-    pub memory : memoryAfter step bs cs m ≡ runAll run (trace (plan r) bs (column cs)) m
+  -- a row from the counts c
+  pub record Follows (bs cs : List ℕ) (c : ℕ → ℕ) (m : M) : Type 0 where
+    pub actions : performed (reports step bs cs m) ≡ trace (plan r) bs c
+    pub counts : column (countsAfter step bs cs m) ≡ final (plan r) bs c
+    pub memory : memoryAfter step bs cs m ≡ runAll run (trace (plan r) bs c) m
     pub reachable : Reachable (work r) (countsAfter step bs cs m)
     pub fits : Fits (memoryAfter step bs cs m)
 
-  pub follows : (bs cs : List ℕ) (m : M) → Fits m → Reachable (work r) cs → Follows bs cs m
+  pub follows : (bs cs : List ℕ) (m : M) → Fits m → Reachable (work r) cs → Follows bs cs (column cs) m
   unfolding reports countsAfter memoryAfter
   follows [] cs m f t = record { actions = refl; counts = refl; memory = refl; reachable = t; fits = f }
   follows (b ∷ bs) cs m f t =
@@ -106,21 +106,5 @@ module _ {A M : Type 0} {none : A} {r : Rows A} {run : A → M → M} {Fits : M 
       turned c d p q = rw (q, p) (refl, refl)
 
   -- a row from the first call's counts is a schedule from the machine's start
-  pub record Started (bs : List ℕ) (m : M) : Type 0 where
-    pub actions : performed (reports step bs noneDone m) ≡ trace (plan r) bs zeros
-    pub counts : column (countsAfter step bs noneDone m) ≡ final (plan r) bs zeros
-    pub memory : memoryAfter step bs noneDone m ≡ runAll run (trace (plan r) bs zeros) m
-    pub reachable : Reachable (work r) (countsAfter step bs noneDone m)
-    pub fits : Fits (memoryAfter step bs noneDone m)
-
-  pub started : (bs : List ℕ) (m : M) → Fits m → Started bs m
-  started bs m f =
-      let g = follows bs noneDone m f (none-reachable (work r)) in
-      let e : column noneDone ≡ zeros = fun-ext none-done in
-      record {
-        actions = g .actions ∙ ap (trace (plan r) bs) e;
-        counts = g .counts ∙ ap (final (plan r) bs) e;
-        memory = g .memory ∙ ap (λ (c : ℕ → ℕ). runAll run (trace (plan r) bs c) m) e;
-        reachable = g .reachable;
-        fits = g .fits;
-      }
+  pub started : (bs : List ℕ) (m : M) → Fits m → Follows bs noneDone zeros m
+  started bs m f = subst (λ (c : ℕ → ℕ). Follows bs noneDone c m) (fun-ext none-done) (follows bs noneDone m f (none-reachable (work r)))

@@ -14,3 +14,5 @@ pub mod Machine
 pub mod Follows
 -- each processor's calls report its own lists, in order
 pub mod Own
+-- ground 15 refuses exactly what no row reaches
+pub mod Reached
