@@ -16,3 +16,7 @@ pub mod Follows
 pub mod Own
 -- ground 15 refuses exactly what no row reaches
 pub mod Reached
+-- rows that have reported every action, and what holds of every row
+pub mod Complete
+-- the row of a run in a caller's order is complete
+pub mod CallersOrder
