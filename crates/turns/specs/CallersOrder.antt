@@ -1,10 +1,10 @@
 -- The run in a caller's order: its row of calls is complete, whatever numbers it takes.
-use Prim.Native.Nat.{ℕ, zero, suc, _+_, _≤_, _<_}
+use Prim.Native.Nat.{ℕ, zero, suc, _≤_, _<_}
 use native.Mathlib.Omega.{arith}
 use native.Mathlib.Decide.{decLt}
 use mathlib.Core.Path.{_≡_, refl, sym, ap, subst, _∙_}
 use mathlib.Core.Bool.{Bool, true, false, false≢true, cond}
-use mathlib.Core.List.{List, [], _∷_, _++_, List·Memᴰ·not-nil}
+use mathlib.Core.List.{List, [], _∷_, List·Memᴰ·not-nil}
 use mathlib.Core.List.{List·Memᴰ·head as mhere}
 use lib.Dec.{ltb}
 use borrow.Author.Tests.{ltb-true, ltb-false}
@@ -16,7 +16,8 @@ use Rattle.order.specs.Rows.{Rows, plan, whole}
 use Rattle.blocks.specs.Sums.{column, total-same}
 use Rattle.lists.specs.Joined.{length-joined}
 use Rattle.turns.specs.Turn.{Said, refuses, performs, waits, ends, After, before}
-use Rattle.turns.specs.Row.{noneDone, countsAfter, memoryAfter, performing, lowest, canStep, closing, listed, rowOf, lowest-holds, lowest-none, counts-append}
+use Rattle.turns.specs.Row.{noneDone, countsAfter, memoryAfter, performing, lowest, canStep, closing, listed, rowOf}
+use Rattle.turns.specs.Row.{lowest-holds, lowest-none, counts-append}
 use Rattle.turns.specs.Reach.{Reachable}
 use Rattle.turns.specs.Machine.{done, work, next-open}
 use Rattle.turns.specs.Follows.{Calls, called, started}

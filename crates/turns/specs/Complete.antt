@@ -3,18 +3,19 @@
 use Prim.Native.Nat.{ℕ, _<_}
 use native.Mathlib.Omega.{arith}
 use native.Mathlib.Decide.{decLt}
-use mathlib.Core.Path.{_≡_, refl, ap, subst}
+use mathlib.Core.Path.{_≡_, refl, ap, subst, _∙_}
 use mathlib.Core.Logic.{⊎-elim}
 use mathlib.Core.List.{List, _∷_, _++_, List·Memᴰ·cases-cons}
 use mathlib.Core.List.{List·Memᴰ as Mem, List·Memᴰ·head as mhere, List·Memᴰ·tail as mthere}
 use Rattle.order.specs.Lists.{if-yes, Before, NoDup, joined-mem, mem-joined}
+use Rattle.order.specs.Reorder.{runAll}
 use Rattle.order.specs.Machine.{trace, zeros}
 use Rattle.order.specs.Machine.{Complete as Ends}
 use Rattle.order.specs.Exists.{complete-exists}
 use Rattle.order.specs.Rows.{Rows, plan, whole, cut-mem}
 use Rattle.rows.specs.Reported.{reports-once, after-earlier, reported-complete, complete-reported}
 use Rattle.turns.specs.Turn.{Said, refuses, performs, waits, ends, After}
-use Rattle.turns.specs.Row.{noneDone, reports}
+use Rattle.turns.specs.Row.{noneDone, reports, memoryAfter}
 use Rattle.turns.specs.Machine.{done}
 use Rattle.turns.specs.Follows.{Calls, performed, started}
 
@@ -80,6 +81,11 @@ module _ {A M : Type 0} {none : A} {r : Rows A} {run : A → M → M} {Fits : M 
         let u = r .known i a y early p g .1 in
         let v = r .known j b x late q h .1 in
         rw row-is (after-earlier (plan r) bs a x y (plan-mem r i a y early p g) (omega arith))
+
+    -- so if every complete schedule leaves what the list L leaves, the row does (order's any-schedule-by-keys)
+    pub any-row : (L : List A) → ((ds : List ℕ) → Ends (plan r) ds → (s : M) → runAll run (trace (plan r) ds zeros) s ≡ runAll run L s)
+        → Complete r step bs m → memoryAfter step bs noneDone m ≡ runAll run L m
+    any-row L same all = started k bs m fits .memory ∙ same bs (complete-ends all) m
 
   -- there is a complete row
   pub some-row : (m : M) → Fits m → (bs : List ℕ) × Complete r step bs m

@@ -11,8 +11,7 @@ use Rattle.order.specs.Reorder.{runAll, runAll-append}
 use Rattle.order.specs.Machine.{left, next, count, trace, final, zeros}
 use Rattle.order.specs.Rows.{Rows, plan}
 use Rattle.blocks.specs.Sums.{column}
-use Rattle.turns.specs.Turn.{Work, Said, refuses, performs, waits, ends, After, stays, after, turn}
-use Rattle.turns.specs.Turn.{next as goesOn}
+use Rattle.turns.specs.Turn.{Said, refuses, After, stays, turn}
 use Rattle.turns.specs.Row.{noneDone, none-done, reports, countsAfter, memoryAfter}
 use Rattle.turns.specs.Reach.{Reachable, none-reachable, turn-reachable}
 use Rattle.turns.specs.Machine.{done, work, turn-next, turn-counts, turn-memory}
@@ -40,28 +39,23 @@ module _ {A M : Type 0} {none : A} {r : Rows A} {run : A → M → M} {Fits : M 
     pub reachable : Reachable (work r) (a .counts)
     pub fits : Fits (a .memory)
 
-  turn-fits : (b : ℕ) (cs : List ℕ) (m : M) → Fits m → Fits (turn none (work r) run b cs m .memory)
-  unfolding turn
-  turn-fits b cs m f = go (goesOn none (work r) b cs)
-    where
-      go : (s : Said A) → Fits (after run b cs m s .memory)
-      go (refuses n p) = f
-      go (performs x) = k .keeps x m f
-      go waits = f
-      go ends = f
+  run-fits : (l : List A) (m : M) → Fits m → Fits (runAll run l m)
+  run-fits [] m f = f
+  run-fits (x ∷ l) m f = run-fits l (run x m) (k .keeps x m f)
 
   pub called : (b : ℕ) (cs : List ℕ) (m : M) → Fits m → Reachable (work r) cs → Called b cs m (step b cs m)
   called b cs m f t = go (decLt b (r .size))
     where
       go : Dec (b < r .size) → Called b cs m (step b cs m)
       go (yes l) =
+          let e = turn-memory none r run b cs m in
           rw (k .step-turn b cs m f t l)
           (record {
-            same = turn-next none r cs (k .some-phase) b l run m;
-            counts = turn-counts none r cs (k .some-phase) b l run m (k .few) t;
-            memory = turn-memory none r cs (k .some-phase) b l run m;
+            same = turn-next none r run b cs m (k .some-phase) l;
+            counts = turn-counts none r run b cs m (omega arith);
+            memory = e;
             reachable = turn-reachable none (work r) (k .some-phase) run (k .few) cs t b l m;
-            fits = turn-fits b cs m f;
+            fits = rw e (run-fits (done (turn none (work r) run b cs m .said)) m f);
           })
       go (no l) =
           rw (k .step-past b cs m (omega arith))

@@ -15,8 +15,8 @@ use Rattle.order.specs.Machine.{left, rest, left-rest, open?, bump, count}
 use Rattle.order.specs.Machine.{next as goesOn}
 use Rattle.order.specs.Rows.{Rows, plan, whole}
 use Rattle.blocks.specs.Sums.{column}
-use Rattle.turns.specs.Turn.{Work, Said, refuses, performs, waits, ends, before, next, after, turn}
-use Rattle.turns.specs.Reach.{Opened, Reachable, bumped, bumped-same, bumped-other, Come, Turn, does, halts, stops, turn-is}
+use Rattle.turns.specs.Turn.{Work, Said, refuses, performs, waits, ends, After, before, next, counted, after, turn}
+use Rattle.turns.specs.Reach.{counted-same, counted-other, Come, Turn, does, halts, stops, turn-is}
 use Rattle.turns.specs.Meaning.{own-length, own-more, own-nth, turn-said}
 
 -- the action that is performed
@@ -74,14 +74,14 @@ module _ {A : Type 0} (none : A) (r : Rows A) (cs : List ℕ) where
   -- what is left past the lists before phase n is of phase n or later
   left-late : (b n : ℕ) (x : A) → b < size → n ≤ phases → before (work r) n b ≤ c b → Mem x (left (plan r) c b) → n ≤ phase x
   left-late b n x l h u m =
-      let (k, i, j, g) = drop-late (λ n. r .work n b) n phases (c b) h x (omega (arith, own-length none (work r) b cs n)) (rw (left-is b l) at m) in
+      let (k, i, j, g) = drop-late (λ n. r .work n b) n phases (c b) h x (omega (arith, own-length (work r) b n)) (rw (left-is b l) at m) in
       omega (arith, known k b x j l g .1)
 
   -- where a list before phase n is not used up, something of an earlier phase is left
   left-early : (b n : ℕ) → b < size → n ≤ phases → c b < before (work r) n b → (y : A) × Mem y (left (plan r) c b) × (phase y < n)
   left-early b n l h u =
       let f : ℕ → List A = λ n. r .work n b in
-      let i : c b < length (joined n f) = omega (arith, own-length none (work r) b cs n) in
+      let i : c b < length (joined n f) = omega (arith, own-length (work r) b n) in
       let (k, j, m) = mem-joined f n (nth-mem (joined n f) none (c b) i) in
       (getD (joined n f) (c b) none, rw (left-is b l) (drop-early f n phases (c b) h none i), omega (arith, known k b _ (omega arith) l m .1))
 
@@ -100,16 +100,16 @@ module _ {A : Type 0} (none : A) (r : Rows A) (cs : List ℕ) where
       go (inl w) = absurd (omega (arith, w y m))
       go (inr w) = refl
 
+  -- the same action
   module _ (some-phase : 0 < phases) (b : ℕ) (proper : b < size) where
-    -- the same action
-    pub next-is : done (next none (work r) b cs) ≡ goesOn (plan r) c (left (plan r) c b)
+    next-is : done (next none (work r) b cs) ≡ goesOn (plan r) c (left (plan r) c b)
     next-is = go (next none (work r) b cs) (turn-is none (work r) some-phase b cs)
       where
         halted : (n : ℕ) → Come (work r) b cs n → (d : ℕ) × (d < size) × (c d < before (work r) n d) → (k : List A) → left (plan r) c b ≡ k
             → [] ≡ goesOn (plan r) c k
         halted n u h [] e = refl
         halted n u (d, i, h) (x ∷ k) e =
-            let few : n ≤ phases = omega (arith, u .proper) in
+            let few : n ≤ phases = omega arith in
             let (y, m, p) = left-early d n i few h in
             sym (next-closed x y k (left-rest (plan r) c d m) (omega (arith, left-late b n x proper few (u .used) (rw e (mhere refl)))))
 
@@ -118,48 +118,47 @@ module _ {A : Type 0} (none : A) (r : Rows A) (cs : List ℕ) where
             let x = getD (r .work n b) (c b - before (work r) n b) none in
             let l = drop (suc (c b)) (whole r b) in
             let e : left (plan r) c b ≡ x ∷ l =
-            left-is b proper ∙ drop-cons (whole r b) (c b) none (own-more none (work r) b cs n u h) ∙ ap (λ (a : A). a ∷ l) (own-nth none (work r) b cs n u h) in
+            left-is b proper ∙ drop-cons (whole r b) (c b) none (own-more u h) ∙ ap (λ (a : A). a ∷ l) (own-nth u h none) in
             sym (ap (goesOn (plan r) c) e ∙ next-open x l (λ v m. omega (arith, here, late v m)))
           where
             here : phase (getD (r .work n b) (c b - before (work r) n b) none) ≡ n
-            here = known n b _ (u .proper) proper (nth-mem (r .work n b) none (c b - before (work r) n b) (omega (arith, u .used))) .1
+            here = known n b _ (u .proper) proper (nth-mem (r .work n b) none (c b - before (work r) n b) (omega arith)) .1
 
             late : (v : A) → Mem v (rest (plan r) c) → n ≤ phase v
-            late v m = let (a, i, j) = mem-joined (left (plan r) c) size m in left-late a n v i (omega (arith, u .proper)) (o a i) j
+            late v m = let (a, i, j) = mem-joined (left (plan r) c) size m in left-late a n v i (omega arith) (o a i) j
         go s (halts n u z h) = halted n u h (left (plan r) c b) refl
         go s (stops u o) =
-            sym (ap (goesOn (plan r) c) (left-is b proper ∙ drop-all (c b) (whole r b) (omega (arith, own-length none (work r) b cs phases))))
+            sym (ap (goesOn (plan r) c) (left-is b proper ∙ drop-all (c b) (whole r b) (omega (arith, own-length (work r) b phases))))
 
-    module _ {M : Type 0} (run : A → M → M) (m : M) where
-      pub turn-next : done (turn none (work r) run b cs m .said) ≡ goesOn (plan r) c (left (plan r) c b)
-      turn-next = rw (turn-said none (work r) b cs run m) next-is
+module _ {A M : Type 0} (none : A) (r : Rows A) (run : A → M → M) (b : ℕ) (cs : List ℕ) (m : M) where
+  abbrev left-by : After A M
+  left-by = turn none (work r) run b cs m
 
-      -- the same counts
-      pub turn-counts : size ≤ 64 → Reachable (work r) cs
-          → column (turn none (work r) run b cs m .counts) ≡ count (plan r) c b (done (turn none (work r) run b cs m .said))
-      unfolding turn
-      turn-counts few t = go (next none (work r) b cs)
-        where
-          bump-is : column (bumped (work r) few cs t b proper) ≡ bump (plan r) c b
-          bump-is = fun-ext λ k. at k (ℕ-discrete k b)
-            where
-              at : (k : ℕ) → Dec (k ≡ b) → column (bumped (work r) few cs t b proper) k ≡ bump (plan r) c b k
-              at k (yes e) = rw e (bumped-same (work r) few cs t b proper ∙ sym (put-same c b (suc (c b))))
-              at k (no n) = bumped-other (work r) few cs t b proper k n ∙ sym (put-other c b k (suc (c b)) n)
+  pub turn-next : 0 < r .phases → b < r .size → done (left-by .said) ≡ goesOn (plan r) (column cs) (left (plan r) (column cs) b)
+  turn-next some-phase proper = rw (turn-said none (work r) run b cs m) (next-is none r cs some-phase b proper)
 
-          go : (s : Said A) → column (after run b cs m s .counts) ≡ count (plan r) c b (done (after run b cs m s .said))
-          go (refuses n p) = refl
-          go (performs x) = bump-is
-          go waits = refl
-          go ends = refl
+  -- the same counts
+  pub turn-counts : b < length cs → column (left-by .counts) ≡ count (plan r) (column cs) b (done (left-by .said))
+  unfolding turn
+  turn-counts proper = go (next none (work r) b cs)
+    where
+      at : (k : ℕ) → Dec (k ≡ b) → column (counted cs b) k ≡ bump (plan r) (column cs) b k
+      at k (yes e) = rw e (counted-same cs b proper ∙ sym (put-same (column cs) b (suc (column cs b))))
+      at k (no n) = counted-other cs b k n ∙ sym (put-other (column cs) b k (suc (column cs b)) n)
 
-      -- and the action's effect
-      pub turn-memory : turn none (work r) run b cs m .memory ≡ runAll run (done (turn none (work r) run b cs m .said)) m
-      unfolding turn
-      turn-memory = go (next none (work r) b cs)
-        where
-          go : (s : Said A) → after run b cs m s .memory ≡ runAll run (done (after run b cs m s .said)) m
-          go (refuses n p) = refl
-          go (performs x) = refl
-          go waits = refl
-          go ends = refl
+      go : (s : Said A) → column (after run b cs m s .counts) ≡ count (plan r) (column cs) b (done (after run b cs m s .said))
+      go (refuses n p) = refl
+      go (performs x) = fun-ext λ k. at k (ℕ-discrete k b)
+      go waits = refl
+      go ends = refl
+
+  -- and the action's effect
+  pub turn-memory : left-by .memory ≡ runAll run (done (left-by .said)) m
+  unfolding turn
+  turn-memory = go (next none (work r) b cs)
+    where
+      go : (s : Said A) → after run b cs m s .memory ≡ runAll run (done (after run b cs m s .said)) m
+      go (refuses n p) = refl
+      go (performs x) = refl
+      go waits = refl
+      go ends = refl

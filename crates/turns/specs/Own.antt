@@ -1,6 +1,7 @@
 -- Each processor keeps its own lists' order: the calls that name it have performed, in order, the first of its lists, as many as its count
 -- says. Of every row, complete or not.
 use Prim.Native.Nat.{ℕ, suc, _-_, _<_}
+use native.Mathlib.Omega.{arith}
 use native.Mathlib.Decide.{ℕ-discrete}
 use mathlib.Core.Path.{_≡_, refl, sym, ap, subst, _∙_}
 use mathlib.Core.Logic.{_≢_}
@@ -14,7 +15,7 @@ use Rattle.order.specs.Rows.{Rows, plan}
 use Rattle.blocks.specs.Sums.{column}
 use Rattle.turns.specs.Turn.{Said, After, before, next, after, turn}
 use Rattle.turns.specs.Row.{noneDone, none-done, countsAfter, reportsTo}
-use Rattle.turns.specs.Reach.{Reachable, none-reachable, bumped-same, Turn, does, halts, stops, turn-is}
+use Rattle.turns.specs.Reach.{Reachable, none-reachable, counted-same, Turn, does, halts, stops, turn-is}
 use Rattle.turns.specs.Meaning.{own, own-more, own-nth}
 use Rattle.turns.specs.Machine.{done, work}
 use Rattle.turns.specs.Follows.{Calls, performed, called}
@@ -34,9 +35,9 @@ module _ {A M : Type 0} {none : A} {r : Rows A} {run : A → M → M} {Fits : M 
           → done (after run d cs m s .said) ++ drop (column (after run d cs m s .counts) d) mine ≡ drop (column cs d) mine
       go s (does n c o h) =
           let x = getD (r .work n d) (column cs d - before (work r) n d) none in
-          ap (λ (n : ℕ). x ∷ drop n mine) (bumped-same (work r) (k .few) cs t d proper)
-          ∙ ap (λ (y : A). y ∷ drop (suc (column cs d)) mine) (sym (own-nth none (work r) d cs n c h))
-          ∙ sym (drop-cons mine (column cs d) none (own-more none (work r) d cs n c h))
+          ap (λ (n : ℕ). x ∷ drop n mine) (counted-same cs d (omega arith))
+          ∙ ap (λ (y : A). y ∷ drop (suc (column cs d)) mine) (sym (own-nth c h none))
+          ∙ sym (drop-cons mine (column cs d) none (own-more c h))
       go s (halts n c z h) = refl
       go s (stops u o) = refl
 

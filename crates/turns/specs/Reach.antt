@@ -1,22 +1,31 @@
 -- The counts that rows of calls reach: those that ground 15 does not refuse. A turn from such counts leaves such counts.
-use Prim.Native.Nat.{ℕ, zero, suc, _+_, _-_, _≤_, _<_}
+use Prim.Native.Nat.{ℕ, zero, suc, _-_, _≤_, _<_}
 use native.Mathlib.Omega.{arith}
 use native.Mathlib.Decide.{ℕ-discrete, decLt, decLe}
-use mathlib.Core.Path.{_≡_, refl, sym, subst, _∙_, ap}
+use mathlib.Core.Path.{_≡_, refl, sym, subst, _∙_}
 use mathlib.Core.Bool.{Bool, true, false, _&&_, _||_, false≢true}
 use mathlib.Core.Logic.{_⊎_, inl, inr, _≢_}
 use mathlib.Core.List.{List}
 use lib.Dec.{ltb}
 use borrow.Author.Tests.{ltb-true, ltb-false, lt-ltb, le-ltb, le-leb, lt-leb}
-use lib.ListN.{length, getD, set, length-set}
+use lib.ListN.{length, getD, length-set}
 use lib.Seq.{getD-set-same, getD-set-other}
 use Rattle.blocks.specs.Sums.{column, some, total-up, some-none, some-which, some-each}
-use Rattle.turns.specs.Turn.{Work, Said, refuses, performs, waits, ends, After, before, closed, comeTo, phaseOf, wrongCount, wrongState, next, after, turn, stepped}
+use Rattle.turns.specs.Turn.{Work, Said, performs, waits, ends, before, closed, comeTo, phaseOf, wrongCount, wrongState}
+use Rattle.turns.specs.Turn.{next, counted, after, turn, stepped}
 use Rattle.turns.specs.Row.{noneDone, none-done}
 
 neither : (a b : Bool) → (a || b) ≡ false → (a ≡ false) × (b ≡ false)
 neither true b e = absurd (false≢true (sym e))
 neither false b e = (refl, e)
+
+-- one more of processor b, and of no other
+module _ (cs : List ℕ) (b : ℕ) where
+  pub counted-same : b < length cs → column (counted cs b) b ≡ suc (column cs b)
+  counted-same l = getD-set-same cs b (suc (column cs b)) 0 l
+
+  pub counted-other : (k : ℕ) → k ≢ b → column (counted cs b) k ≡ column cs k
+  counted-other k n = getD-set-other cs b k (suc (column cs b)) 0 n
 
 module _ {A : Type 0} (w : Work A) where
   open Work w using (processors, phases, list)
@@ -93,41 +102,31 @@ module _ {A : Type 0} (w : Work A) where
   }
 
   -- one more of processor b, who has one more, and is past the barriers before it
-  module _ (few : processors ≤ 64) (cs : List ℕ) (r : Reachable cs) (b : ℕ) (proper : b < processors) where
-    abbrev pub bumped : List ℕ
-    bumped = set cs b (suc (column cs b))
+  pub counted-reachable : processors ≤ 64 → (cs : List ℕ) → Reachable cs → (b : ℕ) → b < processors → column cs b < before w phases b
+      → ((n : ℕ) → before w n b ≤ column cs b → Opened cs n) → Reachable (counted cs b)
+  counted-reachable few cs r b proper more over = record {
+    size = length-set cs b (suc (column cs b)) ∙ r .size;
+    below = λ k l. below k l (ℕ-discrete k b);
+    barrier = λ n j k l h i z. omega (arith, opened n j k l h (ℕ-discrete k b) i z, grows i (ℕ-discrete i b));
+    beyond = λ k l i. omega (arith, counted-other cs b k (λ e. omega (arith, e)), r .beyond k l i);
+  }
+    where
+      same : column (counted cs b) b ≡ suc (column cs b)
+      same = counted-same cs b (omega (arith, r .size))
 
-    pub bumped-same : column bumped b ≡ suc (column cs b)
-    bumped-same = getD-set-same cs b (suc (column cs b)) 0 (omega (arith, r .size))
+      grows : (k : ℕ) → Dec (k ≡ b) → column cs k ≤ column (counted cs b) k
+      grows k (yes e) = rw e (omega (arith, same))
+      grows k (no n) = omega (arith, counted-other cs b k n)
 
-    pub bumped-other : (k : ℕ) → k ≢ b → column bumped k ≡ column cs k
-    bumped-other k n = getD-set-other cs b k (suc (column cs b)) 0 n
+      below : (k : ℕ) → k < processors → Dec (k ≡ b) → column (counted cs b) k ≤ before w phases k
+      below k l (yes e) = rw e (omega (arith, same))
+      below k l (no n) = omega (arith, counted-other cs b k n, r .below k l)
 
-    grows : (k : ℕ) → column cs k ≤ column bumped k
-    grows k = go (ℕ-discrete k b)
-      where
-        go : Dec (k ≡ b) → column cs k ≤ column bumped k
-        go (yes e) = rw e (omega (arith, bumped-same))
-        go (no n) = omega (arith, bumped-other k n)
+      opened : (n : ℕ) → n < phases → (k : ℕ) → k < processors → before w n k < column (counted cs b) k → Dec (k ≡ b) → Opened cs n
+      opened n j k l h (yes e) = over n (omega (arith, same, subst (λ (i : ℕ). before w n i < column (counted cs b) i) e h))
+      opened n j k l h (no z) = r .barrier n j k l (omega (arith, counted-other cs b k z))
 
-    pub bumped-reachable : column cs b < before w phases b → ((n : ℕ) → before w n b ≤ column cs b → Opened cs n) → Reachable bumped
-    bumped-reachable more over = record {
-      size = length-set cs b (suc (column cs b)) ∙ r .size;
-      below = λ k l. below k l (ℕ-discrete k b);
-      barrier = λ n j k l h i z. omega (arith, opened n j k l h (ℕ-discrete k b) i z, grows i);
-      beyond = λ k l i. omega (arith, bumped-other k (λ e. omega (arith, e)), r .beyond k l i);
-    }
-      where
-        below : (k : ℕ) → k < processors → Dec (k ≡ b) → column bumped k ≤ before w phases k
-        below k l (yes e) = rw e (omega (arith, bumped-same))
-        below k l (no n) = omega (arith, bumped-other k n, r .below k l)
-
-        opened : (n : ℕ) → n < phases → (k : ℕ) → k < processors → before w n k < column bumped k → Dec (k ≡ b) → Opened cs n
-        opened n j k l h (yes e) = over n (omega (arith, bumped-same, subst (λ (i : ℕ). before w n i < column bumped i) e h))
-        opened n j k l h (no z) = r .barrier n j k l (omega (arith, bumped-other k z))
-
-  -- the phase that processor b has come to, with so many actions done: it is one of them, what is before it is used up, and nothing is past it
-  -- but what is of it, if it is not the last
+  -- the phase that processor b has come to, with n actions done: it is one of them, what is before it is used up, and it is the last or is not
   come-below : (b n m : ℕ) → comeTo w b n m ≤ m
   come-below b n zero = omega arith
   come-below b n (suc m) = go (decLe (before w (suc m) b) n) (come-below b n m)
@@ -213,7 +212,7 @@ module _ {A : Type 0} (none : A) (w : Work A) where
       where
         go : (s : Said A) → Turn b cs s → Reachable w (after run b cs m s .counts)
         go s (does n c o h) =
-            bumped-reachable w few cs r b l (omega (arith, before-up w (suc n) phases b (c .proper)))
+            counted-reachable w few cs r b l (omega (arith, before-up w (suc n) phases b (c .proper)))
             (λ k i d j. omega (arith, o d j, before-up w k n d (earlier k i)))
           where
             earlier : (k : ℕ) → before w k b ≤ column cs b → k ≤ n

@@ -18,70 +18,80 @@ use Rattle.turns.specs.Reach.{Opened, Reachable, before-up, Turn, does, 
 use Rattle.turns.specs.Machine.{work}
 use Rattle.turns.specs.Follows.{Calls, started}
 
--- nobody has come further than phase n, and processor b has done something of it: that may have been the last step
-module _ {A : Type 0} (w : Work A) (few : w .processors ≤ 64) (cs : List ℕ) (r : Reachable w cs) (n : ℕ) (proper : n < w .phases)
-    (furthest : (k : ℕ) → k < w .processors → column cs k ≤ before w (suc n) k) (b : ℕ) (there : b < w .processors) (more : before w n b < column cs b) where
-  -- one less of processor b
-  abbrev pub previous : List ℕ
-  previous = set cs b (column cs b - 1)
+-- one less of processor b
+abbrev previous : List ℕ → ℕ → List ℕ
+previous cs b = set cs b (column cs b - 1)
 
-  previous-same : column previous b ≡ column cs b - 1
-  previous-same = getD-set-same cs b (column cs b - 1) 0 (omega (arith, r .size))
+-- processor b's last step may have been the last of all: it was of phase n, and nobody has come further
+record Last {A : Type 0} (w : Work A) (cs : List ℕ) (n b : ℕ) : Type 0 where
+  few : w .processors ≤ 64
+  state : Reachable w cs
+  phase : n < w .phases
+  furthest : (k : ℕ) → k < w .processors → column cs k ≤ before w (suc n) k
+  proper : b < w .processors
+  more : before w n b < column cs b
 
-  previous-other : (k : ℕ) → k ≢ b → column previous k ≡ column cs k
-  previous-other k i = getD-set-other cs b k (column cs b - 1) 0 i
+module _ {A : Type 0} {w : Work A} {cs : List ℕ} {n b : ℕ} (t : Last w cs n b) where
+  abbrev ds : List ℕ
+  ds = previous cs b
 
-  fewer : (k : ℕ) → column previous k ≤ column cs k
+  same : column ds b ≡ column cs b - 1
+  same = getD-set-same cs b (column cs b - 1) 0 (omega arith)
+
+  other : (k : ℕ) → k ≢ b → column ds k ≡ column cs k
+  other k i = getD-set-other cs b k (column cs b - 1) 0 i
+
+  fewer : (k : ℕ) → column ds k ≤ column cs k
   fewer k = go (ℕ-discrete k b)
     where
-      go : Dec (k ≡ b) → column previous k ≤ column cs k
-      go (yes e) = rw e (omega (arith, previous-same))
-      go (no i) = omega (arith, previous-other k i)
+      go : Dec (k ≡ b) → column ds k ≤ column cs k
+      go (yes e) = rw e (omega (arith, same))
+      go (no i) = omega (arith, other k i)
 
-  pub less-total : total 64 (column previous) < total 64 (column cs)
-  less-total = total-less 64 b (column previous) (column cs) fewer (omega arith) (omega (arith, previous-same))
+  less-total : total 64 (column (previous cs b)) < total 64 (column cs)
+  less-total = total-less 64 b (column ds) (column cs) fewer (omega arith) (omega (arith, same))
 
   -- with one more it is as it was
-  again : set previous b (suc (column previous b)) ≡ cs
+  again : set ds b (suc (column ds b)) ≡ cs
   again =
-      let e : suc (column previous b) ≡ column cs b = omega (arith, previous-same) in
-      ap (set previous b) e ∙ set-set cs b (column cs b - 1) (column cs b) ∙ set-getD cs b 0
+      let e : suc (column ds b) ≡ column cs b = omega (arith, same) in
+      ap (set ds b) e ∙ set-set cs b (column cs b - 1) (column cs b) ∙ set-getD cs b 0
 
   -- the barriers up to phase n were open
-  opened : (j : ℕ) → j ≤ n → Opened w previous j
+  opened : (j : ℕ) → j ≤ n → Opened w ds j
   opened j l k i = go (ℕ-discrete k b)
     where
-      go : Dec (k ≡ b) → before w j k ≤ column previous k
-      go (yes e) = rw e (omega (arith, previous-same, before-up w j n b l))
-      go (no z) = omega (arith, previous-other k z, r .barrier n proper b there more k i, before-up w j n k l)
+      go : Dec (k ≡ b) → before w j k ≤ column ds k
+      go (yes e) = rw e (omega (arith, same, before-up w j n b l))
+      go (no z) = omega (arith, other k z, t .state .barrier n (t .phase) b (t .proper) (t .more) k i, before-up w j n k l)
 
-  pub previous-reachable : Reachable w previous
+  previous-reachable : Reachable w (previous cs b)
   previous-reachable = record {
-    size = length-set cs b (column cs b - 1) ∙ r .size;
-    below = λ k l. omega (arith, fewer k, r .below k l);
+    size = length-set cs b (column cs b - 1) ∙ t .state .size;
+    below = λ k l. omega (arith, fewer k, t .state .below k l);
     barrier = λ j l k i h. opened j (up-to j k i h (decLe j n));
-    beyond = λ k l i. omega (arith, fewer k, r .beyond k l i);
+    beyond = λ k l i. omega (arith, fewer k, t .state .beyond k l i);
   }
     where
-      up-to : (j k : ℕ) → k < w .processors → before w j k < column previous k → Dec (j ≤ n) → j ≤ n
+      up-to : (j k : ℕ) → k < w .processors → before w j k < column ds k → Dec (j ≤ n) → j ≤ n
       up-to j k i h (yes l) = l
-      up-to j k i h (no l) = absurd (omega (arith, fewer k, furthest k i, before-up w (suc n) j k (omega arith)))
+      up-to j k i h (no l) = absurd (omega (arith, fewer k, t .furthest k i, before-up w (suc n) j k (omega arith)))
 
-  pub turns-back : {M : Type 0} (none : A) (run : A → M → M) (m : M) → turn none w run b previous m .counts ≡ cs
+  turns-back : {M : Type 0} (none : A) (run : A → M → M) (m : M) → turn none w run b (previous cs b) m .counts ≡ cs
   unfolding turn
-  turns-back none run m = go (next none w b previous) (turn-is none w (omega arith) b previous)
+  turns-back none run m = go (next none w b ds) (turn-is none w (omega arith) b ds)
     where
-      short : column previous b < before w (suc n) b
-      short = omega (arith, previous-same, furthest b there)
+      short : column ds b < before w (suc n) b
+      short = omega (arith, same, t .furthest b (t .proper))
 
-      go : (s : Said A) → Turn none w b previous s → after run b previous m s .counts ≡ cs
+      go : (s : Said A) → Turn none w b ds s → after run b ds m s .counts ≡ cs
       go s (does j c o h) = again
       go s (halts j c z (d, i, h)) = at (decLe j n)
         where
-          at : Dec (j ≤ n) → previous ≡ cs
+          at : Dec (j ≤ n) → ds ≡ cs
           at (yes l) = absurd (omega (arith, opened j l d i))
-          at (no l) = absurd (omega (arith, short, c .used, before-up w (suc n) j b (omega arith)))
-      go s (stops u o) = absurd (omega (arith, short, before-up w (suc n) (w .phases) b proper))
+          at (no l) = absurd (omega (arith, short, before-up w (suc n) j b (omega arith)))
+      go s (stops u o) = absurd (omega (arith, short, before-up w (suc n) (w .phases) b (t .phase)))
 
 module _ {A M : Type 0} {none : A} {r : Rows A} {run : A → M → M} {Fits : M → Type 0} {step : ℕ → List ℕ → M → After A M}
     (c : Calls none r run Fits step) (m : M) (fits : Fits m) where
@@ -121,9 +131,8 @@ module _ {A M : Type 0} {none : A} {r : Rows A} {run : A → M → M} {Fits : M 
         go true e earlier =
             let (b, i, h) = some-which (r .size) (λ b. ltb (before (work r) n b) (column cs b)) e in
             let q = ltb-true (before (work r) n b) (column cs b) h in
-            let p = previous-reachable (work r) (c .few) cs t n l all b i q in
-            and-then (previous (work r) (c .few) cs t n l all b i q) cs b i p (ih _ p (less-total (work r) (c .few) cs t n l all b i q))
-            (turns-back (work r) (c .few) cs t n l all b i q none run)
+            let z : Last (work r) cs n b = record { few = c .few; state = t; phase = l; furthest = all; proper = i; more = q } in
+            and-then (previous cs b) cs b i (previous-reachable z) (ih (previous cs b) (previous-reachable z) (less-total z)) (turns-back z none run)
         go false e earlier =
             earlier (λ k i. ltb-false (before (work r) n k) (column cs k) (some-each (r .size) k (λ b. ltb (before (work r) n b) (column cs b)) e i))
 

@@ -1,5 +1,5 @@
 -- A turn of a processor, whatever its lists are and however many phases they have: its next action, or waiting, or finished; and ground 15.
-use Prim.Native.Nat.{ℕ, zero, suc, _+_, _-_}
+use Prim.Native.Nat.{ℕ, zero, suc, _-_}
 use mathlib.Core.Bool.{Bool, cond, _&&_, _||_}
 use mathlib.Core.List.{List}
 use lib.Dec.{ltb, leb}
@@ -72,9 +72,13 @@ module _ {A : Type 0} (none : A) (w : Work A) where
       cond (closed w counts n) waits
       (cond (ltb done (before w (suc n) b)) (performs (getD (list n b) (done - before w n b) none)) ends)
 
+-- one more of processor b
+abbrev pub counted : List ℕ → ℕ → List ℕ
+counted counts b = set counts b (suc (column counts b))
+
 -- an action is performed, and counted
 abbrev pub after : {A M : Type 0} → (A → M → M) → ℕ → List ℕ → M → Said A → After A M
-after run b counts m (performs x) = record { counts = set counts b (suc (column counts b)); memory = run x m; said = performs x }
+after run b counts m (performs x) = record { counts = counted counts b; memory = run x m; said = performs x }
 after run b counts m (refuses number place) = stays counts m (refuses number place)
 after run b counts m waits = stays counts m waits
 after run b counts m ends = stays counts m ends
