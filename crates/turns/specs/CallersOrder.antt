@@ -51,7 +51,7 @@ module _ {A M : Type 0} {none : A} {r : Rows A} {run : A → M → M} {Fits : M 
         able : Ready (plan r) (column cs) → ⊥
         able (b, x, l, e, o) =
             let proper : b < r .size = left-size (plan r) (column cs) b {x = x} (rw e (mhere refl)) in
-            let q = called k b cs m fits t .same ∙ ap (next (plan r) (column cs)) e ∙ next-open none r cs x l o in
+            let q = called k b cs m fits t .same ∙ ap (next (plan r) (column cs)) e ∙ next-open (plan r) (column cs) x l o in
             false≢true (sym (still b proper) ∙ done-performing (step b cs m .said) x q)
 
     -- a call that performs leaves one less

@@ -11,7 +11,7 @@ use lib.ListN.{length, getD, drop}
 use lib.Seq.{drop-cons, drop-append-add, drop-append-le}
 use Rattle.order.specs.Lists.{if-yes, put-same, put-other, joined, mem-joined, drop-mem, nth-mem, Tested}
 use Rattle.order.specs.Reorder.{runAll}
-use Rattle.order.specs.Machine.{left, rest, left-rest, open?, bump, count}
+use Rattle.order.specs.Machine.{Plan, left, rest, left-rest, Open, open?, bump, count}
 use Rattle.order.specs.Machine.{next as goesOn}
 use Rattle.order.specs.Rows.{Rows, plan, whole}
 use Rattle.blocks.specs.Sums.{column}
@@ -58,6 +58,22 @@ module _ {A : Type 0} (f : ℕ → List A) (n N c : ℕ) (few : n ≤ N) where
   drop-early : (d : A) → c < length (joined n f) → Mem (getD (joined n f) c d) (drop c (joined N f))
   drop-early d h = rw (split, drop-append-le c (joined n f) others (omega arith), drop-cons (joined n f) c d h) (mhere refl)
 
+-- THE MACHINE'S NEXT ACTION, where the barrier before it is open, and where it is not
+module _ {A : Type 0} (p : Plan A) (c : ℕ → ℕ) where
+  pub next-open : (x : A) (l : List A) → Open p c (p .phase x) → goesOn p c (x ∷ l) ≡ x ∷ []
+  next-open x l o = go (open? p c (p .phase x))
+    where
+      go : (w : Tested (λ y. p .phase x ≤ p .phase y) (rest p c)) → ⊎-elim (λ o. x ∷ []) (λ o. []) w ≡ x ∷ []
+      go (inl w) = refl
+      go (inr (y, m, n)) = absurd (n (o y m))
+
+  next-closed : (x y : A) (l : List A) → Mem y (rest p c) → p .phase y < p .phase x → goesOn p c (x ∷ l) ≡ []
+  next-closed x y l m e = go (open? p c (p .phase x))
+    where
+      go : (w : Tested (λ y. p .phase x ≤ p .phase y) (rest p c)) → ⊎-elim (λ o. x ∷ []) (λ o. []) w ≡ []
+      go (inl w) = absurd (omega (arith, w y m))
+      go (inr w) = refl
+
 -- what settles a run of these rows
 abbrev pub work : {A : Type 0} → Rows A → Work A
 work r = record { processors = r .size; phases = r .phases; list = r .work }
@@ -85,21 +101,6 @@ module _ {A : Type 0} (none : A) (r : Rows A) (cs : List ℕ) where
       let (k, j, m) = mem-joined f n (nth-mem (joined n f) none (c b) i) in
       (getD (joined n f) (c b) none, rw (left-is b l) (drop-early f n phases (c b) h none i), omega (arith, known k b _ (omega arith) l m .1))
 
-  -- the machine's next action, where the barrier before it is open, and where it is not
-  pub next-open : (x : A) (l : List A) → ((y : A) → Mem y (rest (plan r) c) → phase x ≤ phase y) → goesOn (plan r) c (x ∷ l) ≡ x ∷ []
-  next-open x l o = go (open? (plan r) c (phase x))
-    where
-      go : (w : Tested (λ y. phase x ≤ phase y) (rest (plan r) c)) → ⊎-elim (λ o. x ∷ []) (λ o. []) w ≡ x ∷ []
-      go (inl w) = refl
-      go (inr (y, m, n)) = absurd (n (o y m))
-
-  next-closed : (x y : A) (l : List A) → Mem y (rest (plan r) c) → phase y < phase x → goesOn (plan r) c (x ∷ l) ≡ []
-  next-closed x y l m e = go (open? (plan r) c (phase x))
-    where
-      go : (w : Tested (λ y. phase x ≤ phase y) (rest (plan r) c)) → ⊎-elim (λ o. x ∷ []) (λ o. []) w ≡ []
-      go (inl w) = absurd (omega (arith, w y m))
-      go (inr w) = refl
-
   -- the same action
   module _ (some-phase : 0 < phases) (b : ℕ) (proper : b < size) where
     next-is : done (next none (work r) b cs) ≡ goesOn (plan r) c (left (plan r) c b)
@@ -111,7 +112,7 @@ module _ {A : Type 0} (none : A) (r : Rows A) (cs : List ℕ) where
         halted n u (d, i, h) (x ∷ k) e =
             let few : n ≤ phases = omega arith in
             let (y, m, p) = left-early d n i few h in
-            sym (next-closed x y k (left-rest (plan r) c d m) (omega (arith, left-late b n x proper few (u .used) (rw e (mhere refl)))))
+            sym (next-closed (plan r) c x y k (left-rest (plan r) c d m) (omega (arith, left-late b n x proper few (u .used) (rw e (mhere refl)))))
 
         go : (s : Said A) → Turn none (work r) b cs s → done s ≡ goesOn (plan r) c (left (plan r) c b)
         go s (does n u o h) =
@@ -119,7 +120,7 @@ module _ {A : Type 0} (none : A) (r : Rows A) (cs : List ℕ) where
             let l = drop (suc (c b)) (whole r b) in
             let e : left (plan r) c b ≡ x ∷ l =
             left-is b proper ∙ drop-cons (whole r b) (c b) none (own-more u h) ∙ ap (λ (a : A). a ∷ l) (own-nth u h none) in
-            sym (ap (goesOn (plan r) c) e ∙ next-open x l (λ v m. omega (arith, here, late v m)))
+            sym (ap (goesOn (plan r) c) e ∙ next-open (plan r) c x l (λ v m. omega (arith, here, late v m)))
           where
             here : phase (getD (r .work n b) (c b - before (work r) n b) none) ≡ n
             here = known n b _ (u .proper) proper (nth-mem (r .work n b) none (c b - before (work r) n b) (omega arith)) .1
