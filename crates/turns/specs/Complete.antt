@@ -60,11 +60,16 @@ module _ {A M : Type 0} {none : A} {r : Rows A} {run : A → M → M} {Fits : M 
     row-is : row ≡ trace (plan r) bs zeros
     row-is = started k bs m fits .actions
 
-    -- then nothing is left, and so `started` says what the memory is
+    -- then nothing is left
     pub complete-ends : Complete r step bs m → Ends (plan r) bs
     complete-ends all =
         reported-complete (plan r) bs
         (λ b x h. let (n, l, i, g) = mem-plan r b x h in rw (← row-is) (performed-mem x (reports step bs noneDone m) (all n b x l i g)))
+
+    -- so if every complete schedule leaves what the list L leaves, the row does (order's any-schedule-by-keys)
+    pub any-row : (L : List A) → ((ds : List ℕ) → Ends (plan r) ds → (s : M) → runAll run (trace (plan r) ds zeros) s ≡ runAll run L s)
+        → Complete r step bs m → memoryAfter step bs noneDone m ≡ runAll run L m
+    any-row L same all = started k bs m fits .memory ∙ same bs (complete-ends all) m
 
     pub ends-complete : Ends (plan r) bs → Complete r step bs m
     ends-complete e n b x l i h =
@@ -81,11 +86,6 @@ module _ {A M : Type 0} {none : A} {r : Rows A} {run : A → M → M} {Fits : M 
         let u = r .known i a y early p g .1 in
         let v = r .known j b x late q h .1 in
         rw row-is (after-earlier (plan r) bs a x y (plan-mem r i a y early p g) (omega arith))
-
-    -- so if every complete schedule leaves what the list L leaves, the row does (order's any-schedule-by-keys)
-    pub any-row : (L : List A) → ((ds : List ℕ) → Ends (plan r) ds → (s : M) → runAll run (trace (plan r) ds zeros) s ≡ runAll run L s)
-        → Complete r step bs m → memoryAfter step bs noneDone m ≡ runAll run L m
-    any-row L same all = started k bs m fits .memory ∙ same bs (complete-ends all) m
 
   -- there is a complete row
   pub some-row : (m : M) → Fits m → (bs : List ℕ) × Complete r step bs m

@@ -51,7 +51,7 @@ module _ {A : Type 0} (none : A) (w : Work A) (some-phase : 0 < w .phases) (b : 
       go : {x : A} → Turn none w b cs (performs x) → (column cs b < length (own w b)) × (getD (own w b) (column cs b) none ≡ x)
       go (does n c o h) = (own-more c h, own-nth c h none)
 
-  -- waiting: what is before its phase is used up by it, and not by another
+  -- waiting: its lists before the phase that it has come to are used up, and another's are not
   pub waits-says : next none w b cs ≡ waits → (n : ℕ) × Come w b cs n × (0 < n) × ((d : ℕ) × (d < processors) × (column cs d < before w n d))
   waits-says e = go (view e)
     where

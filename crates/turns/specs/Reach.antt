@@ -4,7 +4,7 @@ use native.Mathlib.Omega.{arith}
 use native.Mathlib.Decide.{ℕ-discrete, decLt, decLe}
 use mathlib.Core.Path.{_≡_, refl, sym, subst, _∙_}
 use mathlib.Core.Bool.{Bool, true, false, _&&_, _||_, false≢true}
-use mathlib.Core.Logic.{_⊎_, inl, inr, _≢_}
+use mathlib.Core.Logic.{_⊎_, inl, inr, ⊎-elim, _≢_}
 use mathlib.Core.List.{List}
 use lib.Dec.{ltb}
 use borrow.Author.Tests.{ltb-true, ltb-false, lt-ltb, le-ltb, le-leb, lt-leb}
@@ -43,6 +43,14 @@ module _ {A : Type 0} (w : Work A) where
   -- later phases have more before them
   pub before-up : (m n b : ℕ) → m ≤ n → before w m b ≤ before w n b
   before-up m n b l = total-up m n (λ k. length (list k b)) l
+
+  -- what is used up is no later than what is not
+  pub used-first : (k n b c : ℕ) → before w k b ≤ c → c < before w (suc n) b → k ≤ n
+  used-first k n b c u h = go (decLe k n)
+    where
+      go : Dec (k ≤ n) → k ≤ n
+      go (yes l) = l
+      go (no l) = absurd (omega (arith, before-up (suc n) k b (omega arith)))
 
   module _ (cs : List ℕ) where
     pub closed-opened : (n : ℕ) → closed w cs n ≡ false → Opened cs n
@@ -126,32 +134,20 @@ module _ {A : Type 0} (w : Work A) where
       opened n j k l h (yes e) = over n (omega (arith, same, subst (λ (i : ℕ). before w n i < column (counted cs b) i) e h))
       opened n j k l h (no z) = r .barrier n j k l (omega (arith, counted-other cs b k z))
 
-  -- the phase that processor b has come to, with n actions done: it is one of them, what is before it is used up, and it is the last or is not
-  come-below : (b n m : ℕ) → comeTo w b n m ≤ m
-  come-below b n zero = omega arith
-  come-below b n (suc m) = go (decLe (before w (suc m) b) n) (come-below b n m)
-    where
-      go : Dec (before w (suc m) b ≤ n) → comeTo w b n m ≤ m → comeTo w b n (suc m) ≤ suc m
-      go (yes l) ih = rw (le-leb (before w (suc m) b) n l) (omega arith)
-      go (no l) ih = rw (lt-leb (before w (suc m) b) n (omega arith)) (omega arith)
+  -- the phase that processor b has come to, with n actions done: it is one of them, what is before it is used up, and it is the last one or
+  -- has something left
+  abbrev Comes : ℕ → ℕ → ℕ → ℕ → Type 0
+  Comes b n m k = (k ≤ m) × (before w k b ≤ n) × ((k ≡ m) ⊎ (n < before w (suc k) b))
 
-  come-used : (b n m : ℕ) → before w (comeTo w b n m) b ≤ n
-  come-used b n zero = omega arith
-  come-used b n (suc m) = go (decLe (before w (suc m) b) n) (come-used b n m)
+  comes : (b n m : ℕ) → Comes b n m (comeTo w b n m)
+  comes b n zero = (omega arith, omega arith, inl refl)
+  comes b n (suc m) = go (decLe (before w (suc m) b) n) (comes b n m)
     where
-      go : Dec (before w (suc m) b ≤ n) → before w (comeTo w b n m) b ≤ n → before w (comeTo w b n (suc m)) b ≤ n
-      go (yes l) ih = rw (le-leb (before w (suc m) b) n l) l
-      go (no l) ih = rw (lt-leb (before w (suc m) b) n (omega arith)) ih
-
-  come-next : (b n m : ℕ) → (comeTo w b n m ≡ m) ⊎ (n < before w (suc (comeTo w b n m)) b)
-  come-next b n zero = inl refl
-  come-next b n (suc m) = go (decLe (before w (suc m) b) n) (come-next b n m)
-    where
-      go : Dec (before w (suc m) b ≤ n) → (comeTo w b n m ≡ m) ⊎ (n < before w (suc (comeTo w b n m)) b)
-          → (comeTo w b n (suc m) ≡ suc m) ⊎ (n < before w (suc (comeTo w b n (suc m))) b)
-      go (yes l) ih = rw (le-leb (before w (suc m) b) n l) (inl refl)
-      go (no l) (inl e) = let h : n < before w (suc m) b = omega arith in rw (lt-leb (before w (suc m) b) n h) (inr (rw e h))
-      go (no l) (inr h) = rw (lt-leb (before w (suc m) b) n (omega arith)) (inr h)
+      go : Dec (before w (suc m) b ≤ n) → Comes b n m (comeTo w b n m) → Comes b n (suc m) (comeTo w b n (suc m))
+      go (yes l) ih = rw (le-leb (before w (suc m) b) n l) (omega arith, l, inl refl)
+      go (no l) (i, j, h) =
+          let s : n < before w (suc m) b = omega arith in
+          rw (lt-leb (before w (suc m) b) n s) (omega arith, j, ⊎-elim (λ (e : comeTo w b n m ≡ m). inr (rw e s)) inr h)
 
   -- processor b has come to phase n
   pub record Come (b : ℕ) (cs : List ℕ) (n : ℕ) : Type 0 where
@@ -180,8 +176,8 @@ module _ {A : Type 0} (none : A) (w : Work A) where
         come : Come w b cs n
         come = record {
           phase = refl;
-          proper = omega (arith, come-below w b (column cs b) (phases - 1));
-          used = come-used w b (column cs b) (phases - 1);
+          proper = omega (arith, comes w b (column cs b) (phases - 1) .0);
+          used = comes w b (column cs b) (phases - 1) .1;
         }
 
         last : (n ≡ phases - 1) ⊎ (column cs b < before w (suc n) b) → before w (suc n) b ≤ column cs b → n ≡ phases - 1
@@ -200,7 +196,7 @@ module _ {A : Type 0} (none : A) (w : Work A) where
         go false q (yes d) = rw (q, lt-ltb (column cs b) (before w (suc n) b) d) (does n come (closed-opened w cs n q) d)
         go false q (no d) =
             let h : before w (suc n) b ≤ column cs b = omega arith in
-            let e = last (come-next w b (column cs b) (phases - 1)) h in
+            let e = last (comes w b (column cs b) (phases - 1) .2) h in
             let f : suc n ≡ phases = omega arith in
             rw (q, le-ltb (column cs b) (before w (suc n) b) h)
             (stops (subst (λ (m : ℕ). before w m b ≤ column cs b) f h) (subst (Opened w cs) e (closed-opened w cs n q)))
@@ -213,14 +209,7 @@ module _ {A : Type 0} (none : A) (w : Work A) where
         go : (s : Said A) → Turn b cs s → Reachable w (after run b cs m s .counts)
         go s (does n c o h) =
             counted-reachable w few cs r b l (omega (arith, before-up w (suc n) phases b (c .proper)))
-            (λ k i d j. omega (arith, o d j, before-up w k n d (earlier k i)))
-          where
-            earlier : (k : ℕ) → before w k b ≤ column cs b → k ≤ n
-            earlier k i = at (decLe k n)
-              where
-                at : Dec (k ≤ n) → k ≤ n
-                at (yes z) = z
-                at (no z) = absurd (omega (arith, before-up w (suc n) k b (omega arith)))
+            (λ k i d j. omega (arith, o d j, before-up w k n d (used-first w k n b (column cs b) i h)))
         go s (halts n c z h) = r
         go s (stops u o) = r
 

@@ -1,7 +1,7 @@
 -- Ground 15 refuses exactly the counts that no row reaches: a row reaches only counts that it lets in (Follows), and each of those is reached.
 use Prim.Native.Nat.{ℕ, zero, suc, _-_, _≤_, _<_}
 use native.Mathlib.Omega.{arith}
-use native.Mathlib.Decide.{ℕ-discrete, decLt, decLe}
+use native.Mathlib.Decide.{ℕ-discrete, decLt}
 use mathlib.Core.Path.{_≡_, refl, sym, ap, _∙_}
 use mathlib.Core.Logic.{_≢_}
 use mathlib.Core.Bool.{Bool, true, false}
@@ -14,7 +14,7 @@ use Rattle.order.specs.Rows.{Rows}
 use Rattle.blocks.specs.Sums.{column, total, total-less, some, some-which, some-each}
 use Rattle.turns.specs.Turn.{Work, Said, After, before, next, after, turn}
 use Rattle.turns.specs.Row.{noneDone, none-done, countsAfter, memoryAfter, counts-append}
-use Rattle.turns.specs.Reach.{Opened, Reachable, before-up, Turn, does, halts, stops, turn-is}
+use Rattle.turns.specs.Reach.{Opened, Reachable, before-up, used-first, Turn, does, halts, stops, turn-is}
 use Rattle.turns.specs.Machine.{work}
 use Rattle.turns.specs.Follows.{Calls, started}
 
@@ -69,13 +69,9 @@ module _ {A : Type 0} {w : Work A} {cs : List ℕ} {n b : ℕ} (t : Last w cs n 
   previous-reachable = record {
     size = length-set cs b (column cs b - 1) ∙ t .state .size;
     below = λ k l. omega (arith, fewer k, t .state .below k l);
-    barrier = λ j l k i h. opened j (up-to j k i h (decLe j n));
+    barrier = λ j l k i h. opened j (used-first w j n k (before w j k) (omega arith) (omega (arith, fewer k, t .furthest k i)));
     beyond = λ k l i. omega (arith, fewer k, t .state .beyond k l i);
   }
-    where
-      up-to : (j k : ℕ) → k < w .processors → before w j k < column ds k → Dec (j ≤ n) → j ≤ n
-      up-to j k i h (yes l) = l
-      up-to j k i h (no l) = absurd (omega (arith, fewer k, t .furthest k i, before-up w (suc n) j k (omega arith)))
 
   turns-back : {M : Type 0} (none : A) (run : A → M → M) (m : M) → turn none w run b (previous cs b) m .counts ≡ cs
   unfolding turn
@@ -86,11 +82,7 @@ module _ {A : Type 0} {w : Work A} {cs : List ℕ} {n b : ℕ} (t : Last w cs n 
 
       go : (s : Said A) → Turn none w b ds s → after run b ds m s .counts ≡ cs
       go s (does j c o h) = again
-      go s (halts j c z (d, i, h)) = at (decLe j n)
-        where
-          at : Dec (j ≤ n) → ds ≡ cs
-          at (yes l) = absurd (omega (arith, opened j l d i))
-          at (no l) = absurd (omega (arith, short, before-up w (suc n) j b (omega arith)))
+      go s (halts j c z (d, i, h)) = absurd (omega (arith, opened j (used-first w j n b (column ds b) (c .used) short) d i))
       go s (stops u o) = absurd (omega (arith, short, before-up w (suc n) (w .phases) b (t .phase)))
 
 module _ {A M : Type 0} {none : A} {r : Rows A} {run : A → M → M} {Fits : M → Type 0} {step : ℕ → List ℕ → M → After A M}
