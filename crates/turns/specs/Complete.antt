@@ -1,0 +1,92 @@
+-- Rows of calls from counts of 0, whatever numbers they name. Once every action has been reported, the row is a complete schedule; and of
+-- every row, complete or not: no action twice, and none before one of an earlier phase.
+use Prim.Native.Nat.{ℕ, _<_}
+use native.Mathlib.Omega.{arith}
+use native.Mathlib.Decide.{decLt}
+use mathlib.Core.Path.{_≡_, refl, ap, subst, _∙_}
+use mathlib.Core.Logic.{⊎-elim}
+use mathlib.Core.List.{List, _∷_, _++_, List·Memᴰ·cases-cons}
+use mathlib.Core.List.{List·Memᴰ as Mem, List·Memᴰ·head as mhere, List·Memᴰ·tail as mthere}
+use Rattle.order.specs.Lists.{if-yes, Before, NoDup, joined-mem, mem-joined}
+use Rattle.order.specs.Reorder.{runAll}
+use Rattle.order.specs.Machine.{trace, zeros}
+use Rattle.order.specs.Machine.{Complete as Ends}
+use Rattle.order.specs.Exists.{complete-exists}
+use Rattle.order.specs.Rows.{Rows, plan, whole, cut-mem}
+use Rattle.rows.specs.Reported.{reports-once, after-earlier, reported-complete, complete-reported}
+use Rattle.turns.specs.Turn.{Said, refuses, performs, waits, ends, After}
+use Rattle.turns.specs.Row.{noneDone, reports, memoryAfter}
+use Rattle.turns.specs.Machine.{done}
+use Rattle.turns.specs.Follows.{Calls, performed, started}
+
+-- an action is reported exactly if it is among those performed
+pub performed-mem : {A : Type 0} (x : A) (ss : List (Said A)) → Mem (performs x) ss → Mem x (performed ss)
+performed-mem x ss (mhere {xs = l} e) = subst (λ (s : Said _). Mem x (done s ++ performed l)) e (mhere refl)
+performed-mem x ss (mthere {x = refuses n p} {xs = l} m) = performed-mem x l m
+performed-mem x ss (mthere {x = performs y} {xs = l} m) = mthere (performed-mem x l m)
+performed-mem x ss (mthere {x = waits} {xs = l} m) = performed-mem x l m
+performed-mem x ss (mthere {x = ends} {xs = l} m) = performed-mem x l m
+
+pub mem-performed : {A : Type 0} (x : A) (ss : List (Said A)) → Mem x (performed ss) → Mem (performs x) ss
+mem-performed x (refuses n p ∷ ss) m = mthere (mem-performed x ss m)
+mem-performed x (performs y ∷ ss) m =
+    ⊎-elim (λ (e : x ≡ y). mhere (ap performs e)) (λ h. mthere (mem-performed x ss h)) (List·Memᴰ·cases-cons m)
+mem-performed x (waits ∷ ss) m = mthere (mem-performed x ss m)
+mem-performed x (ends ∷ ss) m = mthere (mem-performed x ss m)
+
+-- the machine's lists are those of the rows
+module _ {A : Type 0} (r : Rows A) where
+  pub plan-mem : (n b : ℕ) (x : A) → n < r .phases → b < r .size → Mem x (r .work n b) → Mem x (plan r .list b)
+  plan-mem n b x l i m = rw (if-yes (decLt b (r .size)) (whole r b) _ i) (joined-mem (λ n. r .work n b) (r .phases) n l m)
+
+  pub mem-plan : (b : ℕ) (x : A) → Mem x (plan r .list b) → (n : ℕ) × (n < r .phases) × (b < r .size) × Mem x (r .work n b)
+  mem-plan b x m =
+      let (i, h) = cut-mem r b x (decLt b (r .size)) m in
+      let (n, l, g) = mem-joined (λ n. r .work n b) (r .phases) h in
+      (n, l, i, g)
+
+-- the row has reported every action of every list
+module _ {A M : Type 0} (r : Rows A) (step : ℕ → List ℕ → M → After A M) where
+  abbrev pub Complete : List ℕ → M → Type 0
+  Complete bs m = (n b : ℕ) (x : A) → n < r .phases → b < r .size → Mem x (r .work n b) → Mem (performs x) (reports step bs noneDone m)
+
+module _ {A M : Type 0} {none : A} {r : Rows A} {run : A → M → M} {Fits : M → Type 0} {step : ℕ → List ℕ → M → After A M}
+    (k : Calls none r run Fits step) where
+  module _ (bs : List ℕ) (m : M) (fits : Fits m) where
+    -- what the row's calls perform, in order
+    abbrev pub row : List A
+    row = performed (reports step bs noneDone m)
+
+    row-is : row ≡ trace (plan r) bs zeros
+    row-is = started k bs m fits .actions
+
+    -- then nothing is left
+    pub complete-ends : Complete r step bs m → Ends (plan r) bs
+    complete-ends all =
+        reported-complete (plan r) bs
+        (λ b x h. let (n, l, i, g) = mem-plan r b x h in rw (← row-is) (performed-mem x (reports step bs noneDone m) (all n b x l i g)))
+
+    -- so if every complete schedule leaves what the list L leaves, the row does (order's any-schedule-by-keys)
+    pub any-row : (L : List A) → ((ds : List ℕ) → Ends (plan r) ds → (s : M) → runAll run (trace (plan r) ds zeros) s ≡ runAll run L s)
+        → Complete r step bs m → memoryAfter step bs noneDone m ≡ runAll run L m
+    any-row L same all = started k bs m fits .memory ∙ same bs (complete-ends all) m
+
+    pub ends-complete : Ends (plan r) bs → Complete r step bs m
+    ends-complete e n b x l i h =
+        mem-performed x (reports step bs noneDone m) (rw row-is (complete-reported (plan r) bs e b x (plan-mem r n b x l i h)))
+
+    pub once : NoDup row
+    once = rw row-is (reports-once (plan r) bs)
+
+    -- an action of a later phase is reported only after every action of an earlier one
+    pub barrier : (i j a b : ℕ) (x y : A) → i < j → j < r .phases → a < r .size → b < r .size → Mem y (r .work i a) → Mem x (r .work j b) → Mem x row
+        → Before y x row
+    barrier i j a b x y l late p q g h =
+        let early : i < r .phases = omega arith in
+        let u = r .known i a y early p g .1 in
+        let v = r .known j b x late q h .1 in
+        rw row-is (after-earlier (plan r) bs a x y (plan-mem r i a y early p g) (omega arith))
+
+  -- there is a complete row
+  pub some-row : (m : M) → Fits m → (bs : List ℕ) × Complete r step bs m
+  some-row m fits = let (bs, e) = complete-exists (plan r) in (bs, ends-complete bs m fits e)

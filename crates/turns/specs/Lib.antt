@@ -1,0 +1,22 @@
+-- a turn, the counts that are refused, and a step
+pub mod Turn
+-- the same for two phases, as the paper says it
+pub mod TwoPhases
+-- rows of calls
+pub mod Row
+-- the counts that rows reach, and what a turn does from them
+pub mod Reach
+-- what a turn says
+pub mod Meaning
+-- a turn is a turn of the machine that order drives
+pub mod Machine
+-- a row of calls is a schedule of that machine
+pub mod Follows
+-- each processor's calls report its own lists, in order
+pub mod Own
+-- ground 15 refuses exactly what no row reaches
+pub mod Reached
+-- rows that have reported every action, and what holds of every row
+pub mod Complete
+-- the row of a run in a caller's order is complete
+pub mod CallersOrder
