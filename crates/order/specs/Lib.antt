@@ -4,6 +4,8 @@ pub mod Lists
 pub mod Reorder
 -- plans and schedules: what any schedule does, and in what order
 pub mod Machine
+-- what a row of turns reports, of any plan
+pub mod Reported
 -- every complete schedule leaves what the plain order leaves; and there is one
 pub mod Plain
 pub mod Exists

@@ -2,3 +2,5 @@
 pub mod Plans
 -- what is known of an accepted plan
 pub mod Accepted
+-- what the code leaves of it
+pub mod Code

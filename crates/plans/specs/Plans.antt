@@ -53,10 +53,14 @@ badProcessors w = eqb (w .processors) 0 || ltb 64 (w .processors)
 abbrev pub badNumber : Settings → ℕ → Bool
 badNumber w b = badProcessors w || leb (w .processors) b
 
--- after 1 to 9: 10 where the processors are wrong, then 11, then the plan
+-- 11, or the table with its plan
+abbrev pub fits : Settings → Table → AnswerOf Planned
+fits w t = choose (shortFor t w) (refused 11 0) (accepted (record { table = t; plan = planOf t w }))
+
+-- after 1 to 9: 10 where the processors are wrong, then 11
 unfoldable pub fitting : Bool → Settings → Answer → AnswerOf Planned
 fitting wrong w (refused n p) = refused n p
-fitting wrong w (accepted t) = choose wrong (refused 10 0) (choose (shortFor t w) (refused 11 0) (accepted (record { table = t; plan = planOf t w })))
+fitting wrong w (accepted t) = choose wrong (refused 10 0) (fits w t)
 
 unfoldable pub planned : List ℕ → Settings → AnswerOf Planned
 planned s w = fitting (badProcessors w) w (table s)

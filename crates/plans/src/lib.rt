@@ -1,99 +1,69 @@
 // The plan of a table: read through 9, its shifts and peels; and for a number of processors, grounds 10 and 11.
 use amounts::Amounts;
-use tables::Outline;
+use arithmetic::greater;
+use arithmetic::lesser;
+use arithmetic::minus;
+use blocks::Axis;
+use blocks::Span;
+use records::Store;
 ghost use mathlib.Core.Path.{_≡_};
 ghost use mathlib.Core.Bool.{_||_};
 ghost use Prim.Native.Nat.{_≤_, _<_};
 ghost use lib.Dec.{leb};
-ghost use Rattle.reader.specs.Columns.{columns};
-ghost use Rattle.reader.specs.Stored.{Sized};
+ghost use Rattle.reader.specs.Store.{Sized, tableIn};
+ghost use Rattle.reader.specs.Held.{Held};
 ghost use Rattle.serial.specs.Serial.{table};
-ghost use Rattle.plans.specs.Plans.{Measures, Plans, refusing, badProcessors, fitting, planned, plannedFor};
+ghost use Rattle.grounds.specs.Accepted.{Valid};
+ghost use Rattle.blocks.specs.Span.{tableSpan};
+ghost use Rattle.plans.specs.Plans.{settings, badProcessors, badNumber, fits, fitting, planned, plannedFor};
+ghost use Rattle.plans.specs.Code.{Plans, Chosen, refusing};
 
-// A table read through 9, with its loops' shifts and peels.
-pub struct Measured {
-    pub outline: Outline,
-    pub amounts: Amounts,
-}
+// Grounds 10 and 11.
+const PROCESSORS: usize = 10;
 
-// The plan for a number of processors: the refusal, or the columns' counts, the loops' amounts, and the least first index and T.
+const SHORT: usize = 11;
+
+const MOST_PROCESSORS: u32 = 64;
+
+// The plan for a number of processors: the refusal, 0 where there is none, with its place and the read that 9 names; and the plan along the
+// index, for the table in the store.
 pub struct Plan {
     pub number: usize,
     pub place: usize,
     pub read: usize,
-    pub arrays: usize,
-    pub loops: usize,
-    pub rows: usize,
-    pub first: u32,
-    pub count: u32,
-    pub amounts: Amounts,
+    pub axis: Axis,
 }
 
-fn no_amounts() -> Amounts {
-    Amounts {
-        shifts: [0u32; 16],
-        peels: [0u32; 16],
-    }
-}
-
-// Reads a table through 9 into lent columns, and finds its shifts and peels.
-pub fn measure(
-    s: &[u8],
-    lens: &mut [u32; 16],
-    firsts: &mut [u32; 16],
-    lasts: &mut [u32; 16],
-    starts: &mut [usize; 17],
-    kinds: &mut [u8; 528],
-    arrays: &mut [u32; 528],
-    values: &mut [u32; 528],
-) -> Measured
-    requires { ⌜ Sized (columns (now lens) (now firsts) (now lasts) (now starts) (now kinds) (now arrays) (now values)) ⌝ }
-    ensures { λ r. ⌜ Measures (now (s .entry)) r (columns (now (lens .exit)) (now (firsts .exit)) (now (lasts .exit)) (now (starts .exit)) (now (kinds .exit)) (now (arrays .exit)) (now (values .exit))) ⌝ }
-{
-    let o = tables::read_through(s, lens, firsts, lasts, starts, kinds, arrays, values);
-    if o.number != 0 {
-        let none = no_amounts();
-        return Measured {
-            outline: o,
-            amounts: none,
-        };
-    }
-    let found = references::amounts_of(o.loops, starts, kinds, arrays, values);
-    Measured {
-        outline: o,
-        amounts: found,
-    }
-}
-
-fn refusal(number: usize, place: usize, read: usize, amounts: Amounts) -> Plan
-    ensures { λ r. ⌜ r ≡ refusing number place read amounts ⌝ }
+fn refusal(number: usize, place: usize, read: usize) -> Plan
+    ensures { λ r. ⌜ r ≡ refusing number place read ⌝ }
 {
     Plan {
         number,
         place,
         read,
-        arrays: 0,
-        loops: 0,
-        rows: 0,
-        first: 0,
-        count: 0,
-        amounts,
+        axis: Axis {
+            first: 0,
+            count: 0,
+            blocks: 0,
+            shifts: [0u32; 16],
+            peels: [0u32; 16],
+        },
     }
 }
 
 // Ground 10: P outside 1 to 64.
 fn bad_processors(processors: u32) -> bool
-    ensures { λ r. ⌜ r ≡ badProcessors processors ⌝ }
+    ensures { λ r. ⌜ r ≡ badProcessors (settings processors) ⌝ }
 {
     if processors == 0 {
         return true;
     }
-    64 < processors
+    MOST_PROCESSORS < processors
 }
 
 // Ground 10 where a processor is named: it must be below P.
 fn bad_number(processors: u32, processor: u32) -> bool
-    ensures { λ r. ⌜ r ≡ (badProcessors processors || leb processors processor) ⌝ }
+    ensures { λ r. ⌜ r ≡ badNumber (settings processors) processor ⌝ }
 {
     if bad_processors(processors) {
         return true;
@@ -101,109 +71,82 @@ fn bad_number(processors: u32, processor: u32) -> bool
     processors <= processor
 }
 
-// The plan of a table for a number of processors, if that is not wrong; the columns are lent.
-fn plan_unless(
-    s: &[u8],
-    wrong: bool,
-    processors: u32,
-    lens: &mut [u32; 16],
-    firsts: &mut [u32; 16],
-    lasts: &mut [u32; 16],
-    starts: &mut [usize; 17],
-    kinds: &mut [u8; 528],
-    arrays: &mut [u32; 528],
-    values: &mut [u32; 528],
-) -> Plan
-    requires { ⌜ Sized (columns (now lens) (now firsts) (now lasts) (now starts) (now kinds) (now arrays) (now values)) ⌝ }
-    ensures { λ r. ⌜ Plans (now (s .entry)) (fitting wrong processors (table (now (s .entry)))) r (columns (now (lens .exit)) (now (firsts .exit)) (now (lasts .exit)) (now (starts .exit)) (now (kinds .exit)) (now (arrays .exit)) (now (values .exit))) ⌝ }
+// The indices that the loops run over: the least first, and how many up to the greatest last.
+fn span_of(store: &Store) -> Span
+    requires { ⌜ Held (now store) × Valid (tableIn (now store)) ⌝ }
+    ensures { λ r. ⌜ r ≡ tableSpan (tableIn (now (store .entry))) ⌝ }
 {
-    let m = measure(s, lens, firsts, lasts, starts, kinds, arrays, values);
-    let o = m.outline;
-    let a = m.amounts;
-    if o.number != 0 {
-        return refusal(o.number, o.place, o.read, a);
+    let loops = reader::loops_in(store);
+    let mut low = reader::first_at(store, 0);
+    let mut high: u32 = 0;
+    let mut k: usize = 0;
+    while k < loops {
+        low = lesser(low, reader::first_at(store, k));
+        high = greater(high, reader::last_at(store, k));
+        k += 1;
     }
-    if wrong {
-        return refusal(10, 0, 0, a);
+    Span {
+        first: low,
+        count: minus(high + 1, low),
     }
-    let l = o.loops;
-    let from = *firsts;
-    let to = *lasts;
-    let span = blocks::span_of(&from[..l], &to[..l]);
-    let threshold = amounts::threshold_of(a) as u32;
+}
+
+// The plan of the table in a store, or 11.
+fn plan_read(processors: u32, store: &Store) -> Plan
+    requires { ⌜ Held (now store) × Valid (tableIn (now store)) ⌝ }
+    ensures { λ r. ⌜ Chosen (fits (settings processors) (tableIn (now (store .entry)))) r (now (store .entry)) ⌝ }
+{
+    let found = references::amounts_of(store);
+    let span = span_of(store);
+    let threshold = amounts::threshold_of(found) as u32;
     if blocks::short(span.count, processors, threshold) {
-        return refusal(11, 0, 0, a);
+        return refusal(SHORT, 0, 0);
     }
+    let shifts = found.shifts;
+    let peels = found.peels;
     Plan {
         number: 0,
         place: 0,
         read: 0,
-        arrays: o.arrays,
-        loops: l,
-        rows: o.rows,
-        first: span.first,
-        count: span.count,
-        amounts: a,
+        axis: Axis {
+            first: span.first,
+            count: span.count,
+            blocks: processors,
+            shifts,
+            peels,
+        },
     }
 }
 
-// The plan of a table for a number of processors; the columns are lent.
-pub fn plan_table(
-    s: &[u8],
-    processors: u32,
-    lens: &mut [u32; 16],
-    firsts: &mut [u32; 16],
-    lasts: &mut [u32; 16],
-    starts: &mut [usize; 17],
-    kinds: &mut [u8; 528],
-    arrays: &mut [u32; 528],
-    values: &mut [u32; 528],
-) -> Plan
-    requires { ⌜ Sized (columns (now lens) (now firsts) (now lasts) (now starts) (now kinds) (now arrays) (now values)) ⌝ }
-    ensures { λ r. ⌜ Plans (now (s .entry)) (planned (now (s .entry)) processors) r (columns (now (lens .exit)) (now (firsts .exit)) (now (lasts .exit)) (now (starts .exit)) (now (kinds .exit)) (now (arrays .exit)) (now (values .exit))) ⌝ }
+// The plan of a table for a number of processors, if that is not wrong; the store is lent.
+fn plan_unless(s: &[u8], wrong: bool, processors: u32, store: &mut Store) -> Plan
+    requires { ⌜ Sized (now store) ⌝ }
+    ensures { λ r. ⌜ Plans (now (s .entry)) (fitting wrong (settings processors) (table (now (s .entry)))) r (now (store .exit)) ⌝ }
+{
+    let v = tables::read_through(s, store);
+    if v.number != 0 {
+        return refusal(v.number, v.place, v.read);
+    }
+    if wrong {
+        return refusal(PROCESSORS, 0, 0);
+    }
+    plan_read(processors, store)
+}
+
+// The plan of a table for a number of processors; the store is lent.
+pub fn plan_table(s: &[u8], processors: u32, store: &mut Store) -> Plan
+    requires { ⌜ Sized (now store) ⌝ }
+    ensures { λ r. ⌜ Plans (now (s .entry)) (planned (now (s .entry)) (settings processors)) r (now (store .exit)) ⌝ }
 {
     let wrong = bad_processors(processors);
-    plan_unless(
-        s,
-        wrong,
-        processors,
-        lens,
-        firsts,
-        lasts,
-        starts,
-        kinds,
-        arrays,
-        values,
-    )
+    plan_unless(s, wrong, processors, store)
 }
 
 // The same for a call that names a processor.
-pub fn plan_for(
-    s: &[u8],
-    processors: u32,
-    processor: u32,
-    lens: &mut [u32; 16],
-    firsts: &mut [u32; 16],
-    lasts: &mut [u32; 16],
-    starts: &mut [usize; 17],
-    kinds: &mut [u8; 528],
-    arrays: &mut [u32; 528],
-    values: &mut [u32; 528],
-) -> Plan
-    requires { ⌜ Sized (columns (now lens) (now firsts) (now lasts) (now starts) (now kinds) (now arrays) (now values)) ⌝ }
-    ensures { λ r. ⌜ Plans (now (s .entry)) (plannedFor (now (s .entry)) processors processor) r (columns (now (lens .exit)) (now (firsts .exit)) (now (lasts .exit)) (now (starts .exit)) (now (kinds .exit)) (now (arrays .exit)) (now (values .exit))) ⌝ }
+pub fn plan_for(s: &[u8], processors: u32, processor: u32, store: &mut Store) -> Plan
+    requires { ⌜ Sized (now store) ⌝ }
+    ensures { λ r. ⌜ Plans (now (s .entry)) (plannedFor (now (s .entry)) (settings processors) processor) r (now (store .exit)) ⌝ }
 {
     let wrong = bad_number(processors, processor);
-    plan_unless(
-        s,
-        wrong,
-        processors,
-        lens,
-        firsts,
-        lasts,
-        starts,
-        kinds,
-        arrays,
-        values,
-    )
+    plan_unless(s, wrong, processors, store)
 }

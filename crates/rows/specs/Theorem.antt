@@ -26,8 +26,8 @@ use Rattle.lists.specs.Order.{Less, less-key}
 use Rattle.lists.specs.Fusion.{Fusion, Wide, fusedList, peeledList, owner, phase, key, rank, pastAll, index-below, rows, once}
 use Rattle.rows.specs.PlainOrder.{plain, plain-mem, plain-before, plain-once, plain-run}
 use Rattle.rows.specs.Legal.{Depends, NoneMissed, Legal, contained}
-use Rattle.rows.specs.Reported.{reports, remains}
-use Rattle.rows.specs.Reported.{own-order as own-order-of, reports-once, after-earlier, reported-complete, complete-reported}
+use Rattle.order.specs.Reported.{reports, remains}
+use Rattle.order.specs.Reported.{own-order as own-order-of, reports-once, after-earlier, reported-complete, complete-reported}
 
 -- two iterations clash, if the table has them
 abbrev pub Dependent : Table → Iteration → Iteration → Type 0

@@ -13,7 +13,7 @@ use Rattle.order.specs.Machine.{trace, zeros}
 use Rattle.order.specs.Machine.{Complete as Ends}
 use Rattle.order.specs.Exists.{complete-exists}
 use Rattle.order.specs.Rows.{Rows, plan, whole, cut-mem}
-use Rattle.rows.specs.Reported.{reports-once, after-earlier, reported-complete, complete-reported}
+use Rattle.order.specs.Reported.{reports-once, after-earlier, reported-complete, complete-reported}
 use Rattle.turns.specs.Turn.{Said, refuses, performs, waits, ends, After}
 use Rattle.turns.specs.Row.{noneDone, reports, memoryAfter}
 use Rattle.turns.specs.Machine.{done}

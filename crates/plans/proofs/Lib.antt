@@ -1,2 +1,0 @@
--- what the code found is the table's plan
-pub mod Laws

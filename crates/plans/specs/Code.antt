@@ -1,0 +1,71 @@
+-- What the planner's code leaves: what it tells of an answer, and the plan along one index beside the table in the store.
+use Prim.Native.Nat.{ℕ}
+use mathlib.Core.Path.{_≡_}
+use mathlib.Core.List.{List}
+use lib.ListN.{length, replicate}
+use Rattle.reader.specs.Reading.{AnswerOf, accepted}
+use Rattle.reader.specs.Store.{tableIn}
+use Rattle.reader.specs.Held.{Held}
+use Rattle.tables.specs.Verdict.{Tells, numberOf, placeOf}
+use Rattle.blocks.specs.declared.Axis.{Axis}
+use Rattle.lists.specs.Fusion.{Fusion, fusionIn}
+use Rattle.plans.specs.declared.Plan.{Plan}
+use Rattle.plans.specs.Plans.{Settings, Planned, planned, plannedFor}
+use Rattle.plans.specs.Accepted.{Fit, planned-accepts, named-accepts}
+
+-- the table in the store c, with the plan that code keeps in a
+abbrev pub plannedIn : Axis → List ℕ → Planned
+plannedIn a c = record { table = tableIn c; plan = fusionIn a }
+
+-- where nothing is refused
+pub record Made (a : AnswerOf Planned) (r : Plan) (c : List ℕ) : Type 0 where
+  pub is : a ≡ accepted (plannedIn (r .axis) c)
+  pub held : Held c
+  pub shifts-long : length (r .axis .shifts) ≡ 16
+  pub peels-long : length (r .axis .peels) ≡ 16
+
+-- a plan tells the answer a, for the table's bytes s
+pub record Plans (s : List ℕ) (a : AnswerOf Planned) (r : Plan) (c : List ℕ) : Type 0 where
+  pub tells : Tells s a (r .number) (r .place) (r .read)
+  pub made : r .number ≡ 0 → Made a r c
+
+-- a refusal has no plan
+abbrev pub refusing : ℕ → ℕ → ℕ → Plan
+refusing number place read = record {
+  number = number;
+  place = place;
+  read = read;
+  axis = record { first = 0; count = 0; blocks = 0; shifts = replicate 16 0; peels = replicate 16 0 };
+}
+
+-- the same where no table's bytes are at hand, and so no read is named
+pub record Chosen (a : AnswerOf Planned) (r : Plan) (c : List ℕ) : Type 0 where
+  pub number-is : r .number ≡ numberOf a
+  pub place-is : r .place ≡ placeOf a
+  pub unnamed : r .read ≡ 0
+  pub other : r .number ≡ 9 → ⊥
+  pub made : r .number ≡ 0 → Made a r c
+
+-- WHAT CODE IS LENT of an accepted plan: the plan along an index, and the table in the store
+pub record Laid (a : Axis) (c : List ℕ) : Type 0 where
+  pub held : Held c
+  pub fit : Fit (tableIn c) (fusionIn a)
+  pub shifts-long : length (a .shifts) ≡ 16
+  pub peels-long : length (a .peels) ≡ 16
+
+pub made-laid : (s : List ℕ) (w : Settings) (r : Plan) (c : List ℕ) → Made (planned s w) r c → Laid (r .axis) c
+made-laid s w r c m = record {
+  held = m .held;
+  fit = planned-accepts s w (plannedIn (r .axis) c) (m .is) .fit;
+  shifts-long = m .shifts-long;
+  peels-long = m .peels-long;
+}
+
+-- a call that names a processor is the same call, for a processor below P
+pub named-made : (s : List ℕ) (w : Settings) (b : ℕ) (r : Plan) (c : List ℕ) → Made (plannedFor s w b) r c → Made (planned s w) r c
+named-made s w b r c m = record {
+  is = named-accepts s w b (plannedIn (r .axis) c) (m .is) .0;
+  held = m .held;
+  shifts-long = m .shifts-long;
+  peels-long = m .peels-long;
+}
