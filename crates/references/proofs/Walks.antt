@@ -2,7 +2,7 @@
 use Prim.Native.Nat.{ℕ, zero, suc, _+_, _-_, _≤_, _<_}
 use native.Mathlib.Omega.{arith}
 use native.Mathlib.Numerals.{add-one}
-use mathlib.Core.Path.{_≡_, refl, sym, ap, _∙_}
+use mathlib.Core.Path.{_≡_, refl, sym, ap, subst, _∙_}
 use mathlib.Core.Bool.{Bool, true, false}
 use mathlib.Core.List.{List, [], _∷_, _++_, append-nil, append-assoc}
 use lib.ListN.{getD}
@@ -10,13 +10,13 @@ use lib.Dec.{eqb}
 use borrow.Author.Tests.{ne-eqb}
 use Rattle.order.specs.Lists.{joined}
 use Rattle.model.specs.declared.Reference.{Reference}
-use Rattle.model.specs.Table.{Item, read, constant, operation}
-use Rattle.model.specs.References.{reads}
-use Rattle.reader.specs.Store.{startAt, kindAt, arrayAt, valueAt, itemOf, itemAt, itemsFrom}
+use Rattle.model.specs.Table.{Item, read, constant, operation, count}
+use Rattle.model.specs.References.{reads, refs}
+use Rattle.reader.specs.Store.{startAt, kindAt, arrayAt, valueAt, loopsIn, itemOf, itemAt, itemsFrom, tableIn}
 use Rattle.reader.specs.Stored.{Row}
-use native.Mathlib.Decide.{ℕ-discrete}
+use Rattle.reader.specs.Held.{Held, count-held, few-loops, loop-held, rows-rise, few-rows, row-held, head-held}
 use Rattle.amounts.specs.Columns.{Columns, refsFrom}
-use Rattle.references.specs.Collected.{Long, withReference, long-more, Added, added-one, added-then, added-few, Held, rowRefs, Collected}
+use Rattle.references.specs.Collected.{Long, withReference, long-more, Added, added-one, added-then, added-few, Collected}
 
 no-items : (cs : List ℕ) (k r : ℕ) → reads k (itemsFrom cs r 0) ≡ []
 unfolding itemsFrom
@@ -92,49 +92,56 @@ module _ (cs : List ℕ) (k : ℕ) where
           empty : (r : ℕ) → reads k (itemsFrom cs r 0) ≡ []
           empty r = no-items cs k r
 
--- LOOPS
-module _ (cs : List ℕ) (l : ℕ) where
-  pub loops-start : (c : Columns) → Long c → Held cs l → Collected cs 0 c 0
+-- LOOPS, l of them
+module _ (cs : List ℕ) (h : Held cs) (l : ℕ) (all : l ≡ loopsIn cs) where
+  pub loops-start : (c : Columns) → Long c → Collected cs 0 c 0
   unfolding refsFrom
-  loops-start c long h = record { long = long; is = refl; few = omega arith }
+  loops-start c long = record { long = long; is = refl; few = omega arith }
 
-  starts-up : Held cs l → (j k : ℕ) → j ≤ k → k ≤ l → startAt cs j ≤ startAt cs k
-  starts-up h j zero m n = let e : j ≡ 0 = omega arith in rw e (omega arith)
-  starts-up h j (suc k) m n = go (ℕ-discrete j (suc k)) (starts-up h j k)
-    where
-      go : Dec (j ≡ suc k) → (j ≤ k → k ≤ l → startAt cs j ≤ startAt cs k) → startAt cs j ≤ startAt cs (suc k)
-      go (yes e) ih = rw e (omega arith)
-      go (no e) ih = omega (arith, ih (omega arith) (omega arith), h .rising k n)
+  pub loops-few : l ≤ 16
+  loops-few = omega (arith, few-loops h)
 
-  -- what a loop of the table asks
-  pub loop-ready : (c : Columns) (k n : ℕ) → Held cs l → Collected cs k c n → k < l
-      → (k < 16) × (startAt cs k < startAt cs (k + 1)) × (startAt cs (k + 1) ≤ 528) × (n ≤ startAt cs k)
-      × ((r : ℕ) → r < startAt cs (k + 1) → Row cs r)
-  loop-ready c k n h i m =
-      let up = starts-up h (suc k) l m (omega arith) in
-      rw (add-one k) (omega (arith, h .few), h .rising k m, omega (arith, up, h .end), i .few, λ r x. h .each r (omega (arith, up)))
+  pub loops-done : (c : Columns) (k n : ℕ) → Collected cs k c n → k ≤ l → l ≤ k → Collected cs (count (tableIn cs)) c n
+  loops-done c k n i m o = let e : k ≡ count (tableIn cs) = omega (arith, count-held h) in subst (λ (j : ℕ). Collected cs j c n) e i
 
-  -- a loop's references, as the code has them
-  abbrev given : ℕ → List Reference
-  given k =
-      record { number = k; array = arrayAt cs (startAt cs k); offset = valueAt cs (startAt cs k); stores = true }
-      ∷ reads k (itemsFrom cs (startAt cs k + 1) (startAt cs (k + 1) - (startAt cs k + 1)))
+  module _ (k : ℕ) (m : k < l) where
+    there : k < count (tableIn cs)
+    there = omega (arith, count-held h)
 
-  same-given : (k : ℕ) → given k ≡ rowRefs cs k
-  same-given k = rw (add-one k, add-one (startAt cs k))
+    -- the loop's references, as the code has them
+    abbrev given : List Reference
+    given =
+        record { number = k; array = arrayAt cs (startAt cs k); offset = valueAt cs (startAt cs k); stores = true }
+        ∷ reads k (itemsFrom cs (startAt cs k + 1) (startAt cs (k + 1) - (startAt cs k + 1)))
 
-  pub loops-next : (c d : Columns) (k n m : ℕ) → Collected cs k c n → Held cs l → k < l
-      → Added c n d m (given k) (startAt cs (k + 1) - startAt cs k) → Collected cs (k + 1) d m
-  loops-next c d k n m i h b a =
-      rw (add-one k)
-      (record {
-        long = a .long;
-        is = a .is ∙ ap (λ (x : List Reference). x ++ given k) (i .is) ∙ ap (λ (x : List Reference). joined k (rowRefs cs) ++ x) (same-given k);
-        few = few;
-      })
-    where
-      few : m ≤ startAt cs (suc k)
-      few = let u = rw (add-one k) at (a .few) in omega (arith, u, i .few, h .rising k b)
+    same-given : refs (tableIn cs) k ≡ given
+    same-given = rw (loop-held h k there, ← (add-one (startAt cs k)), ← (add-one k)) (append-nil given)
+
+    -- what it asks
+    pub loop-ready : (c : Columns) (n : ℕ) → Collected cs k c n
+        → ((k < 16) × (startAt cs k < startAt cs (k + 1)) × (startAt cs (k + 1) ≤ 528) × (n ≤ startAt cs k)
+            × ((r : ℕ) → r < startAt cs (k + 1) → Row cs r))
+        × ((kindAt cs (startAt cs k) ≡ 2) × Long c)
+    loop-ready c n i =
+        rw (add-one k)
+        ((omega (arith, loops-few), rows-rise h k there, few-rows h (suc k) there, i .few, λ r x. row-held h (suc k) r there x),
+        (head-held h k there, i .long))
+
+    pub loops-next : (c d : Columns) (n o : ℕ) → Collected cs k c n → Added c n d o given (startAt cs (k + 1) - startAt cs k)
+        → Collected cs (k + 1) d o
+    loops-next c d n o i a =
+        rw (add-one k)
+        (record {
+          long = a .long;
+          is =
+              a .is
+              ∙ ap (λ (x : List Reference). x ++ given) (i .is)
+              ∙ ap (λ (x : List Reference). joined k (refs (tableIn cs)) ++ x) (sym same-given);
+          few = few;
+        })
+      where
+        few : o ≤ startAt cs (suc k)
+        few = let u = rw (add-one k) at (a .few) in omega (arith, u, i .few, rows-rise h k there)
 
 -- a loop: its destination, then its reads
 module _ (c : Columns) (n k q o : ℕ) (long : Long c) (room : n < 528) (d : Columns) (m : ℕ) (put : d ≡ withReference n k q o 1 c) (one : m ≡ n + 1) where

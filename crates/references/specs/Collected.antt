@@ -1,19 +1,16 @@
 -- The references of a table in columns, one after the other: each loop's destination, then its reads.
-use Prim.Native.Nat.{ℕ, zero, suc, _+_, _-_, _≤_, _<_}
+use Prim.Native.Nat.{ℕ, zero, suc, _+_, _≤_, _<_}
 use native.Mathlib.Omega.{arith}
 use native.Mathlib.Numerals.{add-one}
 use mathlib.Core.Path.{_≡_, refl, sym, ap, _∙_}
-use mathlib.Core.Bool.{true}
 use mathlib.Core.List.{List, [], _∷_, _++_, append-nil, append-assoc}
 use lib.ListN.{length, getD, set, length-set}
 use lib.Seq.{getD-set-same, getD-set-other}
 use lib.Dec.{eqb}
 use Rattle.order.specs.Lists.{joined}
 use Rattle.model.specs.declared.Reference.{Reference}
-use Rattle.model.specs.References.{reads, allRefs}
 use Rattle.model.specs.References.{refs as loopRefs}
-use Rattle.reader.specs.Store.{startAt, kindAt, arrayAt, valueAt, itemsFrom, tableAt, count-table, loop-table}
-use Rattle.reader.specs.Stored.{Row, Kept}
+use Rattle.reader.specs.Store.{startAt, tableIn}
 use Rattle.amounts.specs.Columns.{Columns, columns, refAt, refsFrom}
 
 -- the columns' own lengths
@@ -112,44 +109,8 @@ added-then c d e n m j rs qs a b x y = record {
 pub added-few : (c d : Columns) (n m : ℕ) (rs : List Reference) (a b : ℕ) → a ≤ b → Added c n d m rs a → Added c n d m rs b
 added-few c d n m rs a b h x = record { long = x .long; is = x .is; few = omega (arith, x .few) }
 
--- the rows of so many loops
-pub record Held (cs : List ℕ) (l : ℕ) : Type 0 where
-  pub few : l ≤ 16
-  pub rising : (k : ℕ) → k < l → startAt cs k < startAt cs (suc k)
-  pub end : startAt cs l ≤ 528
-  pub head : (k : ℕ) → k < l → kindAt cs (startAt cs k) ≡ 2
-  pub each : (r : ℕ) → r < startAt cs l → Row cs r
-
--- loop k's references, from its rows
-abbrev pub rowRefs : List ℕ → ℕ → List Reference
-rowRefs cs k =
-    record { number = k; array = arrayAt cs (startAt cs k); offset = valueAt cs (startAt cs k); stores = true }
-    ∷ reads k (itemsFrom cs (suc (startAt cs k)) (startAt cs (suc k) - suc (startAt cs k)))
-
--- the first n references of the columns are those of l loops
-pub record Collected (cs : List ℕ) (l : ℕ) (c : Columns) (n : ℕ) : Type 0 where
+-- the first n references of the columns are those of the first k loops of the table in the store
+pub record Collected (cs : List ℕ) (k : ℕ) (c : Columns) (n : ℕ) : Type 0 where
   pub long : Long c
-  pub is : refsFrom c 0 n ≡ joined l (rowRefs cs)
-  pub few : n ≤ startAt cs l
-
--- an accepted table's columns are such rows, and its references are theirs
-pub held : (c : List ℕ) (a l rows : ℕ) → Kept c a l rows → Held c l
-held c a l rows h = record {
-  few = h .few-loops;
-  rising = h .rising;
-  end = omega (arith, h .end, h .few-rows);
-  head = h .head;
-  each = λ r m. let o = h .each r (omega (arith, h .end)) in record { array = o .array; offset = o .offset };
-}
-
-joined-same : {A : Type 0} (f g : ℕ → List A) (n : ℕ) → ((k : ℕ) → k < n → f k ≡ g k) → joined n f ≡ joined n g
-joined-same f g zero e = refl
-joined-same f g (suc n) e = ap (λ l. l ++ f n) (joined-same f g n (λ k h. e k (omega arith))) ∙ ap (λ l. joined n g ++ l) (e n (omega arith))
-
-pub table-refs : (c : List ℕ) (a l : ℕ) → allRefs (tableAt c a l) ≡ joined l (rowRefs c)
-table-refs c a l =
-    ap (λ (n : ℕ). joined n (loopRefs (tableAt c a l))) (count-table c a l)
-    ∙ joined-same (loopRefs (tableAt c a l)) (rowRefs c) l each
-  where
-    each : (k : ℕ) → k < l → loopRefs (tableAt c a l) k ≡ rowRefs c k
-    each k h = rw (loop-table c a l k h) (append-nil (rowRefs c k))
+  pub is : refsFrom c 0 n ≡ joined k (loopRefs (tableIn cs))
+  pub few : n ≤ startAt cs k

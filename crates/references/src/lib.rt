@@ -3,15 +3,16 @@ use amounts::Amounts;
 use records::Store;
 ghost use mathlib.Core.Path.{_≡_};
 ghost use mathlib.Core.Bool.{true};
-ghost use mathlib.Core.List.{_++_, _∷_, []};
+ghost use mathlib.Core.List.{_∷_};
 ghost use Prim.Native.Nat.{ℕ, _+_, _-_, _<_, _≤_};
-ghost use Rattle.order.specs.Lists.{joined};
-ghost use Rattle.model.specs.References.{reads, refs};
-ghost use Rattle.reader.specs.Store.{itemsFrom, tableAt, kindAt, arrayAt, valueAt};
-ghost use Rattle.reader.specs.Stored.{Row, Kept};
+ghost use Rattle.model.specs.Table.{count};
+ghost use Rattle.model.specs.References.{reads, allRefs};
+ghost use Rattle.reader.specs.Store.{itemsFrom, tableIn, kindAt, arrayAt, valueAt};
+ghost use Rattle.reader.specs.Stored.{Row};
+ghost use Rattle.reader.specs.Held.{Held};
 ghost use Rattle.amounts.specs.Columns.{columns};
 ghost use Rattle.chains.specs.Walk.{shifts, peels};
-ghost use Rattle.references.specs.Collected.{Long, withReference, Added, Held, Collected, rowRefs};
+ghost use Rattle.references.specs.Collected.{Long, withReference, Added, Collected};
 
 // One reference more, at place n.
 fn put_reference(
@@ -118,18 +119,18 @@ fn collect_loop(
 }
 
 // The references of all loops, in byte order; answers how many.
-pub fn collect(
-    count: usize,
+fn collect(
     store: &Store,
     loops: &mut [u8; 528],
     names: &mut [u8; 528],
     offsets: &mut [u16; 528],
     stores: &mut [u8; 528],
 ) -> usize
-    requires { ⌜ Held (now store) count ⌝ }
+    requires { ⌜ Held (now store) ⌝ }
     requires { ⌜ Long (columns (now loops) (now names) (now offsets) (now stores)) ⌝ }
-    ensures { λ r. ⌜ Collected (now (store .entry)) count (columns (now (loops .exit)) (now (names .exit)) (now (offsets .exit)) (now (stores .exit))) r ⌝ }
+    ensures { λ r. ⌜ Collected (now (store .entry)) (count (tableIn (now (store .entry)))) (columns (now (loops .exit)) (now (names .exit)) (now (offsets .exit)) (now (stores .exit))) r ⌝ }
 {
+    let count = reader::loops_in(store);
     let mut n: usize = 0;
     let mut k: usize = 0;
     while k < count {
@@ -142,17 +143,16 @@ pub fn collect(
 }
 
 // The shifts and peels of a table in a store.
-pub fn amounts_of(count: usize, store: &Store) -> Amounts
-    requires { ⌜ Held (now store) count ⌝ }
-    ensures { λ r. ⌜ r .shifts ≡ shifts (joined count (rowRefs (now (store .entry)))) ⌝ }
-    ensures { λ r. ⌜ r .peels ≡ peels (joined count (rowRefs (now (store .entry)))) ⌝ }
+pub fn amounts_of(store: &Store) -> Amounts
+    requires { ⌜ Held (now store) ⌝ }
+    ensures { λ r. ⌜ r .shifts ≡ shifts (allRefs (tableIn (now (store .entry)))) ⌝ }
+    ensures { λ r. ⌜ r .peels ≡ peels (allRefs (tableIn (now (store .entry)))) ⌝ }
 {
     let mut loops = [0u8; 528];
     let mut names = [0u8; 528];
     let mut offsets = [0u16; 528];
     let mut stores = [0u8; 528];
     let n = collect(
-        count,
         store,
         &mut loops,
         &mut names,

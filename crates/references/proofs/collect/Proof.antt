@@ -1,56 +1,77 @@
 use native.Mathlib.Omega.{arith}
-use mathlib.Core.Path.{_≡_, subst}
 use denote.Ref.{now}
-use Prim.Native.Nat.{ℕ, _-_, _≤_}
+use Prim.Native.Nat.{_-_, _≤_}
 use Rattle.amounts.specs.Columns.{columns}
 use Rattle.references.specs.Collected.{Collected}
-use Rattle.references.proofs.Walks.{loops-start, loop-ready, loops-next}
+use Rattle.references.proofs.Walks.{loops-start, loops-few, loops-done, loop-ready, loops-next}
+use borrow.Author.Needs.{needs}
 use Rattle.references.proofs.collect.Statement.{statement}
 use Rattle.references.proofs.collect.Tie as tie
 
 abbrev Inv-loop : tie.InvT-loop
-Inv-loop count store loops₀ names₀ offsets₀ stores₀ n₀ k₀ loops names offsets stores n k = Collected store k (columns loops names offsets stores) n × (k ≤ count)
+Inv-loop store loops₀ names₀ offsets₀ stores₀ count n₀ k₀ loops names offsets stores n k =
+    Collected store k (columns loops names offsets stores) n × (k ≤ count)
 
 abbrev μ-loop : tie.MeasureT-loop
-μ-loop count store loops₀ names₀ offsets₀ stores₀ n₀ k₀ loops names offsets stores n k = count - k
+μ-loop store loops₀ names₀ offsets₀ stores₀ count n₀ k₀ loops names offsets stores n k = count - k
+
+loops-in-requires : tie.Need-loops-in-requires Inv-loop μ-loop
+loops-in-requires c κs = search needs
 
 loop-holds : tie.Need-loop-holds Inv-loop μ-loop
-loop-holds c = let a = c .args in (loops-start (now (a .store)) (a .count) (columns (now (a .loops)) (now (a .names)) (now (a .offsets)) (now (a .stores))) (c .pre .1) (c .pre .0), omega arith)
+loop-holds c =
+    let b = c .before in
+    let a = b .args in
+    let d = columns (now (a .loops)) (now (a .names)) (now (a .offsets)) (now (a .stores)) in
+    (loops-start (now (a .store)) (b .pre .0) _ (c .loops-in .ensures) d (b .pre .1), omega arith)
 
 start-at-requires : tie.Need-start-at-requires Inv-loop μ-loop
-start-at-requires c κs = omega (arith, c .before .before .pre .0 .few)
+start-at-requires c κs =
+    let b = c .before .before in
+    omega (arith, loops-few (now (b .before .args .store)) (b .before .pre .0) _ (b .loops-in .ensures))
 
 add-start-at : tie.Need-add-start-at Inv-loop μ-loop
-add-start-at c = omega (arith, c .before .before .before .pre .0 .few)
+add-start-at c =
+    let b = c .before .before .before in
+    omega (arith, loops-few (now (b .before .args .store)) (b .before .pre .0) _ (b .loops-in .ensures))
 
 start-at-requires-2 : tie.Need-start-at-requires-2 Inv-loop μ-loop
-start-at-requires-2 c κs = omega (arith, c .before .before .before .pre .0 .few)
+start-at-requires-2 c κs =
+    let b = c .before .before .before in
+    omega (arith, loops-few (now (b .before .args .store)) (b .before .pre .0) _ (b .loops-in .ensures))
 
 collect-loop-requires : tie.Need-collect-loop-requires Inv-loop μ-loop
-collect-loop-requires c κs = let a = c .before .before .before .before .before .before .before .before .args in
-    let l = c .before .before .before .before .before .before .before .loop in
-    let d = columns (l .loops) (l .names) (l .offsets) (l .stores) in
-    let h = loop-ready (now (a .store)) (a .count) d (l .k) (l .n) (c .before .before .before .before .before .before .before .before .pre .0) (l .inv .0) (c .before .before .before .before .before .before .loop-test .taken) in
-    rw (c .before .before .before .before .start-at2 .ensures, c .before .before .before .before .before .start-at .ensures) ((h .0, h .1, h .2, h .3, h .4), (c .before .before .before .before .before .before .before .before .pre .0 .head (l .k) (c .before .before .before .before .before .before .loop-test .taken), l .inv .0 .long))
+collect-loop-requires c κs =
+    let s = c .before .before .before .before in
+    let t = s .before .before in
+    let b = t .before .before in
+    let l = t .before .loop in
+    rw (s .start-at2 .ensures, s .before .start-at .ensures)
+    (loop-ready (now (b .before .args .store)) (b .before .pre .0) _ (b .loops-in .ensures) (l .k) (t .loop-test .taken)
+    (columns (l .loops) (l .names) (l .offsets) (l .stores)) (l .n) (l .inv .0))
 
 add-k : tie.Need-add-k Inv-loop μ-loop
-add-k c = omega (arith, c .before .before .before .before .before .before .before .before .before .pre .0 .few)
+add-k c = search needs
 
 loop-less : tie.Need-loop-less Inv-loop μ-loop
 loop-less c = omega arith
 
 loop-again : tie.Need-loop-again Inv-loop μ-loop
-loop-again c = let a = c .before .before .before .before .before .before .before .before .before .args in
-    let l = c .before .before .before .before .before .before .before .before .loop in
-    let d = columns (l .loops) (l .names) (l .offsets) (l .stores) in
-    (loops-next (now (a .store)) (a .count) d _ (l .k) (l .n) _ (l .inv .0) (c .before .before .before .before .before .before .before .before .before .pre .0) (c .before .before .before .before .before .before .before .loop-test .taken) (rw (c .before .before .before .before .before .start-at2 .ensures, c .before .before .before .before .before .before .start-at .ensures) at (c .collect-loop .ensures)), omega arith)
+loop-again c =
+    let s = c .before .before .before .before .before in
+    let t = s .before .before in
+    let b = t .before .before in
+    let l = t .before .loop in
+    (loops-next (now (b .before .args .store)) (b .before .pre .0) _ (b .loops-in .ensures) (l .k) (t .loop-test .taken)
+    (columns (l .loops) (l .names) (l .offsets) (l .stores)) _ (l .n) _ (l .inv .0)
+    (rw (s .start-at2 .ensures, s .before .start-at .ensures) at (c .collect-loop .ensures)), omega arith)
 
 returns : tie.Need-returns Inv-loop μ-loop
-returns c = let a = c .before .before .args in
+returns c =
+    let b = c .before .before in
     let l = c .before .loop in
-    let d = columns (l .loops) (l .names) (l .offsets) (l .stores) in
-    let e : l .k ≡ a .count = omega (arith, l .inv .1, c .loop-test .left) in
-    subst (λ (k : ℕ). Collected (now (a .store)) k d (l .n)) e (l .inv .0)
+    loops-done (now (b .before .args .store)) (b .before .pre .0) _ (b .loops-in .ensures)
+    (columns (l .loops) (l .names) (l .offsets) (l .stores)) (l .k) (l .n) (l .inv .0) (l .inv .1) (c .loop-test .left)
 
 pub collect-spec : {M : Type 1} → statement M
 collect-spec =
@@ -58,6 +79,7 @@ collect-spec =
     (tie.spec
     Inv-loop
     μ-loop
+    loops-in-requires
     loop-holds
     start-at-requires
     add-start-at

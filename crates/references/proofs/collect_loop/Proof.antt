@@ -10,34 +10,56 @@ array-at-requires : tie.Need-array-at-requires
 array-at-requires c κs = search needs
 
 cast-q : tie.Need-cast-q
-cast-q c = omega (arith, c .array-at .ensures, c .before .pre .0 .4 (c .before .args .from) (c .before .pre .0 .1) .array)
+cast-q c =
+    let b = c .before in
+    omega (arith, c .array-at .ensures, b .pre .0 .4 (b .args .from) (b .pre .0 .1) .array)
 
 value-at-requires : tie.Need-value-at-requires
 value-at-requires c κs = search needs
 
 cast-o : tie.Need-cast-o
-cast-o c = omega (arith, c .value-at .ensures, c .before .before .pre .0 .4 (c .before .before .args .from) (c .before .before .pre .0 .1) .offset (omega (arith, c .before .before .pre .1 .0)))
+cast-o c =
+    let b = c .before .before in
+    omega (arith, c .value-at .ensures, b .pre .0 .4 (b .args .from) (b .pre .0 .1) .offset (omega (arith, b .pre .1 .0)))
 
 cast-number : tie.Need-cast-number
 cast-number c = search needs
 
 put-reference-requires : tie.Need-put-reference-requires
-put-reference-requires c κs = omega (arith, c .before .before .before .before .before .before .pre .0 .1, c .before .before .before .before .before .before .pre .0 .2, c .before .before .before .before .before .before .pre .0 .3)
+put-reference-requires c κs =
+    let b = c .before .before .before .before .before .before in
+    omega (arith, b .pre .0 .1, b .pre .0 .2, b .pre .0 .3)
 
 add-collect-reads : tie.Need-add-collect-reads
 add-collect-reads c = search needs
 
 collect-reads-requires : tie.Need-collect-reads-requires
-collect-reads-requires c κs = let a = c .before .before .before .before .before .before .before .before .before .before .before .args in
-    let z = c .before .before .before .before .put-reference .last in
-    let e = columns (z .1 .1 .1 .1 .1 .0) (z .1 .1 .1 .1 .1 .1 .0) (z .1 .1 .1 .1 .1 .1 .1 .0) (z .1 .1 .1 .1 .1 .1 .1 .1 .0) in
-    ((c .before .before .before .before .before .before .before .before .before .before .before .pre .0 .2, omega (arith, c .before .before .before .before .put-reference .ensures .0, c .before .before .before .before .before .before .before .before .before .before .before .pre .0 .3), c .before .before .before .before .before .before .before .before .before .before .before .pre .0 .4), put-long (columns (now (a .loops)) (now (a .names)) (now (a .offsets)) (now (a .stores))) (a .n) _ _ _ (c .before .before .before .before .before .before .before .before .before .before .before .pre .1 .1) (omega (arith, c .before .before .before .before .before .before .before .before .before .before .before .pre .0 .1, c .before .before .before .before .before .before .before .before .before .before .before .pre .0 .2, c .before .before .before .before .before .before .before .before .before .before .before .pre .0 .3)) e (c .before .before .before .before .put-reference .result) (c .before .before .before .before .put-reference .ensures .1) (c .before .before .before .before .put-reference .ensures .0))
+collect-reads-requires c κs =
+    let p = c .before .before .before .before in
+    let b = p .before .before .before .before .before .before .before in
+    let a = b .args in
+    let h = b .pre .0 in
+    let z = p .put-reference .last .1 .1 .1 .1 .1 in
+    let d = columns (now (a .loops)) (now (a .names)) (now (a .offsets)) (now (a .stores)) in
+    let e = columns (z .0) (z .1 .0) (z .1 .1 .0) (z .1 .1 .1 .0) in
+    let put = p .put-reference .ensures in
+    ((h .2, omega (arith, put .0, h .3), h .4),
+    put-long d (a .n) _ _ _ (b .pre .1 .1) (omega (arith, h .1, h .2, h .3)) e (p .put-reference .result) (put .1) (put .0))
 
 returns : tie.Need-returns
-returns c = let a = c .before .before .before .before .before .before .before .before .before .before .before .before .args in
-    let z = c .before .before .before .before .before .put-reference .last in
-    let e = columns (z .1 .1 .1 .1 .1 .0) (z .1 .1 .1 .1 .1 .1 .0) (z .1 .1 .1 .1 .1 .1 .1 .0) (z .1 .1 .1 .1 .1 .1 .1 .1 .0) in
-    rw (← (c .before .before .before .before .before .before .before .before .before .before .before .array-at .ensures), ← (c .before .before .before .before .before .before .before .before .before .before .value-at .ensures)) (loop-added (columns (now (a .loops)) (now (a .names)) (now (a .offsets)) (now (a .stores))) (a .n) _ _ _ (c .before .before .before .before .before .before .before .before .before .before .before .before .pre .1 .1) (omega (arith, c .before .before .before .before .before .before .before .before .before .before .before .before .pre .0 .1, c .before .before .before .before .before .before .before .before .before .before .before .before .pre .0 .2, c .before .before .before .before .before .before .before .before .before .before .before .before .pre .0 .3)) e (c .before .before .before .before .before .put-reference .result) (c .before .before .before .before .before .put-reference .ensures .1) (c .before .before .before .before .before .put-reference .ensures .0) _ _ _ (a .from) (a .past) (c .before .before .before .before .before .before .before .before .before .before .before .before .pre .0 .1) (c .collect-reads .ensures))
+returns c =
+    let p = c .before .before .before .before .before in
+    let v = p .before .before .before .before .before in
+    let b = v .before .before in
+    let a = b .args in
+    let h = b .pre .0 in
+    let z = p .put-reference .last .1 .1 .1 .1 .1 in
+    let d = columns (now (a .loops)) (now (a .names)) (now (a .offsets)) (now (a .stores)) in
+    let e = columns (z .0) (z .1 .0) (z .1 .1 .0) (z .1 .1 .1 .0) in
+    let put = p .put-reference .ensures in
+    rw (← (v .before .array-at .ensures), ← (v .value-at .ensures))
+    (loop-added d (a .n) _ _ _ (b .pre .1 .1) (omega (arith, h .1, h .2, h .3)) e (p .put-reference .result) (put .1) (put .0)
+    _ _ _ (a .from) (a .past) (h .1) (c .collect-reads .ensures))
 
 pub collect-loop-spec : {M : Type 1} → statement M
 collect-loop-spec =

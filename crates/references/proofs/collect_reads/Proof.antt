@@ -14,12 +14,17 @@ abbrev μ-loop : tie.MeasureT-loop
 μ-loop k from past start store loops₀ names₀ offsets₀ stores₀ row₀ n₀ loops names offsets stores row n = past - row
 
 loop-holds : tie.Need-loop-holds Inv-loop μ-loop
-loop-holds c = let a = c .args in
-    start-row (now (a .store)) (a .k) (columns (now (c .args .loops)) (now (c .args .names)) (now (c .args .offsets)) (now (c .args .stores))) (a .from) (a .past) (a .start) (c .pre .1)
+loop-holds c =
+    let a = c .args in
+    let d = columns (now (a .loops)) (now (a .names)) (now (a .offsets)) (now (a .stores)) in
+    start-row (now (a .store)) (a .k) d (a .from) (a .past) (a .start) (c .pre .1)
 
 collect-row-requires : tie.Need-collect-row-requires Inv-loop μ-loop
-collect-row-requires c κs = let l = c .before .before .before .before .before .loop in
-    ((omega (arith, c .before .before .before .before .before .before .pre .0 .0), omega (arith, c .before .before .before .before .before .before .pre .0 .0, c .before .before .before .before .before .before .pre .0 .1, l .inv .few, l .inv .low), c .before .before .before .before .before .before .pre .0 .2 (l .row) (c .before .before .before .before .loop-test .taken)), l .inv .long)
+collect-row-requires c κs =
+    let t = c .before .before .before .before in
+    let l = t .before .loop in
+    let h = t .before .before .pre .0 in
+    ((omega (arith, h .0), omega (arith, h .0, h .1, l .inv .few, l .inv .low), h .2 (l .row) (t .loop-test .taken)), l .inv .long)
 
 add-row : tie.Need-add-row Inv-loop μ-loop
 add-row c = omega (arith, c .before .before .before .before .before .before .before .pre .0 .0)
@@ -28,12 +33,21 @@ loop-less : tie.Need-loop-less Inv-loop μ-loop
 loop-less c = omega arith
 
 loop-again : tie.Need-loop-again Inv-loop μ-loop
-loop-again c = let a = c .before .before .before .before .before .before .before .args in
-    next-row (now (a .store)) (a .k) (columns (now (c .before .before .before .before .before .before .before .args .loops)) (now (c .before .before .before .before .before .before .before .args .names)) (now (c .before .before .before .before .before .before .before .args .offsets)) (now (c .before .before .before .before .before .before .before .args .stores))) (columns (c .before .before .before .before .before .before .loop .loops) (c .before .before .before .before .before .before .loop .names) (c .before .before .before .before .before .before .loop .offsets) (c .before .before .before .before .before .before .loop .stores)) _ (a .from) (a .past) (a .start) (c .before .before .before .before .before .before .loop .row) (c .before .before .before .before .before .before .loop .n) _ (c .before .before .before .before .before .before .loop .inv) (c .before .before .before .before .before .loop-test .taken) (c .collect-row .ensures)
+loop-again c =
+    let t = c .before .before .before .before .before in
+    let l = t .before .loop in
+    let a = t .before .before .args in
+    let d = columns (now (a .loops)) (now (a .names)) (now (a .offsets)) (now (a .stores)) in
+    let e = columns (l .loops) (l .names) (l .offsets) (l .stores) in
+    next-row (now (a .store)) (a .k) d e _ (a .from) (a .past) (a .start) (l .row) (l .n) _ (l .inv) (t .loop-test .taken) (c .collect-row .ensures)
 
 returns : tie.Need-returns Inv-loop μ-loop
-returns c = let a = c .before .before .args in
-    last-row (now (a .store)) (a .k) (columns (now (c .before .before .args .loops)) (now (c .before .before .args .names)) (now (c .before .before .args .offsets)) (now (c .before .before .args .stores))) (columns (c .before .loop .loops) (c .before .loop .names) (c .before .loop .offsets) (c .before .loop .stores)) (a .from) (a .past) (a .start) (c .before .loop .row) (c .before .loop .n) (c .before .loop .inv) (c .loop-test .left)
+returns c =
+    let l = c .before .loop in
+    let a = c .before .before .args in
+    let d = columns (now (a .loops)) (now (a .names)) (now (a .offsets)) (now (a .stores)) in
+    let e = columns (l .loops) (l .names) (l .offsets) (l .stores) in
+    last-row (now (a .store)) (a .k) d e (a .from) (a .past) (a .start) (l .row) (l .n) (l .inv) (c .loop-test .left)
 
 pub collect-reads-spec : {M : Type 1} → statement M
 collect-reads-spec =

@@ -21,19 +21,35 @@ value-at-requires : tie.Need-value-at-requires
 value-at-requires c κs = search needs
 
 cast-o : tie.Need-cast-o
-cast-o c = let k = c .before .before .before .kind-at .ensures in omega (arith, c .value-at .ensures, c .before .before .before .before .pre .0 .2 .offset (omega (arith, k, c .before .before .if1 .taken)))
+cast-o c =
+    let k = c .before .before .before in
+    omega (arith, c .value-at .ensures, k .before .pre .0 .2 .offset (omega (arith, k .kind-at .ensures, c .before .before .if1 .taken)))
 
 put-reference-requires : tie.Need-put-reference-requires
 put-reference-requires c κs = search needs
 
 returns : tie.Need-returns
-returns c = let a = c .before .before .before .before .before .before .before .before .before .args in
-    rw (row-read (now (a .store)) (a .k) (a .row) (sym (c .before .before .before .before .before .before .before .before .kind-at .ensures) ∙ c .before .before .before .before .before .before .before .if1 .taken), c .put-reference .ensures .0, c .put-reference .ensures .1, c .before .before .before .before .before .before .array-at .ensures, c .before .before .before .before .before .value-at .ensures)
-    (added-one (columns (now (a .loops)) (now (a .names)) (now (a .offsets)) (now (a .stores))) (a .n) (a .k) _ _ 0 _ (c .before .before .before .before .before .before .before .before .before .pre .1) (c .before .before .before .before .before .before .before .before .before .pre .0 .1) refl)
+returns c =
+    let v = c .before .before .before .before .before in
+    let k = v .before .before .before in
+    let a = k .before .args in
+    let h = k .before .pre in
+    let d = columns (now (a .loops)) (now (a .names)) (now (a .offsets)) (now (a .stores)) in
+    rw (
+      row-read (now (a .store)) (a .k) (a .row) (sym (k .kind-at .ensures) ∙ v .before .before .if1 .taken),
+      c .put-reference .ensures .0,
+      c .put-reference .ensures .1,
+      v .before .array-at .ensures,
+      v .value-at .ensures,
+    )
+    (added-one d (a .n) (a .k) _ _ 0 _ (h .1) (h .0 .1) refl)
 
 returns-2 : tie.Need-returns-2
-returns-2 c = let a = c .before .before .args in
-    rw (row-other (now (a .store)) (a .k) (a .row) (λ e. c .if1 .left (c .before .kind-at .ensures ∙ e))) (added-none (columns (now (a .loops)) (now (a .names)) (now (a .offsets)) (now (a .stores))) (a .n) 1 (c .before .before .pre .1))
+returns-2 c =
+    let b = c .before .before in
+    let a = b .args in
+    let d = columns (now (a .loops)) (now (a .names)) (now (a .offsets)) (now (a .stores)) in
+    rw (row-other (now (a .store)) (a .k) (a .row) (λ e. c .if1 .left (c .before .kind-at .ensures ∙ e))) (added-none d (a .n) 1 (b .pre .1))
 
 pub collect-row-spec : {M : Type 1} → statement M
 collect-row-spec =
