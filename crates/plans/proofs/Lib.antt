@@ -1,0 +1,2 @@
+-- what the code found is the table's plan
+pub mod Laws
