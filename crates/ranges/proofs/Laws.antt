@@ -1,104 +1,121 @@
--- Columns that are filled from the front: with ranges, and with lengths; and lengths added up.
-use Prim.Native.Nat.{ℕ, suc, _+_, _-_, _≤_, _<_}
+-- The walk over the loops that keeps their ranges, and the parts that the n-th iteration is found in.
+use Prim.Native.Nat.{ℕ, zero, suc, _+_, _-_, _*_, _≤_, _<_}
 use native.Mathlib.Omega.{arith}
 use native.Mathlib.Decide.{ℕ-discrete}
-use mathlib.Core.Path.{_≡_, refl, ap, _∙_}
+use mathlib.Core.Path.{_≡_, refl, sym, ap, _∙_}
 use mathlib.Core.List.{List}
-use lib.ListN.{length, set, replicate, length-set}
+use lib.ListN.{length, getD, set, take, drop, length-set}
 use lib.Seq.{getD-set-same, getD-set-other}
-use Rattle.chains.specs.Walk.{zeros}
-use Rattle.blocks.specs.declared.Range.{Range}
-use Rattle.blocks.specs.Sums.{column, total-up, total-next}
-use Rattle.blocks.specs.Blocks.{block}
-use Rattle.blocks.specs.Code.{partOf}
+use Rattle.model.specs.Table.{iteration}
+use Rattle.model.specs.declared.Iteration.{Iteration}
+use Rattle.blocks.specs.declared.Axis.{Axis}
 use Rattle.blocks.specs.declared.Part.{Part}
-use Rattle.lists.specs.Lists.{ranges}
+use Rattle.blocks.specs.declared.Range.{Range}
+use Rattle.blocks.specs.Blocks.{block}
+use Rattle.blocks.specs.Sums.{total-next}
 use Rattle.lists.specs.Below.{lengths}
-use Rattle.plans.specs.declared.Plan.{Plan}
-use Rattle.ranges.specs.Laid.{Some}
-use Rattle.ranges.specs.Code.{rangeOf}
-use Rattle.ranges.specs.Held.{lengths-fit}
+use Rattle.lists.specs.Lists.{fusedColumns, peeledColumns}
+use Rattle.positions.specs.Search.{Aligned}
+use Rattle.ranges.specs.Code.{partIn, partAt, rangeOf, cut, listOf, Kept, Apart}
+use Rattle.ranges.specs.Listed.{kept-aligned}
 
--- the first k hold h 0, .., h (k - 1)
-pub record Holds (size : ℕ) (h : ℕ → ℕ) (xs : List ℕ) (k : ℕ) : Type 0 where
-  pub is : (j : ℕ) → j < k → column xs j ≡ h j
-  pub long : length xs ≡ size
+-- what the code found for loop k is its range
+pub range-found : (n : ℕ) (a : Axis) (c : List ℕ) (b k : ℕ) (part : Part) (blk r : Range) → part ≡ partIn n
+    → blk ≡ block (a .first) (a .count) (a .blocks) b → r ≡ partAt part a c blk b k → r ≡ rangeOf n a c b k
+range-found n a c b k part blk r e f g = rw (e, f) at g
 
-module _ (size : ℕ) (h : ℕ → ℕ) (xs : List ℕ) where
-  pub holds-none : length xs ≡ size → Holds size h xs 0
-  holds-none e = record { is = λ j l. absurd (omega arith); long = e }
+-- the first k loops' ranges are kept, and `sum` counts their indices
+pub record Filled (old xs : List ℕ) (at k : ℕ) (f : ℕ → Range) (s : ℕ → ℕ) (sum : ℕ) : Type 0 where
+  pub kept : Kept xs at k f s
+  pub apart : Apart old xs at
+  pub sum-is : sum ≡ lengths k f
+  pub small : sum ≤ k * 65791
 
-  pub holds-next : (k x : ℕ) → Holds size h xs k → k < size → x ≡ h k → Holds size h (set xs k x) (k + 1)
-  holds-next k x f l e = record { is = λ j i. go j i (ℕ-discrete j k); long = length-set xs k x ∙ f .long }
-    where
-      go : (j : ℕ) → j < k + 1 → Dec (j ≡ k) → column (set xs k x) j ≡ h j
-      go j i (yes q) = rw q (getD-set-same xs k x 0 (omega (arith, f .long)) ∙ e)
-      go j i (no q) = getD-set-other xs k j x 0 q ∙ f .is j (omega arith)
+pub filled-none : (xs : List ℕ) (at : ℕ) (f : ℕ → Range) (s : ℕ → ℕ) → at + 48 ≤ length xs → Filled xs xs at 0 f s 0
+filled-none xs at f s room = record {
+  kept = record { room = room; from = λ k l. absurd (omega arith); past = λ k l. absurd (omega arith); shift = λ k l. absurd (omega arith) };
+  apart = record { long = refl; below = λ i l. refl; above = λ i l. refl };
+  sum-is = refl;
+  small = omega arith;
+}
 
--- a store of a small number into a column of small numbers
-pub small-next : (most : ℕ) (xs : List ℕ) (k x : ℕ) → ((j : ℕ) → column xs j ≤ most) → k < length xs → x ≤ most → (j : ℕ) → column (set xs k x) j ≤ most
-small-next most xs k x f l e j = go (ℕ-discrete j k)
-  where
-    go : Dec (j ≡ k) → column (set xs k x) j ≤ most
-    go (yes q) = rw q (omega (arith, getD-set-same xs k x 0 l))
-    go (no q) = omega (arith, getD-set-other xs k j x 0 q, f j)
+module _ (old xs : List ℕ) (at k : ℕ) (f : ℕ → Range) (s : ℕ → ℕ) (sum : ℕ) (h : Filled old xs at k f s sum) (few : k < 16) where
+  open Filled h using (kept, apart, sum-is, small)
 
--- a loop's part of a block is its range
-pub range-held : (part : Part) (p : Plan) (P : ℕ) (firsts lasts : List ℕ) (b k : ℕ) (blk r : Range) → blk ≡ block (p .first) (p .count) P b
-    → r ≡ partOf part (record { from = column firsts k; past = suc (column lasts k) }) blk P b (column (p .amounts .shifts) k) (column (p .amounts .peels) k)
-    → r ≡ rangeOf part p P firsts lasts b k
-range-held part p P firsts lasts b k blk r e q = rw e at q
+  module _ (from past shift : ℕ) where
+    abbrev one : List ℕ
+    one = set xs (at + k) from
 
--- the lengths of the first k ranges, added up
-module _ (P : ℕ) (p : Plan) (firsts lasts : List ℕ) (h : Some P p firsts lasts) (part : Part) (b : ℕ) where
-  abbrev range : ℕ → Range
-  range = rangeOf part p P firsts lasts b
+    abbrev two : List ℕ
+    two = set one (at + k + 16) past
 
-  pub sum-next : (k sum x : ℕ) (r : Range) → k < p .loops → sum ≡ lengths k range → r ≡ range k → x ≡ r .past - r .from
-      → (sum + x ≡ lengths (k + 1) range) × (sum + x ≤ 1052656)
-  sum-next k sum x r l e f q =
-      let z = total-next k (λ j. range j .past - range j .from) sum x e (q ∙ ap (λ (y : Range). y .past - y .from) f) in
-      (z, omega (arith, z, total-up (k + 1) (p .loops) (λ j. range j .past - range j .from) (omega arith), lengths-fit P p firsts lasts h part b))
+    abbrev pub three : List ℕ
+    three = set two (at + k + 32) shift
 
-  pub sum-end : (sum k : ℕ) → k ≤ p .loops → p .loops ≤ k → sum ≡ lengths k range → (sum ≡ lengths (p .loops) range) × (sum ≤ 1052656)
-  sum-end sum k l i e =
-      let q : k ≡ p .loops = omega arith in
-      let z : sum ≡ lengths (p .loops) range = rw q at e in
-      (z, omega (arith, z, lengths-fit P p firsts lasts h part b))
+    others : (i : ℕ) → (i ≡ at + k → ⊥) → (i ≡ at + k + 16 → ⊥) → (i ≡ at + k + 32 → ⊥) → getD three i 0 ≡ getD xs i 0
+    others i a b c =
+        getD-set-other two (at + k + 32) i shift 0 c ∙ getD-set-other one (at + k + 16) i past 0 b ∙ getD-set-other xs (at + k) i from 0 a
 
--- the ranges of the first k loops
-abbrev pub Filled : (ℕ → Range) → List ℕ → List ℕ → ℕ → Type 0
-Filled h froms pasts k = Holds 16 (λ j. h j .from) froms k × Holds 16 (λ j. h j .past) pasts k
+    from-here : getD three (at + k) 0 ≡ from
+    from-here =
+        getD-set-other two (at + k + 32) (at + k) shift 0 (λ e. omega arith)
+        ∙ getD-set-other one (at + k + 16) (at + k) past 0 (λ e. omega arith)
+        ∙ getD-set-same xs (at + k) from 0 (omega (arith, kept .room))
 
-module _ (h : ℕ → Range) (froms pasts : List ℕ) (k : ℕ) (f : Filled h froms pasts k) where
-  pub filled-next : (r : Range) → k < 16 → r ≡ h k → Filled h (set froms k (r .from)) (set pasts k (r .past)) (k + 1)
-  filled-next r l e =
-      (holds-next 16 (λ j. h j .from) froms k (r .from) (f .0) l (rw e), holds-next 16 (λ j. h j .past) pasts k (r .past) (f .1) l (rw e))
+    past-here : getD three (at + k + 16) 0 ≡ past
+    past-here =
+        getD-set-other two (at + k + 32) (at + k + 16) shift 0 (λ e. omega arith)
+        ∙ getD-set-same one (at + k + 16) past 0 (simp length-set (omega (arith, kept .room)))
 
-  pub filled-end : (n : ℕ) → n ≤ k → (j : ℕ) → j < n → ranges froms pasts j ≡ h j
-  filled-end n l j i = rw (f .0 .is j (omega arith), f .1 .is j (omega arith))
+    shift-here : getD three (at + k + 32) 0 ≡ shift
+    shift-here = getD-set-same two (at + k + 32) shift 0 (simp length-set (omega (arith, kept .room)))
 
--- the lengths of the lists of the first b processors, none of them large
-pub record Counted (f g : ℕ → ℕ) (fused peeled : List ℕ) (b : ℕ) : Type 0 where
-  pub fused-is : Holds 64 f fused b
-  pub peeled-is : Holds 64 g peeled b
-  pub fused-small : (j : ℕ) → column fused j ≤ 1052656
-  pub peeled-small : (j : ℕ) → column peeled j ≤ 1052656
+    pub filled-next : (x : ℕ) → from ≡ f k .from → past ≡ f k .past → shift ≡ s k → x ≡ past - from → x ≤ 65791
+        → Filled old three at (k + 1) f s (sum + x)
+    filled-next x e g q z w = record {
+      kept = record {
+        room = simp length-set (kept .room);
+        from = λ j l. now j l (ℕ-discrete j k) (λ n. at + n) (λ n. f n .from) (from-here ∙ e) (λ m. others (at + j) (λ y. omega arith) (λ y. omega arith) (λ y. omega arith) ∙ kept .from j m);
+        past = λ j l. now j l (ℕ-discrete j k) (λ n. at + n + 16) (λ n. f n .past) (past-here ∙ g) (λ m. others (at + j + 16) (λ y. omega arith) (λ y. omega arith) (λ y. omega arith) ∙ kept .past j m);
+        shift = λ j l. now j l (ℕ-discrete j k) (λ n. at + n + 32) s (shift-here ∙ q) (λ m. others (at + j + 32) (λ y. omega arith) (λ y. omega arith) (λ y. omega arith) ∙ kept .shift j m);
+      };
+      apart = record {
+        long = simp length-set (apart .long);
+        below = λ i l. others i (λ y. omega arith) (λ y. omega arith) (λ y. omega arith) ∙ apart .below i l;
+        above = λ i l. others i (λ y. omega arith) (λ y. omega arith) (λ y. omega arith) ∙ apart .above i l;
+      };
+      sum-is = total-next k (λ j. f j .past - f j .from) sum x sum-is (omega arith);
+      small = omega arith;
+    }
+      where
+        now : (j : ℕ) → j < k + 1 → Dec (j ≡ k) → (place : ℕ → ℕ) (value : ℕ → ℕ) → getD three (place k) 0 ≡ value k
+            → (j < k → getD three (place j) 0 ≡ value j) → getD three (place j) 0 ≡ value j
+        now j l (yes y) place value here before = ap (λ (n : ℕ). getD three (place n) 0) y ∙ here ∙ ap value (sym y)
+        now j l (no y) place value here before = before (omega arith)
 
-module _ (f g : ℕ → ℕ) where
-  pub counted-none : Counted f g (replicate 64 0) (replicate 64 0) 0
-  counted-none = record {
-    fused-is = holds-none 64 f (replicate 64 0) refl;
-    peeled-is = holds-none 64 g (replicate 64 0) refl;
-    fused-small = λ j. omega (arith, zeros 64 j);
-    peeled-small = λ j. omega (arith, zeros 64 j);
-  }
+-- THE PARTS
+module _ (xs : List ℕ) (at l n : ℕ) (few : l ≤ 16) (room : at + 48 ≤ length xs) where
+  -- l numbers from a place on, as the code cuts them out
+  abbrev pub piece : ℕ → List ℕ
+  piece i = take (i + l - i) (drop i xs)
 
-  pub counted-next : (fused peeled : List ℕ) (b x y : ℕ) → Counted f g fused peeled b → b < 64 → (x ≡ f b) × (x ≤ 1052656) → (y ≡ g b) × (y ≤ 1052656)
-      → Counted f g (set fused b x) (set peeled b y) (b + 1)
-  counted-next fused peeled b x y c l d e = record {
-    fused-is = holds-next 64 f fused b x (c .fused-is) l (d .0);
-    peeled-is = holds-next 64 g peeled b y (c .peeled-is) l (e .0);
-    fused-small = small-next 1052656 fused b x (c .fused-small) (omega (arith, c .fused-is .long)) (d .1);
-    peeled-small = small-next 1052656 peeled b y (c .peeled-small) (omega (arith, c .peeled-is .long)) (e .1);
-  }
+  piece-is : (i : ℕ) → piece i ≡ cut xs i l
+  piece-is i = let e : i + l - i ≡ l = omega arith in ap (λ (m : ℕ). take m (drop i xs)) e
+
+  pub fused-asks : (phase : ℕ) → phase ≡ 0 → n < length (listOf xs at l phase)
+      → ((length (piece at) ≤ 16) × Aligned (piece at) (piece (at + 16)) (piece (at + 32)))
+      × (n < length (fusedColumns (piece at) (piece (at + 16)) (piece (at + 32))))
+  fused-asks phase e h =
+      rw (piece-is at, piece-is (at + 16), piece-is (at + 32)) (kept-aligned xs at l few room, rw e at h)
+
+  pub fused-is : (phase : ℕ) (x : Iteration) → phase ≡ 0 → x ≡ getD (fusedColumns (piece at) (piece (at + 16)) (piece (at + 32))) n (iteration 0 0)
+      → x ≡ getD (listOf xs at l phase) n (iteration 0 0)
+  fused-is phase x e q = rw e (rw (piece-is at, piece-is (at + 16), piece-is (at + 32)) at q)
+
+  pub peeled-asks : length (piece at) ≤ length (piece (at + 16))
+  peeled-asks = rw (piece-is at, piece-is (at + 16)) (kept-aligned xs at l few room .1 .pasts)
+
+  pub peeled-is : (phase : ℕ) (x : Iteration) → (phase ≡ 0 → ⊥) → x ≡ getD (peeledColumns (piece at) (piece (at + 16))) n (iteration 0 0)
+      → x ≡ getD (listOf xs at l phase) n (iteration 0 0)
+  peeled-is zero x e q = absurd (e refl)
+  peeled-is (suc phase) x e q = rw (piece-is at, piece-is (at + 16)) at q

@@ -1,45 +1,53 @@
--- What the code's contracts cite: the ranges by the code's own name of the parts, from the columns. Assumes nothing.
-use Prim.Native.Nat.{ℕ, suc, _<_}
+-- What the code's contracts cite: the ranges of the loops in a block, from an axis and a store; and the list that ranges kept in a run of
+-- numbers give.
+use Prim.Native.Nat.{ℕ, zero, suc, _+_, _≤_, _<_}
 use mathlib.Core.Path.{_≡_}
 use mathlib.Core.List.{List}
-use Rattle.model.specs.Table.{Table, count}
+use lib.ListN.{length, getD, take, drop}
 use Rattle.model.specs.declared.Iteration.{Iteration}
+use Rattle.reader.specs.Store.{firstAt, lastAt}
+use Rattle.blocks.specs.declared.Axis.{Axis}
+use Rattle.blocks.specs.declared.Part.{Part}
+use Rattle.blocks.specs.declared.Part.the-variants.{Fused, Peeled}
 use Rattle.blocks.specs.declared.Range.{Range}
 use Rattle.blocks.specs.Sums.{column}
 use Rattle.blocks.specs.Blocks.{block}
 use Rattle.blocks.specs.Code.{partOf}
 use Rattle.lists.specs.Lists.{fusedColumns, peeledColumns}
-use Rattle.lists.specs.Fusion.{fusedRange, peeledRange, fusedList, peeledList}
-use Rattle.plans.specs.declared.Plan.{Plan}
-use Rattle.plans.specs.Plans.{planOf}
-use Rattle.ranges.specs.Laid.{Laid}
-use Rattle.blocks.specs.declared.Part.{Part}
-use Rattle.blocks.specs.declared.Part.the-variants.{Fused, Peeled}
 
--- the part of loop k that block b has
-abbrev pub rangeOf : Part → Plan → ℕ → List ℕ → List ℕ → ℕ → ℕ → Range
-rangeOf part p P firsts lasts b k =
-    partOf part (record { from = column firsts k; past = suc (column lasts k) }) (block (p .first) (p .count) P b) P b
-    (column (p .amounts .shifts) k) (column (p .amounts .peels) k)
+-- phase 0 runs the fused parts, phase 1 the peeled ones
+abbrev pub partIn : ℕ → Part
+partIn zero = Fused
+partIn (suc n) = Peeled
 
--- of the table's plan
-abbrev pub rangeIn : Part → Table → ℕ → ℕ → ℕ → Range
-rangeIn Fused t P = fusedRange t (planOf t P)
-rangeIn Peeled t P = peeledRange t (planOf t P)
+-- the part of loop k that a block has
+abbrev pub partAt : Part → Axis → List ℕ → Range → ℕ → ℕ → Range
+partAt part a c blk b k =
+    partOf part (record { from = firstAt c k; past = suc (lastAt c k) }) blk (a .blocks) b (column (a .shifts) k) (column (a .peels) k)
 
--- the list that ranges kept in columns give
-abbrev pub listOf : Part → List ℕ → List ℕ → List ℕ → List Iteration
-listOf Fused froms pasts shifts = fusedColumns froms pasts shifts
-listOf Peeled froms pasts shifts = peeledColumns froms pasts
+-- in phase n, of block b
+abbrev pub rangeOf : ℕ → Axis → List ℕ → ℕ → ℕ → Range
+rangeOf n a c b k = partAt (partIn n) a c (block (a .first) (a .count) (a .blocks) b) b k
 
-abbrev pub listIn : Part → Table → ℕ → ℕ → List Iteration
-listIn Fused t P = fusedList t (planOf t P)
-listIn Peeled t P = peeledList t (planOf t P)
+-- RANGES KEPT IN NUMBERS: from a place on the loops' first indices, then the indices past their last ones, then their shifts, sixteen of each
+module _ (xs : List ℕ) (at : ℕ) where
+  abbrev pub cut : ℕ → List ℕ
+  cut l = take l (drop at xs)
 
--- columns that hold the plan of t hold its ranges
-pub range-in : (part : Part) (t : Table) (P : ℕ) (p : Plan) (firsts lasts : List ℕ) → Laid t P p firsts lasts → (b k : ℕ) → k < count t
-    → rangeOf part p P firsts lasts b k ≡ rangeIn part t P b k
-range-in Fused t P p firsts lasts h b k l =
-    rw (h .first-held k l, h .last-held k l, h .shift-held k, h .peel-held k, h .first-is, h .count-is)
-range-in Peeled t P p firsts lasts h b k l =
-    rw (h .first-held k l, h .last-held k l, h .shift-held k, h .peel-held k, h .first-is, h .count-is)
+-- the list of phase n that they give, for l loops
+abbrev pub listOf : List ℕ → ℕ → ℕ → ℕ → List Iteration
+listOf xs at l zero = fusedColumns (cut xs at l) (cut xs (at + 16) l) (cut xs (at + 32) l)
+listOf xs at l (suc n) = peeledColumns (cut xs at l) (cut xs (at + 16) l)
+
+-- the ranges f and the shifts s of the first l loops stand from `at` on
+pub record Kept (xs : List ℕ) (at l : ℕ) (f : ℕ → Range) (s : ℕ → ℕ) : Type 0 where
+  pub room : at + 48 ≤ length xs
+  pub from : (k : ℕ) → k < l → getD xs (at + k) 0 ≡ f k .from
+  pub past : (k : ℕ) → k < l → getD xs (at + k + 16) 0 ≡ f k .past
+  pub shift : (k : ℕ) → k < l → getD xs (at + k + 32) 0 ≡ s k
+
+-- ys is xs but for the 48 numbers from `at` on
+pub record Apart (xs ys : List ℕ) (at : ℕ) : Type 0 where
+  pub long : length ys ≡ length xs
+  pub below : (i : ℕ) → i < at → getD ys i 0 ≡ getD xs i 0
+  pub above : (i : ℕ) → at + 48 ≤ i → getD ys i 0 ≡ getD xs i 0

@@ -1,6 +1,4 @@
--- columns that hold the plan of a table
-pub mod Laid
--- the ranges and lengths that the code computes from them
+-- the ranges of the loops in a block, and the list that ranges kept in numbers give
 pub mod Code
--- what is known of them: bounds, and the lists that they give
-pub mod Held
+-- what is known of them for an accepted plan: bounds, and that the lists are the plan's
+pub mod Listed
