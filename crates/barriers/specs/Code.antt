@@ -63,7 +63,7 @@ listedBy P ends phases = total P (beforeBy ends phases)
 abbrev pub Small : List ℕ → Type 0
 Small ends = (k : ℕ) → column ends k ≤ 3200000
 
--- the code's columns are long enough
+-- the sizes that the code asks for: its columns are long enough
 pub record Sized (P phases : ℕ) (counts ends : List ℕ) : Type 0 where
   pub many : P ≤ 64
   pub some-phase : 0 < phases
@@ -71,7 +71,7 @@ pub record Sized (P phases : ℕ) (counts ends : List ℕ) : Type 0 where
   pub counts-long : length counts ≡ 64
   pub ends-long : length ends ≡ 192
 
--- they are where the phases of w end
+-- the numbers are where the phases of w end
 pub record Ended {A : Type 0} (w : Work A) (ends : List ℕ) : Type 0 where
   pub small : Small ends
   pub is : (n b : ℕ) → n < w .phases → b < w .processors → column ends (64 * n + b) ≡ before w (suc n) b
