@@ -1,0 +1,2 @@
+-- what the code's walks make of the definitions
+pub mod Laws
