@@ -27,7 +27,7 @@ range-found n a c b k part blk r e f g = rw (e, f) at g
 -- the first k loops' ranges are kept, and `sum` counts their indices
 pub record Filled (old xs : List ℕ) (at k : ℕ) (f : ℕ → Range) (s : ℕ → ℕ) (sum : ℕ) : Type 0 where
   pub kept : Kept xs at k f s
-  pub apart : Apart old xs at
+  pub apart : Apart old xs at (at + 48)
   pub sum-is : sum ≡ lengths k f
   pub small : sum ≤ k * 65791
 

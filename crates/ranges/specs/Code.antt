@@ -46,8 +46,8 @@ pub record Kept (xs : List ℕ) (at l : ℕ) (f : ℕ → Range) (s : ℕ → �
   pub past : (k : ℕ) → k < l → getD xs (at + k + 16) 0 ≡ f k .past
   pub shift : (k : ℕ) → k < l → getD xs (at + k + 32) 0 ≡ s k
 
--- ys is xs but for the 48 numbers from `at` on
-pub record Apart (xs ys : List ℕ) (at : ℕ) : Type 0 where
+-- ys is xs but for the numbers from `from` up to `past`
+pub record Apart (xs ys : List ℕ) (from past : ℕ) : Type 0 where
   pub long : length ys ≡ length xs
-  pub below : (i : ℕ) → i < at → getD ys i 0 ≡ getD xs i 0
-  pub above : (i : ℕ) → at + 48 ≤ i → getD ys i 0 ≡ getD xs i 0
+  pub below : (i : ℕ) → i < from → getD ys i 0 ≡ getD xs i 0
+  pub above : (i : ℕ) → past ≤ i → getD ys i 0 ≡ getD xs i 0

@@ -111,6 +111,13 @@ module _ (a : Axis) (c : List ℕ) (h : Laid a c) where
       long zero = by-sums-length (count (tableIn c)) (rangeIn 0 b) (column (a .shifts))
       long (suc n) = by-loops-length (count (tableIn c)) (rangeIn 1 b)
 
+  pub list-short : (n b : ℕ) → length (work (tableIn c) (fusionIn a) n b) ≤ 1052656
+  list-short n b = omega (arith, lengths-in n b, go (loopsIn c) (omega arith), few-loops)
+    where
+      go : (m : ℕ) → m ≤ loopsIn c → lengths m (rangeOf n a c b) ≤ m * 65791
+      go zero l = omega arith
+      go (suc m) l = omega (arith, go m (omega arith), range-small n b m l)
+
   -- each of its iterations is one of the table, and so of small numbers
   pub listed-small : (n b i : ℕ) → b < a .blocks → i < length (work (tableIn c) (fusionIn a) n b)
       → (getD (work (tableIn c) (fusionIn a) n b) i (iteration 0 0) .number < 16)
@@ -169,16 +176,25 @@ list-in a c h n b xs at kept = go n (λ k l. rng k l ∙ range-in a c h n b k (o
         (λ k i. kept-shift xs at (loopsIn c) (few-loops a c h) (kept .room) (rangeOf n a c b) (column (a .shifts)) kept k (omega (arith, loops-are a c h)))
     go (suc m) e = peeled-columns (tableIn c) (fusionIn a) (cut xs at (loopsIn c)) (cut xs (at + 16) (loopsIn c)) b long e
 
--- what is written elsewhere does not touch them
-pub kept-apart : {f : ℕ → Range} {s : ℕ → ℕ} (xs ys : List ℕ) (at l place : ℕ) → l ≤ 16 → Kept xs at l f s → Apart xs ys place
-    → (at + 48 ≤ place) ⊎ (place + 48 ≤ at) → Kept ys at l f s
-kept-apart xs ys at l place few kept apart away = record {
+-- WHAT IS WRITTEN ELSEWHERE does not touch them
+pub kept-apart : {f : ℕ → Range} {s : ℕ → ℕ} (xs ys : List ℕ) (at l from past : ℕ) → l ≤ 16 → Kept xs at l f s → Apart xs ys from past
+    → (at + 48 ≤ from) ⊎ (past ≤ at) → Kept ys at l f s
+kept-apart xs ys at l from past few kept apart away = record {
   room = omega (arith, kept .room, apart .long);
   from = λ k i. left away (at + k) (omega arith) (omega arith) ∙ kept .from k i;
   past = λ k i. left away (at + k + 16) (omega arith) (omega arith) ∙ kept .past k i;
   shift = λ k i. left away (at + k + 32) (omega arith) (omega arith) ∙ kept .shift k i;
 }
   where
-    left : (at + 48 ≤ place) ⊎ (place + 48 ≤ at) → (i : ℕ) → at ≤ i → i < at + 48 → getD ys i 0 ≡ getD xs i 0
+    left : (at + 48 ≤ from) ⊎ (past ≤ at) → (i : ℕ) → at ≤ i → i < at + 48 → getD ys i 0 ≡ getD xs i 0
     left (inl q) i l m = apart .below i (omega arith)
     left (inr q) i l m = apart .above i (omega arith)
+
+-- two writes one after the other
+pub apart-twice : (xs ys zs : List ℕ) (from past from′ past′ low high : ℕ) → Apart xs ys from past → Apart ys zs from′ past′
+    → low ≤ from → low ≤ from′ → past ≤ high → past′ ≤ high → Apart xs zs low high
+apart-twice xs ys zs from past from′ past′ low high a b i j k l = record {
+  long = b .long ∙ a .long;
+  below = λ n m. b .below n (omega arith) ∙ a .below n (omega arith);
+  above = λ n m. b .above n (omega arith) ∙ a .above n (omega arith);
+}

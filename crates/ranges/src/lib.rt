@@ -60,7 +60,7 @@ pub fn put_list(phase: u32, a: Axis, b: u32, store: &Store, lists: &mut [u32], a
     requires { ⌜ Laid a (now store) × (b < a .blocks) × (at + 48 ≤ length (now lists)) ⌝ }
     ensures { λ r. ⌜ (r ≡ length (work (tableIn (now (store .entry))) (fusionIn a) phase b)) × (r ≤ 1052656) ⌝ }
     ensures { λ r. ⌜ Kept (now (lists .exit)) at (loopsIn (now (store .entry))) (rangeOf phase a (now (store .entry)) b) (column (a .shifts)) ⌝ }
-    ensures { λ r. ⌜ Apart (now (lists .entry)) (now (lists .exit)) at ⌝ }
+    ensures { λ r. ⌜ Apart (now (lists .entry)) (now (lists .exit)) at (at + 48) ⌝ }
 {
     let blk = blocks::block_of(a.first, a.count, a.blocks, b);
     let part = part_in(phase);

@@ -1,0 +1,2 @@
+-- a plan laid out: where the phases end, and the lists of a processor
+pub mod Layout
