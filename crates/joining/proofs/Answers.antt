@@ -120,8 +120,7 @@ module _ (left right out : List ℕ) where
         -- right's arrays are as many as left's, so there is something of it past them
         pub enough : (0 < length left) × (arraysIn ours ≤ 16) × (5 * arraysIn ours ≤ length right)
         enough =
-            let as-many = ap length (alike-same (tableIn ours .lengths) (tableIn theirs .lengths) (sym like)) in
-            (
+            let as-many = ap length (alike-same (tableIn ours .lengths) (tableIn theirs .lengths) (sym like)) in (
               omega (arith, long left ours l),
               few-arrays (l .held),
               omega (arith, long right theirs r, as-many, arrays-held (l .held)),

@@ -120,12 +120,13 @@ module _ (cs : List ℕ) (h : Held cs) (l : ℕ) (all : l ≡ loopsIn cs) where
     -- what it asks
     pub loop-ready : (c : Columns) (n : ℕ) → Collected cs k c n
         → ((k < 16) × (startAt cs k < startAt cs (k + 1)) × (startAt cs (k + 1) ≤ 528) × (n ≤ startAt cs k)
-            × ((r : ℕ) → r < startAt cs (k + 1) → Row cs r))
+        × ((r : ℕ) → r < startAt cs (k + 1) → Row cs r))
         × ((kindAt cs (startAt cs k) ≡ 2) × Long c)
     loop-ready c n i =
-        rw (add-one k)
-        ((omega (arith, loops-few), rows-rise h k there, few-rows h (suc k) there, i .few, λ r x. row-held h (suc k) r there x),
-        (head-held h k there, i .long))
+        rw (add-one k) (
+          (omega (arith, loops-few), rows-rise h k there, few-rows h (suc k) there, i .few, λ r x. row-held h (suc k) r there x),
+          (head-held h k there, i .long),
+        )
 
     pub loops-next : (c d : Columns) (n o : ℕ) → Collected cs k c n → Added c n d o given (startAt cs (k + 1) - startAt cs k)
         → Collected cs (k + 1) d o

@@ -152,12 +152,6 @@ pub fn amounts_of(store: &Store) -> Amounts
     let mut names = [0u8; 528];
     let mut offsets = [0u16; 528];
     let mut stores = [0u8; 528];
-    let n = collect(
-        store,
-        &mut loops,
-        &mut names,
-        &mut offsets,
-        &mut stores,
-    );
+    let n = collect(store, &mut loops, &mut names, &mut offsets, &mut stores);
     amounts::shifts_and_peels(&loops[..n], &names[..n], &offsets[..n], &stores[..n])
 }

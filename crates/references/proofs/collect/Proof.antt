@@ -61,10 +61,12 @@ loop-again c =
     let s = c .before .before .before .before .before in
     let t = s .before .before in
     let b = t .before .before in
-    let l = t .before .loop in
-    (loops-next (now (b .before .args .store)) (b .before .pre .0) _ (b .loops-in .ensures) (l .k) (t .loop-test .taken)
-    (columns (l .loops) (l .names) (l .offsets) (l .stores)) _ (l .n) _ (l .inv .0)
-    (rw (s .start-at2 .ensures, s .before .start-at .ensures) at (c .collect-loop .ensures)), omega arith)
+    let l = t .before .loop in (
+      loops-next (now (b .before .args .store)) (b .before .pre .0) _ (b .loops-in .ensures) (l .k) (t .loop-test .taken)
+          (columns (l .loops) (l .names) (l .offsets) (l .stores)) _ (l .n) _ (l .inv .0)
+          (rw (s .start-at2 .ensures, s .before .start-at .ensures) at (c .collect-loop .ensures)),
+      omega arith,
+    )
 
 returns : tie.Need-returns Inv-loop μ-loop
 returns c =

@@ -42,9 +42,10 @@ collect-reads-requires c κs =
     let z = p .put-reference .last .1 .1 .1 .1 .1 in
     let d = columns (now (a .loops)) (now (a .names)) (now (a .offsets)) (now (a .stores)) in
     let e = columns (z .0) (z .1 .0) (z .1 .1 .0) (z .1 .1 .1 .0) in
-    let put = p .put-reference .ensures in
-    ((h .2, omega (arith, put .0, h .3), h .4),
-    put-long d (a .n) _ _ _ (b .pre .1 .1) (omega (arith, h .1, h .2, h .3)) e (p .put-reference .result) (put .1) (put .0))
+    let put = p .put-reference .ensures in (
+      (h .2, omega (arith, put .0, h .3), h .4),
+      put-long d (a .n) _ _ _ (b .pre .1 .1) (omega (arith, h .1, h .2, h .3)) e (p .put-reference .result) (put .1) (put .0),
+    )
 
 returns : tie.Need-returns
 returns c =

@@ -55,12 +55,12 @@ loop-again c =
     let k = c .before .kind-at .ensures in
     ⊎-elim
     (λ w.
-        rw (w .5)
-        (passed (a .span) (a .a) (a .c) (now (a .store)) (a .from) (a .past) (l .row) (l .reads) (l .inv) m (sym k ∙ w .0 .taken)
-        (rw (w .1 .ensures, w .2 .ensures) at (sym (w .3 .ensures) ∙ w .4 .left))))
+    rw (w .5)
+    (passed (a .span) (a .a) (a .c) (now (a .store)) (a .from) (a .past) (l .row) (l .reads) (l .inv) m (sym k ∙ w .0 .taken)
+    (rw (w .1 .ensures, w .2 .ensures) at (sym (w .3 .ensures) ∙ w .4 .left))))
     (λ w.
-        rw (w .1)
-        (other (a .span) (a .a) (a .c) (now (a .store)) (a .from) (a .past) (l .row) (l .reads) (l .inv) m (λ e. w .0 .left (k ∙ e))))
+    rw (w .1)
+    (other (a .span) (a .a) (a .c) (now (a .store)) (a .from) (a .past) (l .row) (l .reads) (l .inv) m (λ e. w .0 .left (k ∙ e))))
     (c .if1 .came)
 
 returns-2 : tie.Need-returns-2 Inv-loop μ-loop
