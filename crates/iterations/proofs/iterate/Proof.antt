@@ -46,10 +46,11 @@ store-in-requires c κs =
     let s = c .before .before .before .before .before .before in
     let b = s .before .before in
     let a = b .args in
-    let (t, l, h, e) = b .pre in
-    (omega (arith, index-small t (now (a .store)) (now (a .bases)) l (a .number) (a .index) h),
-    rw (c .before .value-at .ensures, c .before .before .array-at .ensures, s .start-at .ensures)
-    (destination-within t (now (a .store)) (now (a .bases)) l (a .number) (a .index) h (length (now (a .memory))) e))
+    let (t, l, h, e) = b .pre in (
+      omega (arith, index-small t (now (a .store)) (now (a .bases)) l (a .number) (a .index) h),
+      rw (c .before .value-at .ensures, c .before .before .array-at .ensures, s .start-at .ensures)
+          (destination-within t (now (a .store)) (now (a .bases)) l (a .number) (a .index) h (length (now (a .memory))) e),
+    )
 
 same-length : tie.Need-same-length
 same-length c = search needs
