@@ -36,11 +36,14 @@ fn lowest_left(counts: &[u32; 64], ends: &Ends, processors: u32, n: u32) -> u32
     b
 }
 
-// Whether the barrier before a phase is closed: some list of an earlier phase is not used up.
+// Whether the barrier before a phase is closed: some list of an earlier phase is not used up. There is none before phase 0.
 pub fn is_closed(counts: &[u32; 64], ends: &Ends, processors: u32, phase: u32) -> bool
     requires { ⌜ (processors ≤ 64) × (phase ≤ 3) × (length (now counts) ≡ 64) × (length (now ends) ≡ 192) ⌝ }
     ensures { λ r. ⌜ r ≡ closedBy processors (now (ends .entry)) (now (counts .entry)) phase ⌝ }
 {
+    if phase == 0 {
+        return false;
+    }
     lowest_left(counts, ends, processors, phase) < processors
 }
 

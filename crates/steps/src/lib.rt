@@ -1,170 +1,100 @@
 // One step of a processor, from a table's bytes, the counts of iterations done and a memory.
-use plans::Plan;
-use ranges::Lengths;
+use arithmetic::wide;
+use barriers::Ends;
+use blocks::Axis;
+use ranges::PHASE;
+use ranges::PHASES;
+use records::Store;
 use stepping::Report;
 ghost use mathlib.Core.Path.{_≡_};
-ghost use Prim.Native.Nat.{ℕ, suc, _+_, _≤_, _<_, _^_};
-ghost use lib.ListN.{length, set};
-ghost use Rattle.model.specs.Table.{Table, Inside};
-ghost use Rattle.blocks.specs.Sums.{some, column};
-ghost use Rattle.reader.specs.Columns.{columns, tableAt};
+ghost use Prim.Native.Nat.{_<_};
+ghost use lib.ListN.{length};
+ghost use Rattle.model.specs.Table.{iteration};
+ghost use Rattle.model.specs.Bodies.{run};
+ghost use Rattle.model.specs.declared.Iteration.{Iteration};
 ghost use Rattle.reader.specs.Reading.{accepted};
+ghost use Rattle.reader.specs.Store.{tableIn};
 ghost use Rattle.iterations.specs.Memory.{total, remembered};
-ghost use Rattle.iterations.specs.Loaded.{Loaded};
-ghost use Rattle.ranges.specs.Laid.{Laid};
-ghost use Rattle.stepping.specs.Step.{turn, stepped};
-ghost use Rattle.steps.specs.Ready.{Small, Listed, Ready, Planned};
-ghost use Rattle.steps.specs.Code.{closedBy, nextBy, wrongBy, wrongIn};
+ghost use Rattle.turns.specs.Turn as turns;
+ghost use Rattle.turns.specs.Turn.{Work};
+ghost use Rattle.plans.specs.Plans.{settings};
+ghost use Rattle.plans.specs.Code.{Laid, plannedIn};
+ghost use Rattle.stepping.specs.Step.{reportOf, elements, steppedBy};
+ghost use Rattle.steps.specs.Ready.{Listed, Ready, Leaves};
 ghost use Rattle.steps.specs.Steps.{refusing, Steps};
+
+// Grounds 12 and 15.
+const MEMORY: usize = 12;
+
+const STATE: usize = 15;
 
 // How many iterations each processor has done.
 pub struct Counts {
     pub done: [u32; 64],
 }
 
-// The counts after a step of a planned table, and what it reports.
-pub struct Turned {
-    pub counts: Counts,
-    pub report: Report,
-}
-
-// The same from a table's bytes; `read` is the read that 9 names, 0 without it.
+// The counts after a step, and what it reports; `read` is the read that 9 names, 0 without it.
 pub struct Stepped {
     pub counts: Counts,
     pub report: Report,
     pub read: usize,
 }
 
-// Whether the barrier is closed: some fused list is not used up.
-pub fn is_closed(c: Counts, l: Lengths, processors: u32) -> bool
-    requires { ⌜ processors ≤ 64 ⌝ }
-    ensures { λ r. ⌜ r ≡ closedBy processors (l .fused) (c .done) ⌝ }
-{
-    let done = c.done;
-    let fused = l.fused;
-    let mut b: usize = 0;
-    while b < processors as usize {
-        if done[b] < fused[b] {
-            return true;
-        }
-        b += 1;
-    }
-    false
-}
-
-// Ground 15 of one processor, whose lists have so many iterations: `outside` if it is not below P, `shut` if the barrier is closed.
-fn wrong_count(outside: bool, shut: bool, fused: u32, peeled: u32, n: u32) -> bool
-    requires { ⌜ fused + peeled < 2 ^ 32 ⌝ }
-    ensures { λ r. ⌜ r ≡ wrongBy outside shut fused peeled n ⌝ }
-{
-    if outside {
-        return 0 < n;
-    }
-    if fused + peeled < n {
-        return true;
-    }
-    if fused < n {
-        return shut;
-    }
-    false
-}
-
-// Ground 15.
-fn wrong_state(c: Counts, l: Lengths, processors: u32) -> bool
-    requires { ⌜ (processors ≤ 64) × Small l ⌝ }
-    ensures { λ r. ⌜ r ≡ some 64 (wrongIn processors l (closedBy processors (l .fused) (c .done)) (c .done)) ⌝ }
-{
-    let shut = is_closed(c, l, processors);
-    let done = c.done;
-    let fused = l.fused;
-    let peeled = l.peeled;
-    let mut b: usize = 0;
-    while b < 64 {
-        if wrong_count(processors as usize <= b, shut, fused[b], peeled[b], done[b]) {
-            return true;
-        }
-        b += 1;
-    }
-    false
-}
-
-// What a call of processor b reports, n of its iterations done: its lists have so many; `shut` if the barrier is closed, which matters past
-// the fused list alone.
+// What processor b's next call reports. Its lists stand from `at` on, and `ends` says where all phases end.
 fn next_of(
-    p: Plan,
-    processors: u32,
+    counts: &[u32; 64],
     b: u32,
-    firsts: &[u32; 16],
-    lasts: &[u32; 16],
-    fused: u32,
-    peeled: u32,
-    shut: bool,
-    n: u32,
+    processors: u32,
+    ends: &Ends,
+    lists: &[u32],
+    at: usize,
+    store: &Store,
 ) -> Report
-    requires { ⌜ (b < processors) × ((t : Table) × Laid t processors p (now firsts) (now lasts) × Listed t processors b fused peeled) ⌝ }
-    ensures { λ r. ⌜ ((t : Table) → Laid t processors p (now (firsts .entry)) (now (lasts .entry)) → Listed t processors b fused peeled → r ≡ nextBy t processors b shut n) ⌝ }
+    requires { ⌜ ((w : Work Iteration) × Listed w processors b (now ends) (now lists) at (now store)) × (length (now counts) ≡ 64) ⌝ }
+    ensures { λ r. ⌜ ((w : Work Iteration) → Listed w processors b (now (ends .entry)) (now (lists .entry)) at (now (store .entry)) → r ≡ reportOf (turns.next (iteration 0 0) w b (now (counts .entry)))) ⌝ }
 {
-    if n < fused {
-        let x = ranges::fused_iteration(p, processors, b, firsts, lasts, n as usize);
-        return Report::Performed {
-            number: x.number,
-            index: x.index,
-        };
-    }
-    if shut {
+    let done = counts[wide(b)];
+    let phase = barriers::phase_of(ends, PHASES, b, done);
+    if barriers::is_closed(counts, ends, processors, phase) {
         return Report::Waiting;
     }
-    let past = n - fused;
-    if past < peeled {
-        let x = ranges::peeled_iteration(p, processors, b, firsts, lasts, past as usize);
-        return Report::Performed {
-            number: x.number,
-            index: x.index,
-        };
+    if barriers::before_of(ends, phase + 1, b) <= done {
+        return Report::Finished;
     }
-    Report::Finished
+    let loops = reader::loops_in(store);
+    let place = at + PHASE * wide(phase);
+    let n = done - barriers::before_of(ends, phase, b);
+    let x = ranges::nth_of(phase, loops, lists, place, wide(n));
+    Report::Performed {
+        number: x.number,
+        index: x.index,
+    }
+}
+
+// One step of processor b: what it reports, performed.
+pub fn turn(
+    counts: &mut [u32; 64],
+    b: u32,
+    processors: u32,
+    ends: &Ends,
+    lists: &[u32],
+    at: usize,
+    store: &Store,
+    bases: &[u32; 17],
+    memory: &mut [f64],
+) -> Report
+    requires { ⌜ ((w : Work Iteration) × Ready w processors b (now ends) (now lists) at (now store) (now bases)) × (length (now counts) ≡ 64) × (length (now memory) ≡ total (tableIn (now store))) ⌝ }
+    ensures { λ r. ⌜ ((w : Work Iteration) → Ready w processors b (now (ends .entry)) (now (lists .entry)) at (now (store .entry)) (now (bases .entry)) → Leaves (turns.turn (iteration 0 0) w (run (tableIn (now (store .entry)))) b (now (counts .entry)) (now (memory .entry))) (now (counts .exit)) (now (memory .exit)) r) ⌝ }
+{
+    let report = next_of(counts, b, processors, ends, lists, at, store);
+    if let Report::Performed { number, index } = report {
+        iterations::iterate(store, bases, number, index, memory);
+        counts[wide(b)] += 1;
+    }
+    report
 }
 
 impl Counts {
-    // One step of processor b, of a table and plan in columns. The other processors are asked for only past b's fused list.
-    pub fn turn(
-        mut self,
-        p: Plan,
-        l: Lengths,
-        processors: u32,
-        b: u32,
-        firsts: &[u32; 16],
-        lasts: &[u32; 16],
-        starts: &[usize; 17],
-        kinds: &[u8; 528],
-        arrays: &[u32; 528],
-        values: &[u32; 528],
-        bases: &[u32; 17],
-        memory: &mut [f64],
-    ) -> Turned
-        requires { ⌜ b < processors ⌝ }
-        requires { ⌜ ((t : Table) × Ready t processors p l (now firsts) (now lasts) (now starts) (now kinds) (now arrays) (now values) (now bases) × (length (now memory) ≡ total t)) ⌝ }
-        ensures { λ r. ⌜ ((t : Table) → Ready t processors p l (now (firsts .entry)) (now (lasts .entry)) (now (starts .entry)) (now (kinds .entry)) (now (arrays .entry)) (now (values .entry)) (now (bases .entry)) → record { counts = r .counts .done; memory = now (memory .exit); report = r .report } ≡ turn t processors b (self .done) (now (memory .entry))) ⌝ }
-    {
-        let at = b as usize;
-        let n = self.done[at];
-        let f = l.fused[at];
-        let shut = if n < f {
-            true
-        } else {
-            is_closed(self, l, processors)
-        };
-        let report = next_of(p, processors, b, firsts, lasts, f, l.peeled[at], shut, n);
-        if let Report::Performed { number, index } = report {
-            iterations::iterate(starts, kinds, arrays, values, bases, number, index, memory);
-            self.done[at] += 1;
-        }
-        Turned {
-            counts: self,
-            report,
-        }
-    }
-
     // A refused call hands back the counts as found.
     fn refused(self, number: usize, place: usize, read: usize) -> Stepped
         ensures { λ r. ⌜ r ≡ refusing self number place read ⌝ }
@@ -176,53 +106,38 @@ impl Counts {
         }
     }
 
-    // One step of processor b of a planned table: 12, 15, then the turn.
-    fn step_planned(
-        self,
-        p: Plan,
-        processors: u32,
-        b: u32,
-        lens: &[u32; 16],
-        firsts: &[u32; 16],
-        lasts: &[u32; 16],
-        starts: &[usize; 17],
-        kinds: &[u8; 528],
-        arrays: &[u32; 528],
-        values: &[u32; 528],
-        memory: &mut [f64],
-    ) -> Stepped
-        requires { ⌜ (b < processors) × Planned processors p (columns (now lens) (now firsts) (now lasts) (now starts) (now kinds) (now arrays) (now values)) ⌝ }
+    // One step of processor b of an accepted plan: 12, 15, then the turn.
+    fn step_planned(self, a: Axis, b: u32, store: &Store, memory: &mut [f64]) -> Stepped
+        requires { ⌜ Laid a (now store) × (b < a .blocks) ⌝ }
         ensures { λ r. ⌜ r .read ≡ 0 ⌝ }
-        ensures { λ r. ⌜ record { counts = r .counts .done; memory = now (memory .exit); report = r .report } ≡ stepped processors b (self .done) (now (memory .entry)) (remembered (length (now (memory .entry))) (accepted (tableAt (columns (now (lens .entry)) (now (firsts .entry)) (now (lasts .entry)) (now (starts .entry)) (now (kinds .entry)) (now (arrays .entry)) (now (values .entry))) (p .arrays) (p .loops)))) ⌝ }
+        ensures { λ r. ⌜ Leaves (steppedBy b (self .done) (now (memory .entry)) (remembered elements (length (now (memory .entry))) (accepted (plannedIn a (now (store .entry)))))) (r .counts .done) (now (memory .exit)) (r .report) ⌝ }
     {
-        let a = p.arrays;
-        let bases = iterations::bases_of(lens, a);
-        let bs = bases.firsts;
-        if memory.len() != bs[a] as usize {
-            return self.refused(12, 0, 0);
+        let bases = iterations::bases_of(store);
+        let firsts = bases.firsts;
+        if memory.len() != wide(firsts[16]) {
+            return self.refused(MEMORY, 0, 0);
         }
-        let l = ranges::lengths_of(p, processors, firsts, lasts);
-        if wrong_state(self, l, processors) {
-            return self.refused(15, 0, 0);
+        let mut ends = [0u32; 192];
+        let mut lists = [0u32; 96];
+        layouts::lay_out(a, store, 0, &mut lists[..], &mut ends);
+        let mut done = self.done;
+        if barriers::wrong_state(&done, &ends, a.blocks, PHASES) {
+            return self.refused(STATE, 0, 0);
         }
-        let r = self.turn(
-            p,
-            l,
-            processors,
+        layouts::put_lists(a, b, store, &mut lists[..], 0, &mut ends);
+        let report = turn(
+            &mut done,
             b,
-            firsts,
-            lasts,
-            starts,
-            kinds,
-            arrays,
-            values,
-            &bs,
+            a.blocks,
+            &ends,
+            &lists[..],
+            0,
+            store,
+            &firsts,
             memory,
         );
-        let counts = r.counts;
-        let report = r.report;
         Stepped {
-            counts,
+            counts: Counts { done },
             report,
             read: 0,
         }
@@ -230,42 +145,14 @@ impl Counts {
 
     // One step of a processor.
     pub fn step(self, s: &[u8], processors: u32, processor: u32, memory: &mut [f64]) -> Stepped
-        ensures { λ r. ⌜ Steps (now (s .entry)) processors processor (self .done) (now (memory .entry)) r (now (memory .exit)) ⌝ }
+        ensures { λ r. ⌜ Steps (now (s .entry)) (settings processors) processor (self .done) (now (memory .entry)) r (now (memory .exit)) ⌝ }
     {
-        let mut lens = [0u32; 16];
-        let mut firsts = [0u32; 16];
-        let mut lasts = [0u32; 16];
-        let mut starts = [0usize; 17];
-        let mut kinds = [0u8; 528];
-        let mut arrays = [0u32; 528];
-        let mut values = [0u32; 528];
-        let p = plans::plan_for(
-            s,
-            processors,
-            processor,
-            &mut lens,
-            &mut firsts,
-            &mut lasts,
-            &mut starts,
-            &mut kinds,
-            &mut arrays,
-            &mut values,
-        );
+        let mut store = [0u32; 1651];
+        let p = plans::plan_for(s, processors, processor, &mut store);
         if p.number != 0 {
             return self.refused(p.number, p.place, p.read);
         }
-        self.step_planned(
-            p,
-            processors,
-            processor,
-            &lens,
-            &firsts,
-            &lasts,
-            &starts,
-            &kinds,
-            &arrays,
-            &values,
-            memory,
-        )
+        let a = p.axis;
+        self.step_planned(a, processor, &store, memory)
     }
 }

@@ -1,2 +1,0 @@
--- tests that no processor passes, and what a turn's code makes of its tests
-pub mod Laws
