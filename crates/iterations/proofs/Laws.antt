@@ -12,16 +12,17 @@ use lib.Seq.{getD-set-same, getD-set-other}
 use lib.Ieee.{Float}
 use borrow.Rule.Slice.PartMut.{midOf, putMid, mid-len, set-mid-at}
 use Rattle.model.specs.declared.Reference.{Reference}
-use Rattle.model.specs.Table.{Item, read, constant, operation, Statement, Table, loop, iteration, Inside}
+use Rattle.model.specs.Table.{Item, read, constant, operation, Statement, Loop, Table, loop, iteration, Inside}
 use Rattle.model.specs.References.{destination, reads, references, refs}
 use Rattle.model.specs.Bodies.{begins, value, performed, run}
 use Rattle.order.specs.Reorder.{runAll}
-use Rattle.reader.specs.Store.{itemsFrom, startAt}
+use Rattle.reader.specs.Store.{itemsFrom, startAt, statementAt}
+use Rattle.reader.specs.Held.{loop-held, rows-rise, few-rows}
 use Rattle.grounds.specs.Statements.{sum}
 use Rattle.grounds.specs.Accepted.{Works, ValidLoop, valid-last}
 use Rattle.bodies.specs.Workable.{Based, Element, ReadsWithin}
 use Rattle.iterations.specs.Memory.{total}
-use Rattle.iterations.specs.Loaded.{Loaded, statementIn}
+use Rattle.iterations.specs.Loaded.{Loaded}
 
 -- WHERE ARRAYS BEGIN
 -- no length past the last of those taken
@@ -102,16 +103,19 @@ reads-within bs i n k (read a o ∷ xs) f = (f (record { number = k; array = a; 
 reads-within bs i n k (constant c ∷ xs) f = reads-within bs i n k xs f
 reads-within bs i n k (operation c ∷ xs) f = reads-within bs i n k xs f
 
--- iteration i of loop k, of a table that the store hold
+-- iteration i of loop k, of a table that the store holds
 module _ (t : Table) (cs bs : List ℕ) (l : Loaded t cs bs) (k i : ℕ) (here : Inside t (iteration k i)) where
   abbrev st : Statement
-  st = statementIn cs k
+  st = statementAt cs (startAt cs k) (startAt cs (suc k))
+
+  only : loop t k .body ≡ st ∷ []
+  only = ap (λ (x : Loop). x .body) (loop-held (l .holds) k (here .0))
 
   abbrev vl : ValidLoop (t .lengths) k (loop t k)
   vl = l .valid .each k (here .0)
 
   pub loop-rows : (k < 16) × (startAt cs k < startAt cs (k + 1)) × (startAt cs (k + 1) ≤ 528)
-  loop-rows = (omega (arith, here .0, l .valid .few-loops), rw (add-one k) (l .rising k (here .0)), rw (add-one k) (l .rows k (here .0)))
+  loop-rows = (omega (arith, here .0, l .valid .few-loops), rw (add-one k) (rows-rise (l .holds) k (here .0)), rw (add-one k) (few-rows (l .holds) (suc k) (here .0)))
 
   pub index-small : i ≤ 65790
   index-small = omega (arith, here .2, valid-last t (l .valid) k (here .0))
@@ -125,7 +129,7 @@ module _ (t : Table) (cs bs : List ℕ) (l : Loaded t cs bs) (k i : ℕ) (here :
 
   items-work : Works (st .items) 0
   items-work =
-      let e : vl .statement ∷ [] ≡ st ∷ [] = sym (vl .only) ∙ l .held k (here .0) in
+      let e : vl .statement ∷ [] ≡ st ∷ [] = sym (vl .only) ∙ only in
       let z : vl .statement ≡ st = cc in
       rw z at (vl .works)
 
@@ -139,7 +143,7 @@ module _ (t : Table) (cs bs : List ℕ) (l : Loaded t cs bs) (k i : ℕ) (here :
     -- its references are those of its one statement
     one : (r : Reference) → Mem r (destination k st ∷ reads k (st .items)) → Mem r (refs t k)
     one r h =
-        subst (λ (b : List Statement). Mem r (references k b)) (sym (l .held k (here .0)))
+        subst (λ (b : List Statement). Mem r (references k b)) (sym (only))
         (subst (λ (q : List Reference). Mem r (destination k st ∷ q)) (sym (append-nil (reads k (st .items)))) h)
 
     pub destination-within : Element bs i n (st .array) (st .offset)
@@ -160,4 +164,4 @@ module _ (t : Table) (cs bs : List ℕ) (l : Loaded t cs bs) (k i : ℕ) (here :
       g
       ∙ ap (λ (y : Float). set m (getD bs (st .array) 0 + (i + st .offset - 255)) y) (f (t .lengths) (l .based) ∙ ap (λ (xs : List Item). value (t .lengths) i xs m) same)
       ∙ ap (λ (z : ℕ). set m (z + (i + st .offset - 255)) (value (t .lengths) i (st .items) m)) (l .based (st .array) (omega (arith, destination-within (total t) refl .0)))
-      ∙ ap (λ (y : List Statement). runAll (performed (t .lengths) i) y m) (sym (l .held k (here .0)))
+      ∙ ap (λ (y : List Statement). runAll (performed (t .lengths) i) y m) (sym (only))

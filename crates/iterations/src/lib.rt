@@ -5,7 +5,7 @@ ghost use Prim.Native.Nat.{_+_, _-_, _^_, _≤_, _<_};
 ghost use lib.ListN.{length, getD, set, take};
 ghost use Rattle.model.specs.Table.{Table, iteration, Inside};
 ghost use Rattle.model.specs.Bodies.{run};
-ghost use Rattle.grounds.specs.Statements.{sum};
+ghost use Rattle.reader.specs.Store.{tableIn};
 ghost use Rattle.bodies.specs.Workable.{Based, Element};
 ghost use Rattle.iterations.specs.Memory.{total};
 ghost use Rattle.iterations.specs.Loaded.{Loaded};
@@ -16,23 +16,24 @@ pub struct Bases {
 }
 
 // How many elements array k of so many has: none past the last.
-fn length_of(lens: &Store, arrays: usize, k: usize) -> u32
+fn length_of(store: &Store, arrays: usize, k: usize) -> u32
     requires { ⌜ k < 16 ⌝ }
-    ensures { λ r. ⌜ r ≡ getD (take arrays (now (lens .entry))) k 0 ⌝ }
+    ensures { λ r. ⌜ r ≡ getD (take arrays (now (store .entry))) k 0 ⌝ }
 {
-    if k < arrays { lens[k] } else { 0 }
+    if k < arrays { store[k] } else { 0 }
 }
 
 // The arrays stand in order without gaps.
-pub fn bases_of(lens: &Store, arrays: usize) -> Bases
-    requires { ⌜ sum (take arrays (now lens)) ≤ 262144 ⌝ }
-    ensures { λ r. ⌜ Based (r .firsts) (take arrays (now (lens .entry))) ⌝ }
+pub fn bases_of(store: &Store) -> Bases
+    requires { ⌜ total (tableIn (now store)) ≤ 262144 ⌝ }
+    ensures { λ r. ⌜ Based (r .firsts) (tableIn (now (store .entry)) .lengths) ⌝ }
 {
+    let arrays = reader::arrays_in(store);
     let mut firsts = [0u32; 17];
     let mut next: u32 = 0;
     let mut k: usize = 0;
     while k < 16 {
-        next += length_of(lens, arrays, k);
+        next += length_of(store, arrays, k);
         firsts[k + 1] = next;
         k += 1;
     }

@@ -5,148 +5,135 @@ use native.Mathlib.Decide.{ℕ-discrete}
 use native.Mathlib.Numerals.{add-one}
 use mathlib.Core.Path.{_≡_, refl, sym, ap, ap₂, _∙_}
 use mathlib.Core.List.{List}
-use lib.ListN.{length, getD, take}
+use lib.ListN.{length, getD}
 use lib.Ieee.{Float}
-use Rattle.model.specs.Table.{Table, Loop, count, first, last, iteration, Inside}
+use Rattle.model.specs.Table.{Table, count, first, last, iteration, Inside}
 use Rattle.model.specs.Bodies.{run}
 use Rattle.model.specs.PlainRun.{upward, looped, plainRun, upward-turn, upward-ended}
 use Rattle.reader.specs.Reading.{Answer, accepted, refused}
-use Rattle.reader.specs.Store.{Sized, firstAt, lastAt, tableAt, count-table, loop-table}
-use Rattle.reader.specs.Stored.{Kept}
+use Rattle.reader.specs.Store.{firstAt, lastAt, loopsIn, tableIn}
+use Rattle.reader.specs.Held.{Held, count-held, first-held, last-held}
 use Rattle.serial.specs.Serial.{table}
 use Rattle.grounds.specs.Accepted.{Valid, accepted-valid, valid-last}
-use Rattle.tables.specs.declared.Outline.{Outline}
-use Rattle.tables.specs.Verdict.{numberOf, placeOf, Tells, Outlined}
+use Rattle.tables.specs.declared.Verdict.{Verdict}
+use Rattle.tables.specs.Verdict.{numberOf, placeOf, verdict, Told, ReadThrough}
 use Rattle.tables.specs.Nine.{accepted-read}
 use Rattle.bodies.specs.Workable.{Based}
 use Rattle.iterations.specs.Memory.{total, remembered, remembered-as-long, remembered-unlike, run-length, looped-length}
-use Rattle.iterations.specs.Loaded.{Loaded, loaded, based-total}
+use Rattle.iterations.specs.Loaded.{Loaded, based-total}
 use Rattle.plain.specs.Plain.{plainAnswer, after, plainMemory}
 use Rattle.plain.specs.Running.{Running}
 
--- A WALK, the same for every table with P: the turns from i on give, from what the memory now holds, what all turns give
-module _ (P : Table → Type 0) (g : Table → ℕ → List Float → List Float) (from past : ℕ) (m₀ : List Float) where
+-- A WALK: the turns from i on give, from what the memory now holds, what all turns give; none changes the memory's length
+module _ (g : ℕ → List Float → List Float) (from past : ℕ) (m₀ : List Float) where
+  abbrev all : List Float
+  all = upward g from (past - from) m₀
+
   pub record Left (i : ℕ) (m : List Float) : Type 0 where
     pub low : from ≤ i
     pub long : length m ≡ length m₀
-    pub rest : (t : Table) → P t → upward (g t) i (past - i) m ≡ upward (g t) from (past - from) m₀
+    pub rest : upward g i (past - i) m ≡ all
 
-  pub left-start : Left from m₀
-  left-start = record { low = omega arith; long = refl; rest = λ t p. refl }
+  left-start : Left from m₀
+  left-start = record { low = omega arith; long = refl; rest = refl }
 
   module _ (i : ℕ) (m : List Float) (l : Left i m) where
-    -- there is such a table, and no turn changes the memory's length
-    pub left-next : i < past → (n : List Float) (u : Table) → P u → ((x : List Float) → length (g u i x) ≡ length x) → ((t : Table) → P t → n ≡ g t i m)
-        → Left (i + 1) n
-    left-next h n u q e f =
+    left-next : i < past → length (g i m) ≡ length m → (n : List Float) → n ≡ g i m → Left (i + 1) n
+    left-next h keeps n e =
         rw (add-one i)
-        (record {
-          low = omega (arith, l .low);
-          long = ap length (f u q) ∙ e m ∙ l .long;
-          rest = λ t p. upward-turn (g t) i past m (upward (g t) from (past - from) m₀) (l .rest t p) h n (f t p);
-        })
+        (record { low = omega (arith, l .low); long = ap length e ∙ keeps ∙ l .long; rest = upward-turn g i past m all (l .rest) h n e })
 
-    pub left-end : past ≤ i → (t : Table) → P t → m ≡ upward (g t) from (past - from) m₀
-    left-end h t p = upward-ended (g t) i past m (upward (g t) from (past - from) m₀) (l .rest t p) h
+    left-end : past ≤ i → m ≡ all
+    left-end h = upward-ended g i past m all (l .rest) h
 
--- THE LOOPS OF A TABLE IN A STORE
-module _ (cs bs : List ℕ) where
-  -- loop k's turns, and the loops
-  abbrev pub InLoop : ℕ → Table → Type 0
-  InLoop k t = Running t cs bs × (k < count t)
+-- THE LOOPS OF A TABLE IN A STORE, from the memory m₀
+module _ (cs bs : List ℕ) (m₀ : List Float) where
+  abbrev t : Table
+  t = tableIn cs
 
-  abbrev pub OfLoops : ℕ → Table → Type 0
-  OfLoops n t = Running t cs bs × (n ≡ count t)
-
-  pub loop-small : (k : ℕ) (t : Table) → InLoop k t → (k < 16) × (firstAt cs k ≤ lastAt cs k) × (lastAt cs k ≤ 65790)
-  loop-small k t p =
-      let v = p .0 .loaded .valid in
-      let f = p .0 .firsts k (p .1) in
-      let l = p .0 .lasts k (p .1) in
-      (omega (arith, p .1, v .few-loops), omega (arith, f, l, v .each k (p .1) .rising), omega (arith, l, valid-last t v k (p .1)))
-
-  -- the iterations of loop k, from the memory m₀
-  module _ (k : ℕ) (m₀ : List Float) where
+  -- the iterations of loop k
+  module _ (k : ℕ) where
     abbrev pub LoopLeft : ℕ → List Float → Type 0
-    LoopLeft = Left (InLoop k) (λ t i. run t (iteration k i)) (firstAt cs k) (lastAt cs k + 1) m₀
+    LoopLeft = Left (λ i. run t (iteration k i)) (firstAt cs k) (lastAt cs k + 1) m₀
 
     pub loop-start : LoopLeft (firstAt cs k) m₀
-    loop-start = left-start (InLoop k) (λ t i. run t (iteration k i)) (firstAt cs k) (lastAt cs k + 1) m₀
+    loop-start = left-start (λ i. run t (iteration k i)) (firstAt cs k) (lastAt cs k + 1) m₀
 
-    module _ (i : ℕ) (m : List Float) (l : LoopLeft i m) where
-      within : i ≤ lastAt cs k → (t : Table) → InLoop k t → Inside t (iteration k i)
-      within h t p = (p .1, omega (arith, p .0 .firsts k (p .1), l .low), omega (arith, p .0 .lasts k (p .1)))
+    module _ (r : Running cs bs m₀) (there : k < count t) where
+      pub loop-small : (k < 16) × (firstAt cs k ≤ lastAt cs k) × (lastAt cs k ≤ 65790)
+      loop-small =
+          let v = r .loaded .valid in
+          let f = first-held (r .loaded .holds) k there in
+          let l = last-held (r .loaded .holds) k there in
+          (omega (arith, v .few-loops), omega (arith, f, l, v .each k there .rising), omega (arith, l, valid-last t v k there))
 
-      pub loop-asks : i ≤ lastAt cs k → (t : Table) → InLoop k t → length m₀ ≡ total t
-          → (t : Table) × Loaded t cs bs × Inside t (iteration k i) × (length m ≡ total t)
-      loop-asks h t p e = (t, p .0 .loaded, within h t p, l .long ∙ e)
+      module _ (i : ℕ) (m : List Float) (l : LoopLeft i m) where
+        module _ (h : i ≤ lastAt cs k) where
+          within : Inside t (iteration k i)
+          within =
+              let f = first-held (r .loaded .holds) k there in
+              let z = last-held (r .loaded .holds) k there in
+              (there, omega (arith, f, l .low), omega (arith, z))
 
-      pub loop-next : i ≤ lastAt cs k → (n : List Float) (u : Table) → InLoop k u
-          → ((t : Table) → Loaded t cs bs → Inside t (iteration k i) → n ≡ run t (iteration k i) m) → LoopLeft (i + 1) n
-      loop-next h n u q f =
-          left-next (InLoop k) (λ t j. run t (iteration k j)) (firstAt cs k) (lastAt cs k + 1) m₀ i m l (omega arith) n u q (run-length u (iteration k i))
-          (λ t p. f t (p .0 .loaded) (within h t p))
+          pub loop-asks : (u : Table) × Loaded u cs bs × Inside u (iteration k i) × (length m ≡ total u)
+          loop-asks = (t, r .loaded, within, l .long ∙ r .long)
 
-      pub loop-end : lastAt cs k < i → (t : Table) → Running t cs bs → k < count t → m ≡ looped t k m₀
-      loop-end h t r c =
-          left-end (InLoop k) (λ t j. run t (iteration k j)) (firstAt cs k) (lastAt cs k + 1) m₀ i m l (omega arith) t (r, c)
-          ∙ (rw (add-one (lastAt cs k)) (ap₂ (λ (f z : ℕ). upward (λ j. run t (iteration k j)) f (suc z - f) m₀) (r .firsts k c) (r .lasts k c)))
+          pub loop-next : (n : List Float) → ((u : Table) → Loaded u cs bs → Inside u (iteration k i) → n ≡ run u (iteration k i) m) → LoopLeft (i + 1) n
+          loop-next n f =
+              left-next (λ i. run t (iteration k i)) (firstAt cs k) (lastAt cs k + 1) m₀ i m l (omega arith) (run-length t (iteration k i) m) n
+              (f t (r .loaded) within)
 
-  -- n loops, from the memory m₀
-  module _ (n : ℕ) (m₀ : List Float) where
+        pub loop-end : lastAt cs k < i → m ≡ looped t k m₀
+        loop-end h =
+            left-end (λ i. run t (iteration k i)) (firstAt cs k) (lastAt cs k + 1) m₀ i m l (omega arith)
+            ∙ rw (add-one (lastAt cs k)) (ap₂ (λ (f z : ℕ). upward (λ j. run t (iteration k j)) f (suc z - f) m₀) f z)
+          where
+            f : firstAt cs k ≡ first t k
+            f = sym (first-held (r .loaded .holds) k there)
+
+            z : lastAt cs k ≡ last t k
+            z = sym (last-held (r .loaded .holds) k there)
+
+  -- the loops, n of them
+  module _ (n : ℕ) where
     abbrev pub LoopsLeft : ℕ → List Float → Type 0
-    LoopsLeft = Left (OfLoops n) looped 0 n m₀
+    LoopsLeft = Left (looped t) 0 n m₀
 
     pub loops-start : LoopsLeft 0 m₀
-    loops-start = left-start (OfLoops n) looped 0 n m₀
+    loops-start = left-start (looped t) 0 n m₀
 
-    module _ (k : ℕ) (m : List Float) (l : LoopsLeft k m) where
-      pub loops-asks : k < n → (t : Table) → OfLoops n t → length m₀ ≡ total t
-          → (t : Table) × Running t cs bs × (k < count t) × (length m ≡ total t)
-      loops-asks h t p e = (t, p .0, omega (arith, p .1), l .long ∙ e)
+    module _ (r : Running cs bs m₀) (counted : n ≡ loopsIn cs) (k : ℕ) (m : List Float) (l : LoopsLeft k m) where
+      pub loops-asks : k < n → Running cs bs m × (k < count t)
+      loops-asks h = (record { loaded = r .loaded; long = l .long ∙ r .long }, omega (arith, count-held (r .loaded .holds)))
 
-      pub loops-next : k < n → (after : List Float) (u : Table) → OfLoops n u
-          → ((t : Table) → Running t cs bs → k < count t → after ≡ looped t k m) → LoopsLeft (k + 1) after
-      loops-next h after u q f =
-          left-next (OfLoops n) looped 0 n m₀ k m l h after u q (looped-length u k) (λ t p. f t (p .0) (omega (arith, p .1)))
+      pub loops-next : k < n → (after : List Float) → after ≡ looped t k m → LoopsLeft (k + 1) after
+      loops-next h = left-next (looped t) 0 n m₀ k m l h (looped-length t k m)
 
-      pub loops-end : n ≤ k → (t : Table) → Running t cs bs → n ≡ count t → m ≡ plainRun t m₀
-      loops-end h t r c =
-          let z : n - 0 ≡ count t = omega arith in
-          left-end (OfLoops n) looped 0 n m₀ k m l h t (r, c) ∙ ap (λ (j : ℕ). upward (looped t) 0 j m₀) z
+      pub loops-end : n ≤ k → m ≡ plainRun t m₀
+      loops-end h =
+          let z : n - 0 ≡ count t = omega (arith, count-held (r .loaded .holds)) in
+          left-end (looped t) 0 n m₀ k m l h ∙ ap (λ (j : ℕ). upward (looped t) 0 j m₀) z
 
 -- A TABLE IN A STORE, ON A MEMORY
-module _ (c : List ℕ) (a l rows : ℕ) (sized : Sized c) (kept : Kept c a l rows) (v : Valid (tableAt c a l)) (bs : List ℕ) (b : Based bs (take a c)) where
-  abbrev held : Table
-  held = tableAt c a l
+module _ (c : List ℕ) (h : Held c × Valid (tableIn c)) (bs : List ℕ) (b : Based bs (tableIn c .lengths)) (m : List Float) where
+  abbrev Answered : ℕ → List Float → Type 0
+  Answered r n =
+      (r ≡ numberOf (remembered (length m) (accepted (tableIn c)))) × (n ≡ after (remembered (length m) (accepted (tableIn c))) m)
 
-  inside : (k : ℕ) → k < count held → k < l
-  inside k h = omega (arith, count-table c a l)
+  held-total : getD bs 16 0 ≡ total (tableIn c)
+  held-total = based-total bs (tableIn c .lengths) 16 b (h .1 .few-arrays) (omega arith)
 
-  running : Running held c bs
-  running = record {
-    loaded = loaded c a l rows bs sized kept v b;
-    firsts = λ k h. sym (ap (λ (x : Loop). x .first) (loop-table c a l k (inside k h)));
-    lasts = λ k h. sym (ap (λ (x : Loop). x .last) (loop-table c a l k (inside k h)));
-  }
+  pub held-unlike : (length m ≡ getD bs 16 0 → ⊥) → Answered 12 m
+  unfolding after
+  held-unlike e = let z = remembered-unlike (length m) (tableIn c) (λ q. e (q ∙ sym held-total)) in rw z (refl, refl)
 
-  held-total : getD bs 16 0 ≡ total held
-  held-total = based-total bs (take a c) 16 b (v .few-arrays) (omega arith)
+  module _ (e : length m ≡ getD bs 16 0) where
+    pub held-asks : Running c bs m
+    held-asks = record { loaded = record { holds = h .0; valid = h .1; based = b }; long = e ∙ held-total }
 
-  module _ (m : List Float) where
-    pub held-unlike : (length m ≡ getD bs 16 0 → ⊥) → (12 ≡ numberOf (remembered (length m) (accepted held))) × (m ≡ after (remembered (length m) (accepted held)) m)
+    pub held-run : (n : List Float) → n ≡ plainRun (tableIn c) m → Answered 0 n
     unfolding after
-    held-unlike e = let z = remembered-unlike (length m) held (λ q. e (q ∙ sym held-total)) in rw z (refl, refl)
-
-    pub held-asks : length m ≡ getD bs 16 0
-        → (t : Table) × Running t c bs × (l ≡ count t) × (length m ≡ total t)
-    held-asks e = (held, running, sym (count-table c a l), e ∙ held-total)
-
-    pub held-run : length m ≡ getD bs 16 0 → (n : List Float)
-        → ((t : Table) → Running t c bs → l ≡ count t → n ≡ plainRun t m)
-        → (0 ≡ numberOf (remembered (length m) (accepted held))) × (n ≡ after (remembered (length m) (accepted held)) m)
-    unfolding after
-    held-run e n f = let z = remembered-as-long (length m) held (e ∙ held-total) in rw z (refl, f held running (sym (count-table c a l)))
+    held-run n f = let z = remembered-as-long (length m) (tableIn c) (e ∙ held-total) in rw z (refl, f)
 
 -- WHAT IS TOLD
 -- 12 has place 0, and is not 9
@@ -163,24 +150,23 @@ unfolding remembered after
 refused-stays n (accepted t) e = absurd (e refl)
 refused-stays n (refused g p) e = (refl, λ m. refl)
 
-module _ (s : List ℕ) (c : List ℕ) (o : Outline) (outlined : Outlined s o c) (m : List Float) where
-  pub run-refused : (o .number ≡ 0 → ⊥)
-      → Tells s (plainAnswer s (length m)) (o .number) (o .place) (o .read) × (m ≡ plainMemory s m)
+module _ (s c : List ℕ) (r : Verdict) (through : ReadThrough s r c) (m : List Float) where
+  pub run-refused : (r .number ≡ 0 → ⊥) → Told s (plainAnswer s (length m)) r × (m ≡ plainMemory s m)
   unfolding plainAnswer plainMemory
   run-refused e =
-      let told = outlined .told in
+      let told = through .told in
       let (z, same) = refused-stays (length m) (table s) (λ q. e (told .number-is ∙ q)) in
-      rw z (record { number-is = told .number-is; place-is = told .place-is; named = told .named; unnamed = told .unnamed }, same m)
+      rw z (told, same m)
 
-  module _ (none : o .number ≡ 0) where
-    pub run-valid : Valid (tableAt c (o .arrays) (o .loops))
-    run-valid = let e = outlined .held none .0 in accepted-valid s (tableAt c (o .arrays) (o .loops)) (accepted-read s (tableAt c (o .arrays) (o .loops)) e .0)
+  module _ (none : r .number ≡ 0) where
+    pub run-held : Held c × Valid (tableIn c)
+    run-held =
+        let (e, h) = through .held none in
+        (h, accepted-valid s (tableIn c) (accepted-read s (tableIn c) e .0))
 
-    pub run-accepted : (r : ℕ) (n : List Float) → r ≡ numberOf (remembered (length m) (accepted (tableAt c (o .arrays) (o .loops))))
-        → n ≡ after (remembered (length m) (accepted (tableAt c (o .arrays) (o .loops)))) m
-        → Tells s (plainAnswer s (length m)) r 0 0 × (n ≡ plainMemory s m)
+    pub run-accepted : (x : ℕ) (n : List Float) → x ≡ numberOf (remembered (length m) (accepted (tableIn c)))
+        → n ≡ after (remembered (length m) (accepted (tableIn c))) m → Told s (plainAnswer s (length m)) (verdict x 0 0) × (n ≡ plainMemory s m)
     unfolding plainAnswer plainMemory
-    run-accepted r n e f =
-        let t = tableAt c (o .arrays) (o .loops) in
-        let (place, other) = twelve (length m) t in
-        rw (outlined .held none .0) (record { number-is = e; place-is = place; named = λ u q z. absurd (other (sym e ∙ z)); unnamed = λ q. refl }, f)
+    run-accepted x n e f =
+        let (place, other) = twelve (length m) (tableIn c) in
+        rw (through .held none .0) (record { number-is = e; place-is = place; named = λ u q z. absurd (other (sym e ∙ z)); unnamed = λ q. refl }, f)

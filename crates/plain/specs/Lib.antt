@@ -1,4 +1,4 @@
 -- the plain run of a table's bytes
 pub mod Plain
--- a table's loops in columns, as the code runs them
+-- a store and a memory on which the code runs
 pub mod Running

@@ -1,12 +1,13 @@
--- A table's loops in a store, with their bounds, as the code runs them.
-use Prim.Native.Nat.{ℕ, _<_}
+-- A store on whose table the code runs, and a memory of the table's length.
+use Prim.Native.Nat.{ℕ}
 use mathlib.Core.Path.{_≡_}
 use mathlib.Core.List.{List}
-use Rattle.model.specs.Table.{Table, count, first, last}
-use Rattle.reader.specs.Store.{firstAt, lastAt}
+use lib.ListN.{length}
+use lib.Ieee.{Float}
+use Rattle.reader.specs.Store.{tableIn}
+use Rattle.iterations.specs.Memory.{total}
 use Rattle.iterations.specs.Loaded.{Loaded}
 
-pub record Running (t : Table) (cs bs : List ℕ) : Type 0 where
-  pub loaded : Loaded t cs bs
-  pub firsts : (k : ℕ) → k < count t → firstAt cs k ≡ first t k
-  pub lasts : (k : ℕ) → k < count t → lastAt cs k ≡ last t k
+pub record Running (cs bs : List ℕ) (m : List Float) : Type 0 where
+  pub loaded : Loaded (tableIn cs) cs bs
+  pub long : length m ≡ total (tableIn cs)

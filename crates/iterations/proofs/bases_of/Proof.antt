@@ -2,28 +2,34 @@ use native.Mathlib.Omega.{arith}
 use mathlib.Core.Path.{refl}
 use denote.Ref.{now}
 use Prim.Native.Nat.{_-_}
-use lib.ListN.{take}
 use borrow.Author.Needs.{needs}
+use Rattle.reader.specs.Store.{tableIn}
 use Rattle.iterations.proofs.Laws.{Filled, filled-start, filled-most, filled-next, filled-all}
 use Rattle.iterations.proofs.bases_of.Statement.{statement}
 use Rattle.iterations.proofs.bases_of.Tie as tie
 
 abbrev Inv-loop : tie.InvT-loop
-Inv-loop lens arrays firsts₀ next₀ k₀ firsts next k = Filled (take arrays lens) firsts next k
+Inv-loop store arrays firsts₀ next₀ k₀ firsts next k = Filled (tableIn store .lengths) firsts next k
 
 abbrev μ-loop : tie.MeasureT-loop
-μ-loop lens arrays firsts₀ next₀ k₀ firsts next k = 16 - k
+μ-loop store arrays firsts₀ next₀ k₀ firsts next k = 16 - k
+
+arrays-in-requires : tie.Need-arrays-in-requires Inv-loop μ-loop
+arrays-in-requires c κs = search needs
 
 loop-holds : tie.Need-loop-holds Inv-loop μ-loop
-loop-holds c = filled-start (take (c .args .arrays) (now (c .args .lens))) _ refl refl
+loop-holds c = filled-start (tableIn (now (c .before .args .store)) .lengths) _ refl refl
 
 length-of-requires : tie.Need-length-of-requires Inv-loop μ-loop
 length-of-requires c κs = search needs
 
 add-next : tie.Need-add-next Inv-loop μ-loop
-add-next c = let ns = take (c .before .before .before .args .arrays) (now (c .before .before .before .args .lens)) in
+add-next c =
+    let b = c .before .before .before in
     let l = c .before .before .loop in
-    omega (arith, filled-most ns (l .firsts) (l .next) (l .k) (l .inv) (c .before .loop-test .taken) (c .length-of .result) (c .length-of .ensures), c .before .before .before .pre)
+    let e = rw (b .arrays-in .ensures) at (c .length-of .ensures) in
+    let most = filled-most (tableIn (now (b .before .args .store)) .lengths) (l .firsts) (l .next) (l .k) (l .inv) (c .before .loop-test .taken) (c .length-of .result) e in
+    omega (arith, most, b .before .pre)
 
 add-firsts : tie.Need-add-firsts Inv-loop μ-loop
 add-firsts c = search needs
@@ -41,14 +47,16 @@ loop-less : tie.Need-loop-less Inv-loop μ-loop
 loop-less c = omega arith
 
 loop-again : tie.Need-loop-again Inv-loop μ-loop
-loop-again c = let ns = take (c .before .before .before .args .arrays) (now (c .before .before .before .args .lens)) in
+loop-again c =
+    let b = c .before .before .before in
     let l = c .before .before .loop in
-    filled-next ns (l .firsts) (l .next) (l .k) (l .inv) (c .before .loop-test .taken) (c .length-of .result) (c .length-of .ensures)
+    let e = rw (b .arrays-in .ensures) at (c .length-of .ensures) in
+    filled-next (tableIn (now (b .before .args .store)) .lengths) (l .firsts) (l .next) (l .k) (l .inv) (c .before .loop-test .taken) (c .length-of .result) e
 
 returns : tie.Need-returns Inv-loop μ-loop
-returns c = let ns = take (c .before .before .args .arrays) (now (c .before .before .args .lens)) in
+returns c =
     let l = c .before .loop in
-    filled-all ns (l .firsts) (l .next) (l .k) (l .inv) (c .loop-test .left)
+    filled-all (tableIn (now (c .before .before .before .args .store)) .lengths) (l .firsts) (l .next) (l .k) (l .inv) (c .loop-test .left)
 
 pub bases-of-spec : {M : Type 1} → statement M
 bases-of-spec =
@@ -56,6 +64,7 @@ bases-of-spec =
     (tie.spec
     Inv-loop
     μ-loop
+    arrays-in-requires
     loop-holds
     length-of-requires
     add-next

@@ -13,10 +13,10 @@ element-copy-out-result : tie.Need-element-copy-out-result
 element-copy-out-result c = search needs
 
 returns : tie.Need-returns
-returns c = sym (getD-take (c .before .before .args .arrays) (now (c .before .before .args .lens)) (c .before .before .args .k) 0 (c .before .if1 .taken))
+returns c = sym (getD-take (c .before .before .args .arrays) (now (c .before .before .args .store)) (c .before .before .args .k) 0 (c .before .if1 .taken))
 
 returns-2 : tie.Need-returns-2
-returns-2 c = untaken (c .before .args .arrays) (now (c .before .args .lens)) (c .before .args .k) (c .if1 .left)
+returns-2 c = untaken (c .before .args .arrays) (now (c .before .args .store)) (c .before .args .k) (c .if1 .left)
 
 pub length-of-spec : {M : Type 1} → statement M
 length-of-spec = tie.close (tie.spec mul-result element-copy-out-result returns returns-2)

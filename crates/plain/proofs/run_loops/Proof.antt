@@ -7,20 +7,26 @@ use Rattle.plain.proofs.run_loops.Statement.{statement}
 use Rattle.plain.proofs.run_loops.Tie as tie
 
 abbrev Inv-loop : tie.InvT-loop
-Inv-loop loops store bases memory₀ k₀ memory k = LoopsLeft store bases loops memory₀ k memory
+Inv-loop store bases memory₀ loops k₀ memory k = LoopsLeft store bases memory₀ loops k memory
 
 abbrev μ-loop : tie.MeasureT-loop
-μ-loop loops store bases memory₀ k₀ memory k = loops - k
+μ-loop store bases memory₀ loops k₀ memory k = loops - k
+
+loops-in-requires : tie.Need-loops-in-requires Inv-loop μ-loop
+loops-in-requires c κs = search needs
 
 loop-holds : tie.Need-loop-holds Inv-loop μ-loop
-loop-holds c = let a = c .before .args in
-    loops-start (now (a .store)) (now (a .bases)) (a .loops) (now (a .memory))
+loop-holds c =
+    let a = c .before .before .args in
+    loops-start (now (a .store)) (now (a .bases)) (now (a .memory)) (c .loops-in .result)
 
 run-loop-requires : tie.Need-run-loop-requires Inv-loop μ-loop
-run-loop-requires c κs = let a = c .before .before .before .before .args in
-    let (t, r, h, e) = c .before .before .before .before .pre in
+run-loop-requires c κs =
     let l = c .before .before .loop in
-    loops-asks (now (a .store)) (now (a .bases)) (a .loops) (now (a .memory)) (l .k) (l .memory) (l .inv) (c .before .loop-test .taken) t (r, h) e
+    let n = c .before .before .before in
+    let b = n .before .before in
+    loops-asks (now (b .args .store)) (now (b .args .bases)) (now (b .args .memory)) (n .loops-in .result) (b .pre) (n .loops-in .ensures)
+    (l .k) (l .memory) (l .inv) (c .before .loop-test .taken)
 
 add-k : tie.Need-add-k Inv-loop μ-loop
 add-k c = search needs
@@ -29,18 +35,24 @@ loop-less : tie.Need-loop-less Inv-loop μ-loop
 loop-less c = omega arith
 
 loop-again : tie.Need-loop-again Inv-loop μ-loop
-loop-again c = let a = c .before .before .before .before .before .before .before .args in
-    let (t, r, h, e) = c .before .before .before .before .before .before .before .pre in
-    let l = c .before .before .before .before .before .loop in
-    loops-next (now (a .store)) (now (a .bases)) (a .loops) (now (a .memory)) (l .k) (l .memory) (l .inv) (c .before .before .before .before .loop-test .taken) _ t (r, h) (c .before .before .run-loop .ensures)
+loop-again c =
+    let t = c .before .before .before .before in
+    let l = t .before .loop in
+    let n = t .before .before in
+    let b = n .before .before in
+    loops-next (now (b .args .store)) (now (b .args .bases)) (now (b .args .memory)) (n .loops-in .result) (b .pre) (n .loops-in .ensures)
+    (l .k) (l .memory) (l .inv) (t .loop-test .taken) _ (c .before .before .run-loop .ensures)
 
 same-length : tie.Need-same-length Inv-loop μ-loop
 same-length c = c .before .loop .inv .long
 
 returns : tie.Need-returns Inv-loop μ-loop
-returns c = let a = c .before .before .before .args in
+returns c =
     let l = c .before .loop in
-    loops-end (now (a .store)) (now (a .bases)) (a .loops) (now (a .memory)) (l .k) (l .memory) (l .inv) (c .loop-test .left)
+    let n = c .before .before in
+    let b = n .before .before in
+    loops-end (now (b .args .store)) (now (b .args .bases)) (now (b .args .memory)) (n .loops-in .result) (b .pre) (n .loops-in .ensures)
+    (l .k) (l .memory) (l .inv) (c .loop-test .left)
 
 pub run-loops-spec : {M : Type 1} → statement M
 run-loops-spec =
@@ -48,6 +60,7 @@ run-loops-spec =
     (tie.spec
     Inv-loop
     μ-loop
+    loops-in-requires
     loop-holds
     run-loop-requires
     add-k

@@ -1,5 +1,5 @@
-use Rattle.plain.proofs.Laws.{held-asks, held-unlike, held-run}
 use denote.Ref.{now}
+use Rattle.plain.proofs.Laws.{held-asks, held-unlike, held-run}
 use borrow.Author.Needs.{needs}
 use Rattle.plain.proofs.run_table.Statement.{statement}
 use Rattle.plain.proofs.run_table.Tie as tie
@@ -14,25 +14,27 @@ cast-if1 : tie.Need-cast-if1
 cast-if1 c = search needs
 
 returns : tie.Need-returns
-returns c = let a = c .before .before .before .before .args in
-    let d = now (a .store) in
-    let (rows, z, k) = c .before .before .before .before .pre .0 in
-    held-unlike d (a .many) (a .loops) rows z k (c .before .before .before .before .pre .1) (c .before .before .bases-of .result .firsts) (c .before .before .bases-of .ensures) (now (a .memory)) (c .if1 .taken)
+returns c =
+    let d = c .before .before in
+    let b = d .before .before in
+    held-unlike (now (b .args .store)) (b .pre) (d .bases-of .result .firsts) (d .bases-of .ensures) (now (b .args .memory)) (c .if1 .taken)
 
 run-loops-requires : tie.Need-run-loops-requires
-run-loops-requires c κs = let a = c .before .before .before .before .before .before .args in
-    let d = now (a .store) in
-    let (rows, z, k) = c .before .before .before .before .before .before .pre .0 in
-    held-asks d (a .many) (a .loops) rows z k (c .before .before .before .before .before .before .pre .1) (c .before .before .before .before .bases-of .result .firsts) (c .before .before .before .before .bases-of .ensures) (now (a .memory)) (c .before .before .if1 .left)
+run-loops-requires c κs =
+    let d = c .before .before .before .before in
+    let b = d .before .before in
+    held-asks (now (b .args .store)) (b .pre) (d .bases-of .result .firsts) (d .bases-of .ensures) (now (b .args .memory)) (c .before .before .if1 .left)
 
 same-length : tie.Need-same-length
 same-length c = search needs
 
 returns-2 : tie.Need-returns-2
-returns-2 c = let a = c .before .before .before .before .before .before .before .before .before .args in
-    let d = now (a .store) in
-    let (rows, z, k) = c .before .before .before .before .before .before .before .before .before .pre .0 in
-    held-run d (a .many) (a .loops) rows z k (c .before .before .before .before .before .before .before .before .before .pre .1) (c .before .before .before .before .before .before .before .bases-of .result .firsts) (c .before .before .before .before .before .before .before .bases-of .ensures) (now (a .memory)) (c .before .before .before .before .before .if1 .left) _ (c .before .before .run-loops .ensures)
+returns-2 c =
+    let i = c .before .before .before .before .before in
+    let d = i .before .before in
+    let b = d .before .before in
+    held-run (now (b .args .store)) (b .pre) (d .bases-of .result .firsts) (d .bases-of .ensures) (now (b .args .memory)) (i .if1 .left) _
+    (c .before .before .run-loops .ensures)
 
 pub run-table-spec : {M : Type 1} → statement M
 run-table-spec =
