@@ -1,0 +1,1 @@
+-- A step of an accepted plan.
