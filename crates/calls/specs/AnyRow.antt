@@ -1,123 +1,100 @@
--- DEMAND 3. One accepted table and P, and any memory of the table's length. For every row of step calls from counts of 0, whatever numbers
--- they name: once every iteration has been reported, the memory is what the plain run leaves from the same start.
+-- DEMAND 3. One accepted table with its plan, and any memory of the table's length. For every row of step calls from counts of 0, whatever
+-- numbers they name: once every iteration has been reported, the memory is what the plain run leaves from the same start.
 use Prim.Native.Nat.{ℕ, _<_}
 use native.Mathlib.Omega.{arith}
-use mathlib.Core.Path.{_≡_, refl, sym, ap, subst, _∙_, fun-ext}
-use mathlib.Core.Logic.{⊎-elim}
-use mathlib.Core.List.{List, _∷_, _++_, List·Memᴰ·cases-cons}
-use mathlib.Core.List.{List·Memᴰ as Mem, List·Memᴰ·head as mhere, List·Memᴰ·tail as mthere}
-use lib.ListN.{length}
+use mathlib.Core.Path.{_≡_, sym, _∙_}
+use mathlib.Core.List.{List, _++_}
+use mathlib.Core.List.{List·Memᴰ as Mem}
+use lib.ListN.{drop}
 use lib.Ieee.{Float}
 use Rattle.order.specs.Lists.{Before, NoDup}
-use Rattle.order.specs.Reorder.{runAll}
-use Rattle.order.specs.Machine.{trace, zeros, left}
 use Rattle.model.specs.declared.Iteration.{Iteration}
-use Rattle.model.specs.declared.Reference.{Reference}
-use Rattle.model.specs.Table.{Table, iteration, Inside}
+use Rattle.model.specs.Table.{Inside}
 use Rattle.model.specs.References.{allRefs}
-use Rattle.model.specs.Bodies.{run}
-use Rattle.model.specs.Sound.{Sound}
+use Rattle.model.specs.PlainRun.{plainRun}
 use Rattle.reader.specs.Reading.{accepted}
 use Rattle.chains.specs.Dependence.{Dependence}
-use Rattle.chains.specs.Tables.{refs-number, meet-dependence, plan-legal}
-use Rattle.tables.specs.Nine.{accepted-sound}
+use Rattle.chains.specs.Tables.{meet-dependence}
 use Rattle.blocks.specs.Sums.{column}
-use Rattle.lists.specs.Fusion.{fused-list, fused-known, peeled-known}
-use Rattle.rows.specs.Legal.{NoneMissed, Legal}
-use Rattle.rows.specs.Theorem as rows
-use Rattle.plans.specs.Plans.{shiftOf, peelOf, planOf, planned}
-use Rattle.plans.specs.Known.{valid}
-use Rattle.plans.specs.Fitting.{planned-fits}
-use Rattle.iterations.specs.Memory.{total}
+use Rattle.lists.specs.Fusion.{Once, once as in-one-list, owner, phase}
+use Rattle.rows.specs.Theorem.{any-schedule}
+use Rattle.turns.specs.Turn.{performs}
+use Rattle.turns.specs.Row.{noneDone, reports, countsAfter, memoryAfter, reportsTo}
+use Rattle.turns.specs.Reach.{Reachable}
+use Rattle.turns.specs.Follows.{performed, started}
+use Rattle.turns.specs.Complete as turns
+use Rattle.turns.specs.Own as own
+use Rattle.turns.specs.Reached as reach
+use Rattle.plans.specs.Plans.{Settings, Planned, planned}
+use Rattle.plans.specs.Accepted.{planned-accepts}
 use Rattle.plain.specs.Plain.{plainMemory, plain-memory}
-use Rattle.stepping.specs.declared.Report.{Report}
-use Rattle.stepping.specs.declared.Report.the-variants.{Refused, Performed, Waiting, Finished}
-use Rattle.stepping.specs.Step.{fused, peeled}
-use Rattle.stepping.specs.Row.{noneDone, reports, memoryAfter}
-use Rattle.stepping.specs.Reach.{none-done, none-reachable}
-use Rattle.calls.specs.Turns.{done, machine}
-use Rattle.calls.specs.Rows.{performed, few, wide, follows, Follows}
+use Rattle.stepping.specs.Step.{workOf, fused, peeled, step}
+use Rattle.calls.specs.Calls.{Fits, fit, lists, calls}
 
--- a report names an iteration exactly if it is among those performed
-pub performed-mem : (x : Iteration) (rs : List Report) → Mem (Performed (x .number) (x .index)) rs → Mem x (performed rs)
-performed-mem x rs (mhere {xs = l} e) = subst (λ (r : Report). Mem x (done r ++ performed l)) e (mhere refl)
-performed-mem x rs (mthere {x = Refused n p} {xs = l} m) = performed-mem x l m
-performed-mem x rs (mthere {x = Performed k i} {xs = l} m) = mthere (performed-mem x l m)
-performed-mem x rs (mthere {x = Waiting} {xs = l} m) = performed-mem x l m
-performed-mem x rs (mthere {x = Finished} {xs = l} m) = performed-mem x l m
+-- the row has reported every iteration of every loop
+abbrev pub Complete : List ℕ → Settings → Planned → List ℕ → List Float → Type 0
+Complete s w q bs m = (x : Iteration) → Inside (q .table) x → Mem (performs x) (reports (step s w) bs noneDone m)
 
-pub mem-performed : (x : Iteration) (rs : List Report) → Mem x (performed rs) → Mem (Performed (x .number) (x .index)) rs
-mem-performed x (Refused n p ∷ rs) m = mthere (mem-performed x rs m)
-mem-performed x (Performed k i ∷ rs) m =
-    ⊎-elim (λ (e : x ≡ iteration k i). mhere (ap (λ (y : Iteration). Performed (y .number) (y .index)) e)) (λ h. mthere (mem-performed x rs h)) (List·Memᴰ·cases-cons m)
-mem-performed x (Waiting ∷ rs) m = mthere (mem-performed x rs m)
-mem-performed x (Finished ∷ rs) m = mthere (mem-performed x rs m)
+module _ (s : List ℕ) (w : Settings) (q : Planned) (planned-is : planned s w ≡ accepted q) where
+  -- the iterations of the table are those of the lists
+  home : Once (q .table) (q .plan) (fit s w q planned-is .wide)
+  home = in-one-list (q .table) (q .plan) (fit s w q planned-is .wide)
 
-module _ (s : List ℕ) (P : ℕ) (t : Table) (planned-is : planned s P ≡ accepted t) where
-  -- THE PLAN IS LEGAL, and no dependence is missed
-  sound : Sound t
-  sound = accepted-sound s t (planned-fits s P t planned-is .read)
+  module _ (bs : List ℕ) (m : List Float) where
+    listed : Complete s w q bs m → turns.Complete (lists s w q planned-is) (step s w) bs m
+    listed all n b x l i h = all x (home .alone n b x l i h .0)
 
-  abbrev Counts : Reference → Reference → Type 0
-  Counts = Dependence (allRefs t)
+    pub unlisted : turns.Complete (lists s w q planned-is) (step s w) bs m → Complete s w q bs m
+    unlisted all x i = let (l, j, h) = home .listed x i in all (phase (q .table) (q .plan) x) (owner (q .table) (q .plan) x) x j l h
 
-  none-missed : NoneMissed Counts t
-  none-missed = meet-dependence t
-
-  legal : Legal Counts t (planOf t P)
-  legal =
-      let (shift, peel) = plan-legal t (valid s t (planned-fits s P t planned-is .read) .few-loops) in
-      record {
-        shifted = λ j k r q d. omega (arith, shift r q (d .counts), ap (shiftOf t) (refs-number t j r (d .left)), ap (shiftOf t) (refs-number t k q (d .right)));
-        peeled = λ j k r q d. omega (arith, peel r q (d .counts), ap (peelOf t) (refs-number t j r (d .left)), ap (peelOf t) (refs-number t k q (d .right)));
-      }
-
-  module _ (bs : List ℕ) (m : List Float) (fits : length m ≡ total t) where
-    -- what the row's calls report, in order
-    abbrev pub row : List Iteration
-    row = performed (reports s P bs noneDone m)
-
-    follow : Follows s P t planned-is bs noneDone m
-    follow = follows s P t planned-is bs noneDone m fits (none-reachable t P)
-
-    pub none-is : column noneDone ≡ zeros
-    none-is = fun-ext none-done
-
-    pub row-is : row ≡ rows.reported t (planOf t P) (wide s P t planned-is) bs
-    row-is = follow .iterations ∙ ap (trace (machine t P (few s P t planned-is) (wide s P t planned-is)) bs) none-is
-
-    -- the row has reported every iteration of every loop
-    abbrev pub Complete : Type 0
-    Complete = (x : Iteration) → Inside t x → Mem (Performed (x .number) (x .index)) (reports s P bs noneDone m)
-
-    all-reported : Complete → rows.AllReported t (planOf t P) (wide s P t planned-is) bs
-    all-reported all x i = rw (← row-is) (performed-mem x (reports s P bs noneDone m) (all x i))
-
-    pub any-row : Complete → memoryAfter s P bs noneDone m ≡ plainMemory s m
+  module _ (bs : List ℕ) (m : List Float) (fits : Fits q m) where
+    pub any-row : Complete s w q bs m → memoryAfter (step s w) bs noneDone m ≡ plainMemory s m
     any-row all =
-        follow .memory
-        ∙ ap (λ (l : List Iteration). runAll (run t) l m) (sym (follow .iterations) ∙ row-is)
-        ∙ rows.any-row t sound Counts none-missed (planOf t P) legal (wide s P t planned-is) bs (all-reported all) m
-        ∙ sym (plain-memory s t m (planned-fits s P t planned-is .read) fits)
+        let f = fit s w q planned-is in
+        turns.any-row (calls s w q planned-is) bs m fits (plainRun (q .table))
+        (any-schedule (q .table) (f .sound) (Dependence (allRefs (q .table))) (meet-dependence (q .table)) (q .plan) (f .legal) (f .wide))
+        (listed bs m all)
+        ∙ sym (plain-memory s (q .table) m (planned-accepts s w q planned-is .read) fits)
 
-    -- BESIDE IT, of every row, complete or not: no iteration is reported twice
+    -- BESIDE IT, of every row, complete or not. What its calls perform, in order:
+    abbrev pub row : List Iteration
+    row = performed (reports (step s w) bs noneDone m)
+
+    -- no iteration is reported twice
     pub once : NoDup row
-    once = rw row-is (rows.once-reported t (planOf t P) (wide s P t planned-is) bs)
+    once = turns.once (calls s w q planned-is) bs m fits
+
+    -- none of a later phase is reported before the last one of an earlier phase
+    pub by-phase : (i j a b : ℕ) (x y : Iteration) → i < j → j < workOf q .phases → a < q .plan .processors → b < q .plan .processors
+        → Mem y (workOf q .list i a) → Mem x (workOf q .list j b) → Mem x row → Before y x row
+    by-phase = turns.barrier (calls s w q planned-is) bs m fits
 
     -- no peeled iteration is reported before the last fused one
-    pub barrier : (a b : ℕ) (x y : Iteration) → a < P → b < P → Mem x (peeled t P a) → Mem y (fused t P b) → Mem x row → Before y x row
-    barrier a b x y i j p f =
-        let late = peeled-known t (planOf t P) (wide s P t planned-is) a x i p .1 in
-        let early = fused-known t (planOf t P) (wide s P t planned-is) b y j f .1 in
-        rw row-is (λ h. rows.barrier t (planOf t P) (wide s P t planned-is) bs x y h late (fused-list t (planOf t P) b y j .0 f .0) early)
+    pub barrier : (a b : ℕ) (x y : Iteration) → a < q .plan .processors → b < q .plan .processors → Mem x (peeled q a) → Mem y (fused q b)
+        → Mem x row → Before y x row
+    barrier a b x y i j p f = by-phase 0 1 b a x y (omega arith) (omega arith) j i f p
 
-  -- any two complete rows leave one memory
-  pub same-memory : (bs ds : List ℕ) (m : List Float) (fits : length m ≡ total t) → Complete bs m fits → Complete ds m fits
-      → memoryAfter s P bs noneDone m ≡ memoryAfter s P ds noneDone m
-  same-memory bs ds m fits all whole = any-row bs m fits all ∙ sym (any-row ds m fits whole)
+    -- each processor keeps its own list's order: the calls that name it have performed the first of its fused list and then its peeled list,
+    -- as many as its count says
+    pub own-calls : (d : ℕ) → d < q .plan .processors
+        → performed (reportsTo (step s w) d bs noneDone m) ++ drop (column (countsAfter (step s w) bs noneDone m) d) (fused q d ++ peeled q d)
+        ≡ fused q d ++ peeled q d
+    own-calls d l = own.own-calls (calls s w q planned-is) d l bs m fits
 
-  -- and there is a complete row
-  pub some-row : (m : List Float) (fits : length m ≡ total t) → (bs : List ℕ) × Complete bs m fits
-  some-row m fits =
-      let (bs, all) = rows.some-row t (planOf t P) (wide s P t planned-is) in
-      (bs, λ x i. mem-performed x (reports s P bs noneDone m) (rw (row-is bs m fits) (all x i)))
+    -- the counts are such as ground 15 lets in
+    pub lets-in : Reachable (workOf q) (countsAfter (step s w) bs noneDone m)
+    lets-in = started (calls s w q planned-is) bs m fits .reachable
+
+  module _ (m : List Float) (fits : Fits q m) where
+    -- and all that it lets in are reached
+    pub reached : (cs : List ℕ) → Reachable (workOf q) cs → (bs : List ℕ) × (countsAfter (step s w) bs noneDone m ≡ cs)
+    reached = reach.reached (calls s w q planned-is) m fits
+
+    -- any two complete rows leave one memory
+    pub same-memory : (bs ds : List ℕ) → Complete s w q bs m → Complete s w q ds m
+        → memoryAfter (step s w) bs noneDone m ≡ memoryAfter (step s w) ds noneDone m
+    same-memory bs ds all whole = any-row bs m fits all ∙ sym (any-row ds m fits whole)
+
+    -- and there is a complete row
+    pub some-row : (bs : List ℕ) × Complete s w q bs m
+    some-row = let (bs, all) = turns.some-row (calls s w q planned-is) m fits in (bs, unlisted bs m all)

@@ -13,36 +13,37 @@ use Rattle.model.specs.declared.Iteration.{Iteration}
 use Rattle.model.specs.Table.{Statement, Table, loop, count, first, last, iteration}
 use Rattle.model.specs.Bodies.{place, value, performed, run}
 use Rattle.model.specs.PlainRun.{upward, looped, plainRun}
-use Rattle.reader.specs.Reading.{Answer, accepted, refused, choose}
+use Rattle.reader.specs.Reading.{AnswerOf, accepted, refused, choose}
 use Rattle.grounds.specs.Statements.{sum}
 
 -- how many elements the arrays have in all
 abbrev pub total : Table → ℕ
 total t = sum (t .lengths)
 
--- 12: the memory's length n isn't the table's element total. It is asked of an accepted table alone
-unfoldable pub remembered : ℕ → Answer → Answer
-remembered n (refused g p) = refused g p
-remembered n (accepted t) = choose (eqb n (total t)) (accepted t) (refused 12 0)
+-- 12: the memory's length n isn't the element total of what was asked for. It is asked of what is accepted alone
+module _ {T : Type 0} (size : T → ℕ) where
+  unfoldable pub remembered : ℕ → AnswerOf T → AnswerOf T
+  remembered n (refused g p) = refused g p
+  remembered n (accepted t) = choose (eqb n (size t)) (accepted t) (refused 12 0)
 
--- LAWS
-pub remembered-accepted : (n : ℕ) (a : Answer) (t : Table) → remembered n a ≡ accepted t → (a ≡ accepted t) × (n ≡ total t)
-unfolding remembered
-remembered-accepted n (refused g p) t e = let z : _≡_ {A = ℕ} 0 1 = cc in absurd (omega arith)
-remembered-accepted n (accepted u) t e = go (eqb n (total u)) refl e
-  where
-    go : (b : Bool) → eqb n (total u) ≡ b → choose b (accepted u) (refused 12 0) ≡ accepted t → (accepted u ≡ accepted t) × (n ≡ total t)
-    go true f g = let z : u ≡ t = cc in (g, eqb-true n (total u) f ∙ ap total z)
-    go false f g = let z : _≡_ {A = ℕ} 0 1 = cc in absurd (omega arith)
+  -- LAWS
+  pub remembered-accepted : (n : ℕ) (a : AnswerOf T) (t : T) → remembered n a ≡ accepted t → (a ≡ accepted t) × (n ≡ size t)
+  unfolding remembered
+  remembered-accepted n (refused g p) t e = let z : _≡_ {A = ℕ} 0 1 = cc in absurd (omega arith)
+  remembered-accepted n (accepted u) t e = go (eqb n (size u)) refl e
+    where
+      go : (b : Bool) → eqb n (size u) ≡ b → choose b (accepted u) (refused 12 0) ≡ accepted t → (accepted u ≡ accepted t) × (n ≡ size t)
+      go true f g = let z : u ≡ t = cc in (g, eqb-true n (size u) f ∙ ap size z)
+      go false f g = let z : _≡_ {A = ℕ} 0 1 = cc in absurd (omega arith)
 
--- a memory of the table's length is accepted, and one of another length refused
-pub remembered-as-long : (n : ℕ) (t : Table) → n ≡ total t → remembered n (accepted t) ≡ accepted t
-unfolding remembered
-remembered-as-long n t e = rw (eq-eqb n (total t) e)
+  -- a memory of that length is accepted, and one of another length refused
+  pub remembered-as-long : (n : ℕ) (t : T) → n ≡ size t → remembered n (accepted t) ≡ accepted t
+  unfolding remembered
+  remembered-as-long n t e = rw (eq-eqb n (size t) e)
 
-pub remembered-unlike : (n : ℕ) (t : Table) → (n ≡ total t → ⊥) → remembered n (accepted t) ≡ refused 12 0
-unfolding remembered
-remembered-unlike n t e = rw (ne-eqb n (total t) e)
+  pub remembered-unlike : (n : ℕ) (t : T) → (n ≡ size t → ⊥) → remembered n (accepted t) ≡ refused 12 0
+  unfolding remembered
+  remembered-unlike n t e = rw (ne-eqb n (size t) e)
 
 -- no statement changes the memory's length
 module _ (ns : List ℕ) (i : ℕ) where

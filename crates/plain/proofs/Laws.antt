@@ -118,14 +118,14 @@ module _ (cs bs : List ℕ) (m₀ : List Float) where
 module _ (c : List ℕ) (h : Held c × Valid (tableIn c)) (bs : List ℕ) (b : Based bs (tableIn c .lengths)) (m : List Float) where
   abbrev Answered : ℕ → List Float → Type 0
   Answered r n =
-      (r ≡ numberOf (remembered (length m) (accepted (tableIn c)))) × (n ≡ after (remembered (length m) (accepted (tableIn c))) m)
+      (r ≡ numberOf (remembered total (length m) (accepted (tableIn c)))) × (n ≡ after (remembered total (length m) (accepted (tableIn c))) m)
 
   held-total : getD bs 16 0 ≡ total (tableIn c)
   held-total = based-total bs (tableIn c .lengths) 16 b (h .1 .few-arrays) (omega arith)
 
   pub held-unlike : (length m ≡ getD bs 16 0 → ⊥) → Answered 12 m
   unfolding after
-  held-unlike e = let z = remembered-unlike (length m) (tableIn c) (λ q. e (q ∙ sym held-total)) in rw z (refl, refl)
+  held-unlike e = let z = remembered-unlike total (length m) (tableIn c) (λ q. e (q ∙ sym held-total)) in rw z (refl, refl)
 
   module _ (e : length m ≡ getD bs 16 0) where
     pub held-asks : Running c bs m
@@ -133,19 +133,19 @@ module _ (c : List ℕ) (h : Held c × Valid (tableIn c)) (bs : List ℕ) (b : B
 
     pub held-run : (n : List Float) → n ≡ plainRun (tableIn c) m → Answered 0 n
     unfolding after
-    held-run n f = let z = remembered-as-long (length m) (tableIn c) (e ∙ held-total) in rw z (refl, f)
+    held-run n f = let z = remembered-as-long total (length m) (tableIn c) (e ∙ held-total) in rw z (refl, f)
 
 -- WHAT IS TOLD
 -- 12 has place 0, and is not 9
-twelve : (n : ℕ) (t : Table) → (0 ≡ placeOf (remembered n (accepted t))) × (numberOf (remembered n (accepted t)) ≡ 9 → ⊥)
+twelve : (n : ℕ) (t : Table) → (0 ≡ placeOf (remembered total n (accepted t))) × (numberOf (remembered total n (accepted t)) ≡ 9 → ⊥)
 twelve n t = go (ℕ-discrete n (total t))
   where
-    go : Dec (n ≡ total t) → (0 ≡ placeOf (remembered n (accepted t))) × (numberOf (remembered n (accepted t)) ≡ 9 → ⊥)
-    go (yes e) = rw (remembered-as-long n t e) (refl, λ q. omega (arith, q))
-    go (no e) = rw (remembered-unlike n t e) (refl, λ q. omega (arith, q))
+    go : Dec (n ≡ total t) → (0 ≡ placeOf (remembered total n (accepted t))) × (numberOf (remembered total n (accepted t)) ≡ 9 → ⊥)
+    go (yes e) = rw (remembered-as-long total n t e) (refl, λ q. omega (arith, q))
+    go (no e) = rw (remembered-unlike total n t e) (refl, λ q. omega (arith, q))
 
 -- 12 is asked of an accepted table alone
-refused-stays : (n : ℕ) (a : Answer) → (numberOf a ≡ 0 → ⊥) → (remembered n a ≡ a) × ((m : List Float) → m ≡ after a m)
+refused-stays : (n : ℕ) (a : Answer) → (numberOf a ≡ 0 → ⊥) → (remembered total n a ≡ a) × ((m : List Float) → m ≡ after a m)
 unfolding remembered after
 refused-stays n (accepted t) e = absurd (e refl)
 refused-stays n (refused g p) e = (refl, λ m. refl)
@@ -164,8 +164,8 @@ module _ (s c : List ℕ) (r : Verdict) (through : ReadThrough s r c) (m : List 
         let (e, h) = through .held none in
         (h, accepted-valid s (tableIn c) (accepted-read s (tableIn c) e .0))
 
-    pub run-accepted : (x : ℕ) (n : List Float) → x ≡ numberOf (remembered (length m) (accepted (tableIn c)))
-        → n ≡ after (remembered (length m) (accepted (tableIn c))) m → Told s (plainAnswer s (length m)) (verdict x 0 0) × (n ≡ plainMemory s m)
+    pub run-accepted : (x : ℕ) (n : List Float) → x ≡ numberOf (remembered total (length m) (accepted (tableIn c)))
+        → n ≡ after (remembered total (length m) (accepted (tableIn c))) m → Told s (plainAnswer s (length m)) (verdict x 0 0) × (n ≡ plainMemory s m)
     unfolding plainAnswer plainMemory
     run-accepted x n e f =
         let (place, other) = twelve (length m) (tableIn c) in

@@ -13,7 +13,7 @@ use Rattle.iterations.specs.Memory.{total, remembered}
 
 -- 1 to 9, then 12, for a memory of n elements
 unfoldable pub plainAnswer : List ℕ → ℕ → Answer
-plainAnswer s n = remembered n (table s)
+plainAnswer s n = remembered total n (table s)
 
 -- a refused run changes nothing
 unfoldable pub after : Answer → List Float → List Float

@@ -44,8 +44,8 @@ fn run_loops(store: &Store, bases: &[u32; 17], memory: &mut [f64])
 // The table in this store, on a memory of its length; else 12.
 fn run_table(store: &Store, memory: &mut [f64]) -> usize
     requires { ⌜ Held (now store) × Valid (tableIn (now store)) ⌝ }
-    ensures { λ r. ⌜ r ≡ numberOf (remembered (length (now (memory .entry))) (accepted (tableIn (now (store .entry))))) ⌝ }
-    ensures { λ r. ⌜ now (memory .exit) ≡ after (remembered (length (now (memory .entry))) (accepted (tableIn (now (store .entry))))) (now (memory .entry)) ⌝ }
+    ensures { λ r. ⌜ r ≡ numberOf (remembered total (length (now (memory .entry))) (accepted (tableIn (now (store .entry))))) ⌝ }
+    ensures { λ r. ⌜ now (memory .exit) ≡ after (remembered total (length (now (memory .entry))) (accepted (tableIn (now (store .entry))))) (now (memory .entry)) ⌝ }
 {
     let b = iterations::bases_of(store);
     let bases = b.firsts;

@@ -2,10 +2,10 @@
 use Prim.Native.Nat.{ℕ, _+_, _≤_, _<_}
 use native.Mathlib.Omega.{arith}
 use mathlib.Core.Path.{_≡_, refl, sym, ap, subst, _∙_}
-use mathlib.Core.Bool.{Bool, true, false, false≢true, _||_, or-false}
+use mathlib.Core.Bool.{Bool, true, false, false≢true, _||_, or-false, or-true}
 use mathlib.Core.List.{List}
 use lib.Dec.{eqb, ltb, leb}
-use borrow.Author.Tests.{eqb-false, ltb-false, leb-false, lt-leb}
+use borrow.Author.Tests.{eqb-false, ltb-false, leb-false, lt-leb, le-leb}
 use Rattle.model.specs.Table.{Table, count, first, last}
 use Rattle.model.specs.References.{allRefs}
 use Rattle.model.specs.Sound.{Sound}
@@ -129,6 +129,11 @@ planned-accepts s w q e =
 pub named-below : (s : List ℕ) (w : Settings) (b : ℕ) → b < w .processors → plannedFor s w b ≡ planned s w
 unfolding planned plannedFor
 named-below s w b l = rw (lt-leb (w .processors) b l, or-false (badProcessors w))
+
+-- a number that is not below P is 10, whatever else there is
+pub named-past : (s : List ℕ) (w : Settings) (b : ℕ) (q : Planned) → planned s w ≡ accepted q → w .processors ≤ b → plannedFor s w b ≡ refused 10 0
+unfolding plannedFor fitting
+named-past s w b q e l = rw (planned-accepts s w q e .read, le-leb (w .processors) b l, or-true (badProcessors w))
 
 pub named-accepts : (s : List ℕ) (w : Settings) (b : ℕ) (q : Planned) → plannedFor s w b ≡ accepted q → (planned s w ≡ accepted q) × (b < w .processors)
 unfolding plannedFor

@@ -1,19 +1,18 @@
 -- Demand 3 over the definitions. Take a table that grounds 5, 7 and 9 do not refuse, shifts and peels that keep every dependence, and
--- blocks with the gaps. Every row of turns that has reported every iteration leaves the memory that the plain run leaves. Assumes nothing.
+-- blocks with the gaps. Every complete schedule of their lists leaves the memory that the plain run leaves. Assumes nothing.
 use mathlib.Core.Path.{_≡_, sym, _∙_}
 use mathlib.Core.Logic.{_⊎_, inl, inr, ⊎-elim, _≢_, _↔_}
-use mathlib.Core.List.{List, [], _++_, append-nil}
+use mathlib.Core.List.{List}
 use mathlib.Core.List.{List·Memᴰ as Mem}
 use Prim.Native.Nat.{ℕ, zero, suc, _+_, _≤_, _<_}
 use native.Mathlib.Decide.{decLe, decLt}
 use native.Mathlib.Omega.{arith}
 use lib.Ieee.{Float}
-use Rattle.order.specs.Lists.{if-yes, Before, before-left, before-right, NoDup}
+use Rattle.order.specs.Lists.{Before, before-left, before-right}
 use Rattle.order.specs.Reorder.{runAll, Commute}
-use Rattle.order.specs.Machine.{Plan, mine, Complete}
-use Rattle.order.specs.Exists.{complete-exists}
+use Rattle.order.specs.Machine.{Complete, trace, zeros}
 use Rattle.order.specs.Plain.{Covers}
-use Rattle.order.specs.Rows.{Ordered, plan, whole, rows-covers, any-schedule-by-keys}
+use Rattle.order.specs.Rows.{Ordered, plan, rows-covers, any-schedule-by-keys}
 use Rattle.model.specs.declared.Iteration.{Iteration}
 use Rattle.model.specs.declared.Reference.{Reference}
 use Rattle.model.specs.Table.{Table, count, first, last, Inside}
@@ -23,11 +22,9 @@ use Rattle.model.specs.Sound.{Sound}
 use Rattle.model.specs.Commute.{Clash, commutes}
 use Rattle.blocks.specs.Index.{same-part}
 use Rattle.lists.specs.Order.{Less, less-key}
-use Rattle.lists.specs.Fusion.{Fusion, Wide, fusedList, peeledList, owner, phase, key, rank, pastAll, index-below, rows, once}
+use Rattle.lists.specs.Fusion.{Fusion, Wide, phases, work, owner, phase, key, rank, pastAll, index-below, rows, once}
 use Rattle.rows.specs.PlainOrder.{plain, plain-mem, plain-before, plain-once, plain-run}
 use Rattle.rows.specs.Legal.{Depends, NoneMissed, Legal, contained}
-use Rattle.order.specs.Reported.{reports, remains}
-use Rattle.order.specs.Reported.{own-order as own-order-of, reports-once, after-earlier, reported-complete, complete-reported}
 
 -- two iterations clash, if the table has them
 abbrev pub Dependent : Table → Iteration → Iteration → Type 0
@@ -42,70 +39,17 @@ inside? t x = go (decLt (x .number) (count t)) (decLe (first t (x .number)) (x .
     go (yes p) (no q) r = no (λ h. q (h .1))
     go (no p) q r = no (λ h. p (h .0))
 
--- WHAT HOLDS OF THE LISTS ALONE
+-- the lists have every iteration of the plain order, each in the list of its phase and its processor
 module _ (t : Table) (c : Fusion) (wide : Wide t c) where
-  open Fusion c using (processors)
-
-  abbrev pub planOf : Plan Iteration
-  planOf = plan (rows t c wide)
-
-  -- what a row of turns reports, whatever numbers it names, from counts of 0
-  abbrev pub reported : List ℕ → List Iteration
-  reported bs = reports planOf bs
-
-  -- every iteration of the table
-  abbrev pub AllReported : List ℕ → Type 0
-  AllReported bs = (x : Iteration) → Inside t x → Mem x (reported bs)
-
   pub in-one-list : (x : Iteration) → Mem x (plain t)
-      ↔ ((owner t c x < processors) × (phase t c x < 2) × Mem x (rows t c wide .work (phase t c x) (owner t c x)))
+      ↔ ((owner t c x < c .processors) × (phase t c x < phases t c) × Mem x (work t c (phase t c x) (owner t c x)))
   in-one-list x = (
     λ m. once t c wide .listed x (plain-mem t x .0 m),
     λ (l, i, m). plain-mem t x .1 (once t c wide .alone (phase t c x) (owner t c x) x i l m .0),
   )
 
-  covers : Covers planOf (plain t)
+  pub covers : Covers (plan (rows t c wide)) (plain t)
   covers = rows-covers (rows t c wide) (plain t) (plain-once t) in-one-list
-
-  -- a processor's list is its fused list and then its peeled list
-  pub list-of : (b : ℕ) → b < processors → planOf .list b ≡ fusedList t c b ++ peeledList t c b
-  list-of b l = if-yes (decLt b processors) (whole (rows t c wide) b) [] l
-
-  in-list : (x : Iteration) → Inside t x → Mem x (planOf .list (owner t c x))
-  in-list x i = covers .same x .0 (plain-mem t x .1 i)
-
-  listed-inside : (b : ℕ) (x : Iteration) → Mem x (planOf .list b) → Inside t x
-  listed-inside b x m = plain-mem t x .0 (covers .same x .1 (rw (planOf .owned b x m) m))
-
-  -- no iteration is reported twice
-  pub once-reported : (bs : List ℕ) → NoDup (reported bs)
-  once-reported bs = reports-once planOf bs
-
-  -- each processor keeps its own list's order: what it has done, and then what it has left, is its fused list and then its peeled list
-  pub own-order : (bs : List ℕ) (b : ℕ) → b < processors
-      → mine planOf b (reported bs) ++ remains planOf bs b ≡ fusedList t c b ++ peeledList t c b
-  own-order bs b l = own-order-of planOf bs b ∙ list-of b l
-
-  -- no peeled iteration before the last fused one: whatever is peeled stands after every fused iteration of the table
-  pub barrier : (bs : List ℕ) (x y : Iteration) → Mem x (reported bs) → phase t c x ≡ 1 → Inside t y → phase t c y ≡ 0
-      → Before y x (reported bs)
-  barrier bs x y m e i f = after-earlier planOf bs (owner t c y) x y (in-list y i) (omega arith) m
-
-  all-complete : (bs : List ℕ) → AllReported bs → Complete planOf bs
-  all-complete bs all = reported-complete planOf bs (λ b x m. all x (listed-inside b x m))
-
-  -- a row that has reported every iteration has done each list whole
-  pub own-list : (bs : List ℕ) (b : ℕ) → b < processors → AllReported bs
-      → mine planOf b (reported bs) ≡ fusedList t c b ++ peeledList t c b
-  own-list bs b l all = rw (all-complete bs all b, append-nil) at (own-order bs b l)
-
-  -- and the other way round
-  pub complete-all : (bs : List ℕ) → Complete planOf bs → AllReported bs
-  complete-all bs done x i = complete-reported planOf bs done (owner t c x) x (in-list x i)
-
-  -- there is such a row
-  pub some-row : (bs : List ℕ) × AllReported bs
-  some-row = let (bs, done) = complete-exists planOf in (bs, complete-all bs done)
 
 -- DEMAND 3
 module _ (t : Table) (sound : Sound t) (Counts : Reference → Reference → Type 0) (none-missed : NoneMissed Counts t)
@@ -160,9 +104,9 @@ module _ (t : Table) (sound : Sound t) (Counts : Reference → Reference → Typ
       go (yes m) (no n) = absurd (free (λ i j. absurd (n j)))
       go (no m) n = absurd (free (λ i j. absurd (m i)))
 
-  -- every row that has reported every iteration leaves the memory of the plain run, from the same start
-  pub any-row : (bs : List ℕ) → AllReported t c wide bs → (m : List Float) → runAll (run t) (reported t c wide bs) m ≡ plainRun t m
-  any-row bs all m =
-      any-schedule-by-keys (rows t c wide) (plain t) (plain-once t) (in-one-list t c wide) (Dependent t) ordered (run t) commute bs
-      (all-complete t c wide bs all) m
+  -- every complete schedule leaves the memory of the plain run, from the same start
+  pub any-schedule : (bs : List ℕ) → Complete (plan (rows t c wide)) bs → (m : List Float)
+      → runAll (run t) (trace (plan (rows t c wide)) bs zeros) m ≡ plainRun t m
+  any-schedule bs whole m =
+      any-schedule-by-keys (rows t c wide) (plain t) (plain-once t) (in-one-list t c wide) (Dependent t) ordered (run t) commute bs whole m
       ∙ sym (plain-run t m)

@@ -1,8 +1,8 @@
--- one step: the barrier, ground 15, and what a call leaves
+-- one step, from a table's bytes
 pub mod Step
--- rows of calls, and the row of a run in a caller's order
-pub mod Row
--- the counts that rows reach, and what a step does from them
+-- the run in a caller's order
+pub mod Run
+-- a step of an accepted plan
 pub mod Reach
--- what a step's report says
+-- what a step says
 pub mod Meaning

@@ -1,124 +1,127 @@
 -- What a step's report says.
 use Prim.Native.Nat.{ℕ, _+_, _≤_, _<_}
 use native.Mathlib.Omega.{arith}
-use mathlib.Core.Path.{_≡_, refl, sym, ap, _∙_, subst}
-use mathlib.Core.Logic.{_⊎_, inl, inr, ⊎-elim}
-use mathlib.Core.Bool.{Bool, true, false}
-use mathlib.Core.List.{List, _++_, List·Memᴰ·append-cases}
-use lib.ListN.{length, getD, length-append, List·getD-append}
+use mathlib.Core.Path.{_≡_, refl, sym, ap, subst, _∙_}
+use mathlib.Core.Logic.{_⊎_, inl, inr}
+use mathlib.Core.Bool.{Bool, true, false, false≢true}
+use mathlib.Core.List.{List, _++_}
+use lib.ListN.{length, getD}
 use lib.Ieee.{Float}
-use Rattle.order.specs.Lists.{nth-mem}
+use Rattle.order.specs.Lists.{nth-mem, mem-joined}
 use Rattle.model.specs.declared.Iteration.{Iteration}
-use Rattle.model.specs.Table.{Table, iteration, Inside}
-use Rattle.reader.specs.Reading.{Answer, accepted, refused}
-use Rattle.blocks.specs.Sums.{column}
+use Rattle.model.specs.Table.{iteration, Inside}
+use Rattle.model.specs.Bodies.{run}
+use Rattle.reader.specs.Reading.{AnswerOf, accepted, refused}
 use Rattle.grounds.specs.Accepted.{valid-last}
-use Rattle.lists.specs.Fusion.{fused-list, peeled-list}
-use Rattle.plans.specs.Plans.{planOf, planned, plannedFor}
-use Rattle.plans.specs.Known.{valid}
-use Rattle.plans.specs.Fitting.{planned-fits, named-fits}
-use Rattle.iterations.specs.Memory.{total, remembered, remembered-accepted}
+use Rattle.blocks.specs.Sums.{column}
+use Rattle.lists.specs.Fusion.{once}
+use Rattle.turns.specs.Turn.{Said, refuses, performs, waits, ends, After, stays, wrongState, next, turn, stepped}
+use Rattle.turns.specs.Meaning.{own, turn-said, performs-says, waits-says, ends-says}
+use Rattle.plans.specs.Plans.{Settings, Planned, planned, plannedFor}
+use Rattle.plans.specs.Accepted.{planned-accepts, named-accepts}
+use Rattle.iterations.specs.Memory.{remembered, remembered-accepted}
 use Rattle.stepping.specs.declared.Report.{Report}
-use Rattle.stepping.specs.declared.Report.the-variants.{Refused, Performed, Waiting, Finished}
-use Rattle.stepping.specs.Step.{After, stays, fused, peeled, wrongState, turn, stepped, step}
-use Rattle.stepping.specs.Reach.{late-nth, Opened, Turn, early, waits, late, ends, turn-is, closed-opened, closed-which}
+use Rattle.stepping.specs.declared.Report.the-variants.{Performed, Waiting, Finished}
+use Rattle.stepping.specs.Step.{workOf, reportOf, elements, steppedBy, step, fused, peeled}
 
--- a call is refused and changes nothing, or it is a turn of an accepted table, P, memory and state
-pub record Accepts (s : List ℕ) (P b : ℕ) (cs : List ℕ) (m : List Float) (t : Table) : Type 0 where
-  pub plan : planned s P ≡ accepted t
-  pub proper : b < P
-  pub memory : length m ≡ total t
-  pub state : wrongState t P cs ≡ false
-  pub turns : step s P b cs m ≡ turn t P b cs m
+-- a report says what its call said
+said-performs : (a : Said Iteration) (k i : ℕ) → reportOf a ≡ Performed k i → a ≡ performs (iteration k i)
+said-performs (refuses n p) k i e = cc
+said-performs (performs x) k i e = let l : x .number ≡ k = cc in let j : x .index ≡ i = cc in rw (← l, ← j)
+said-performs waits k i e = cc
+said-performs ends k i e = cc
 
-pub step-is : (s : List ℕ) (P b : ℕ) (cs : List ℕ) (m : List Float)
-    → ((n : ℕ) × (p : ℕ) × (step s P b cs m ≡ stays cs m (Refused n p))) ⊎ ((t : Table) × Accepts s P b cs m t)
-unfolding step stepped
-step-is s P b cs m = go (remembered (length m) (plannedFor s P b)) refl
-  where
-    at : (t : Table) → remembered (length m) (plannedFor s P b) ≡ accepted t → (x : Bool) → wrongState t P cs ≡ x
-        → ((n : ℕ) × (p : ℕ) × (stepped P b cs m (accepted t) ≡ stays cs m (Refused n p))) ⊎ ((t : Table) × Accepts s P b cs m t)
-    at t e true f = inl (15, 0, rw f)
-    at t e false f =
-        let (a, l) = remembered-accepted (length m) (plannedFor s P b) t e in
-        let (q, proper) = named-fits s P b t a in
-        inr (t, record { plan = q; proper = proper; memory = l; state = f; turns = ap (stepped P b cs m) e ∙ (rw f) })
+said-waits : (a : Said Iteration) → reportOf a ≡ Waiting → a ≡ waits
+said-waits (refuses n p) e = cc
+said-waits (performs x) e = cc
+said-waits waits e = refl
+said-waits ends e = cc
 
-    go : (a : Answer) → remembered (length m) (plannedFor s P b) ≡ a
-        → ((n : ℕ) × (p : ℕ) × (stepped P b cs m a ≡ stays cs m (Refused n p))) ⊎ ((t : Table) × Accepts s P b cs m t)
-    go (refused n p) e = inl (n, p, refl)
-    go (accepted t) e = at t e (wrongState t P cs) refl
+said-ends : (a : Said Iteration) → reportOf a ≡ Finished → a ≡ ends
+said-ends (refuses n p) e = cc
+said-ends (performs x) e = cc
+said-ends waits e = cc
+said-ends ends e = refl
 
--- reports tell apart what was done
-abbrev tag : Report → ℕ
-tag (Refused n p) = 0
-tag (Performed k i) = 1
-tag Waiting = 2
-tag Finished = 3
+-- it is no refusal
+abbrev goesOn : Said Iteration → Bool
+goesOn (refuses n p) = false
+goesOn (performs x) = true
+goesOn waits = true
+goesOn ends = true
 
-abbrev named : Report → Iteration
-named (Refused n p) = iteration 0 0
-named (Performed k i) = iteration k i
-named Waiting = iteration 0 0
-named Finished = iteration 0 0
+module _ (s : List ℕ) (w : Settings) (b : ℕ) (cs : List ℕ) (m : List Float) where
+  -- a call is refused and changes nothing, or it is a turn of an accepted plan, memory and state
+  pub record Turns (q : Planned) : Type 0 where
+    pub plan : planned s w ≡ accepted q
+    pub proper : b < q .plan .processors
+    pub memory : length m ≡ elements q
+    pub state : wrongState (workOf q) cs ≡ false
+    pub turns : step s w b cs m ≡ turn (iteration 0 0) (workOf q) (run (q .table)) b cs m
 
--- a turn's report is a step's report
-turned : {B : Table → Type 0} (s : List ℕ) (P b : ℕ) (cs : List ℕ) (m : List Float) (r : Report) → (tag r ≡ 0 → ⊥) → step s P b cs m .report ≡ r
-    → ((t : Table) (a : After) → Turn t P b cs m a → a .report ≡ r → B t) → (t : Table) × Accepts s P b cs m t × B t
-turned {B} s P b cs m r n e f = go (step-is s P b cs m)
-  where
-    go : ((n : ℕ) × (p : ℕ) × (step s P b cs m ≡ stays cs m (Refused n p))) ⊎ ((t : Table) × Accepts s P b cs m t) → (t : Table) × Accepts s P b cs m t × B t
-    go (inl (g, p, q)) = absurd (n (ap tag (sym e ∙ ap (λ (a : After). a .report) q)))
-    go (inr (t, a)) = (t, a, f t (turn t P b cs m) (turn-is t P b cs m) (sym (ap (λ (a : After). a .report) (a .turns)) ∙ e))
+  abbrev pub IsRefused : Type 0
+  IsRefused = (n : ℕ) × (p : ℕ) × (step s w b cs m ≡ stays cs m (refuses n p))
 
--- what stands in a processor's lists are iterations of the table
-listed-inside : (t : Table) (P b : ℕ) → b < P → (n : ℕ) → n < length (fused t P b ++ peeled t P b)
-    → Inside t (getD (fused t P b ++ peeled t P b) n (iteration 0 0))
-listed-inside t P b proper n l =
-    ⊎-elim (λ h. fused-list t (planOf t P) b _ proper .0 h .0) (λ h. peeled-list t (planOf t P) b _ proper .0 h .0)
-    (List·Memᴰ·append-cases (fused t P b) (nth-mem (fused t P b ++ peeled t P b) (iteration 0 0) n l))
-
-module _ (s : List ℕ) (P b : ℕ) (cs : List ℕ) (m : List Float) where
-  -- the reported iteration is the count-th of that processor's lists
-  pub performed-nth : (k i : ℕ) → step s P b cs m .report ≡ Performed k i → (t : Table) × Accepts s P b cs m t
-      × ((column cs b < length (fused t P b ++ peeled t P b)) × (getD (fused t P b ++ peeled t P b) (column cs b) (iteration 0 0) ≡ iteration k i))
-  performed-nth k i e = turned s P b cs m (Performed k i) (λ z. omega (arith, z)) e by
+  pub step-is : IsRefused ⊎ ((q : Planned) × Turns q)
+  unfolding step steppedBy stepped
+  step-is = go (remembered elements (length m) (plannedFor s w b)) refl
     where
-      by : (t : Table) (a : After) → Turn t P b cs m a → a .report ≡ Performed k i
-          → (column cs b < length (fused t P b ++ peeled t P b)) × (getD (fused t P b ++ peeled t P b) (column cs b) (iteration 0 0) ≡ iteration k i)
-      by t a (early h) q =
-          (omega (arith, length-append (fused t P b) (peeled t P b)), List·getD-append (fused t P b) (peeled t P b) (iteration 0 0) (column cs b) h ∙ ap named q)
-      by t a (waits f c) q = absurd (omega (arith, ap tag q))
-      by t a (late f c h) q = (omega (arith, length-append (fused t P b) (peeled t P b)), late-nth t P b (column cs b) f ∙ ap named q)
-      by t a (ends f c h) q = absurd (omega (arith, ap tag q))
+      at : (q : Planned) → remembered elements (length m) (plannedFor s w b) ≡ accepted q → (x : Bool) → wrongState (workOf q) cs ≡ x
+          → IsRefused ⊎ ((q : Planned) × Turns q)
+      at q e true f = inl (15, 0, ap (steppedBy b cs m) e ∙ (rw f))
+      at q e false f =
+          let (a, l) = remembered-accepted elements (length m) (plannedFor s w b) q e in
+          let (p, proper) = named-accepts s w b q a in
+          let below : b < q .plan .processors = omega (arith, planned-accepts s w q p .counted) in
+          inr (q, record { plan = p; proper = below; memory = l; state = f; turns = ap (steppedBy b cs m) e ∙ (rw f) })
+
+      go : (a : AnswerOf Planned) → remembered elements (length m) (plannedFor s w b) ≡ a → IsRefused ⊎ ((q : Planned) × Turns q)
+      go (refused n p) e = inl (n, p, ap (steppedBy b cs m) e)
+      go (accepted q) e = at q e (wrongState (workOf q) cs) refl
+
+  -- where it is not refused, it says what comes next
+  says : (a : Said Iteration) → goesOn a ≡ true → step s w b cs m .said ≡ a → (q : Planned) × Turns q × (next (iteration 0 0) (workOf q) b cs ≡ a)
+  says a on e = go step-is
+    where
+      said : {x y : After Iteration (List Float)} → x ≡ y → x .said ≡ y .said
+      said f = ap (λ (x : After Iteration (List Float)). x .said) f
+
+      go : IsRefused ⊎ ((q : Planned) × Turns q) → (q : Planned) × Turns q × (next (iteration 0 0) (workOf q) b cs ≡ a)
+      go (inl (n, p, f)) = absurd (false≢true (ap goesOn (sym (said f) ∙ e) ∙ on))
+      go (inr (q, t)) = (q, t, sym (said (t .turns) ∙ turn-said (iteration 0 0) (workOf q) (run (q .table)) b cs m) ∙ e)
+
+  abbrev pub report : Report
+  report = reportOf (step s w b cs m .said)
+
+  -- the reported iteration is the count-th of that processor's lists
+  pub performed-nth : (k i : ℕ) → report ≡ Performed k i → (q : Planned) × Turns q
+      × ((column cs b < length (fused q b ++ peeled q b)) × (getD (fused q b ++ peeled q b) (column cs b) (iteration 0 0) ≡ iteration k i))
+  performed-nth k i e =
+      let (q, t, f) = says (performs (iteration k i)) refl (said-performs (step s w b cs m .said) k i e) in
+      (q, t, performs-says (iteration 0 0) (workOf q) (omega arith) b cs (iteration k i) f)
 
   -- waiting: its fused list is used up, and another's is not
-  pub waiting-says : step s P b cs m .report ≡ Waiting
-      → (t : Table) × Accepts s P b cs m t × ((length (fused t P b) ≤ column cs b) × ((d : ℕ) × (d < P) × (column cs d < length (fused t P d))))
-  waiting-says e = turned s P b cs m Waiting (λ z. omega (arith, z)) e by
-    where
-      by : (t : Table) (a : After) → Turn t P b cs m a → a .report ≡ Waiting
-          → (length (fused t P b) ≤ column cs b) × ((d : ℕ) × (d < P) × (column cs d < length (fused t P d)))
-      by t a (early h) q = absurd (omega (arith, ap tag q))
-      by t a (waits f c) q = (f, closed-which t P cs c)
-      by t a (late f c h) q = absurd (omega (arith, ap tag q))
-      by t a (ends f c h) q = absurd (omega (arith, ap tag q))
+  pub waiting-says : report ≡ Waiting
+      → (q : Planned) × Turns q × ((length (fused q b) ≤ column cs b) × ((d : ℕ) × (d < q .plan .processors) × (column cs d < length (fused q d))))
+  waiting-says e =
+      let (q, t, f) = says waits refl (said-waits (step s w b cs m .said) e) in
+      let (n, c, z, (d, l, h)) = waits-says (iteration 0 0) (workOf q) (omega arith) b cs f in
+      let one : n ≡ 1 = omega (arith, c .proper) in
+      (q, t, (omega (arith, rw one at (c .used)), (d, l, omega (arith, rw one at h))))
 
   -- finished: both its lists are used up, and the barrier is open
-  pub finished-says : step s P b cs m .report ≡ Finished
-      → (t : Table) × Accepts s P b cs m t × ((length (fused t P b) + length (peeled t P b) ≤ column cs b) × Opened t P cs)
-  finished-says e = turned s P b cs m Finished (λ z. omega (arith, z)) e by
-    where
-      by : (t : Table) (a : After) → Turn t P b cs m a → a .report ≡ Finished → (length (fused t P b) + length (peeled t P b) ≤ column cs b) × Opened t P cs
-      by t a (early h) q = absurd (omega (arith, ap tag q))
-      by t a (waits f c) q = absurd (omega (arith, ap tag q))
-      by t a (late f c h) q = absurd (omega (arith, ap tag q))
-      by t a (ends f c h) q = (omega arith, closed-opened t P cs c)
+  pub finished-says : report ≡ Finished → (q : Planned) × Turns q
+      × ((length (fused q b) + length (peeled q b) ≤ column cs b) × ((d : ℕ) → d < q .plan .processors → length (fused q d) ≤ column cs d))
+  finished-says e =
+      let (q, t, f) = says ends refl (said-ends (step s w b cs m .said) e) in
+      let (u, o) = ends-says (iteration 0 0) (workOf q) (omega arith) b cs f in
+      (q, t, (omega arith, λ d l. omega (arith, o d l)))
 
   -- its loop is one of sixteen, and its index is small
-  pub performed-small : (k i : ℕ) → step s P b cs m .report ≡ Performed k i → (k < 16) × (i ≤ 65790)
+  pub performed-small : (k i : ℕ) → report ≡ Performed k i → (k < 16) × (i ≤ 65790)
   performed-small k i e =
-      let (t, a, (l, q)) = performed-nth k i e in
-      let v = valid s t (planned-fits s P t (a .plan) .read) in
-      let x = subst (Inside t) q (listed-inside t P b (a .proper) (column cs b) l) in
-      (omega (arith, x .0, v .few-loops), omega (arith, x .2, valid-last t v k (x .0)))
+      let (q, t, (l, g)) = performed-nth k i e in
+      let f = planned-accepts s w q (t .plan) .fit in
+      let (n, j, h) = mem-joined (λ n. workOf q .list n b) 2 (nth-mem (own (workOf q) b) (iteration 0 0) (column cs b) l) in
+      let x = subst (Inside (q .table)) g (once (q .table) (q .plan) (f .wide) .alone n b _ j (t .proper) h .0) in
+      (omega (arith, x .0, f .valid .few-loops), omega (arith, x .2, valid-last (q .table) (f .valid) k (x .0)))

@@ -66,10 +66,10 @@ module _ {A M : Type 0} {none : A} {r : Rows A} {run : A → M → M} {Fits : M 
         reported-complete (plan r) bs
         (λ b x h. let (n, l, i, g) = mem-plan r b x h in rw (← row-is) (performed-mem x (reports step bs noneDone m) (all n b x l i g)))
 
-    -- so if every complete schedule leaves what the list L leaves, the row does (order's any-schedule-by-keys)
-    pub any-row : (L : List A) → ((ds : List ℕ) → Ends (plan r) ds → (s : M) → runAll run (trace (plan r) ds zeros) s ≡ runAll run L s)
-        → Complete r step bs m → memoryAfter step bs noneDone m ≡ runAll run L m
-    any-row L same all = started k bs m fits .memory ∙ same bs (complete-ends all) m
+    -- so if every complete schedule leaves what g does (order's any-schedule-by-keys), the row does
+    pub any-row : (g : M → M) → ((ds : List ℕ) → Ends (plan r) ds → (s : M) → runAll run (trace (plan r) ds zeros) s ≡ g s)
+        → Complete r step bs m → memoryAfter step bs noneDone m ≡ g m
+    any-row g same all = started k bs m fits .memory ∙ same bs (complete-ends all) m
 
     pub ends-complete : Ends (plan r) bs → Complete r step bs m
     ends-complete e n b x l i h =
