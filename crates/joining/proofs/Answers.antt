@@ -2,22 +2,29 @@
 use Prim.Native.Nat.{ℕ, _+_, _*_, _-_, _≤_, _<_}
 use native.Mathlib.Omega.{arith}
 use mathlib.Core.Path.{_≡_, refl, sym, ap, _∙_}
-use mathlib.Core.Bool.{true, false, not}
+use mathlib.Core.Bool.{Bool, true, false, not}
 use mathlib.Core.List.{List, _++_}
 use lib.ListN.{length, take, drop}
 use lib.Seq.{length-take-le, paste}
 use lib.Dec.{ltb}
 use borrow.Author.Tests.{lt-ltb, le-ltb}
-use Rattle.reader.specs.Accepting.{not-both}
+use Rattle.reader.specs.Accepting.{accepted-long, not-both}
+use Rattle.reader.specs.Store.{arraysIn, loopsIn, tableIn}
+use Rattle.reader.specs.Held.{few-arrays, arrays-held, count-held}
+use Rattle.serial.specs.Parallel.{accepted-parallel}
 use Rattle.outputs.specs.declared.Outcome.{Outcome}
 use Rattle.outputs.specs.Given.{Given, refused, _if_else_, fitted, final, Says}
 use Rattle.outputs.specs.Gives.{refusing, writing, outcomeOf, Gives, says-given, gives-short, gives-written}
 use Rattle.joining.specs.Joining.{alike, alike-same, bytes, bytes-length, joining}
-use Rattle.joining.specs.Told.{Told, Refusal, Held}
+use Rattle.joining.specs.Told.{Told, Refusal, Accepts}
 use Rattle.joining.proofs.Walks.{copied-both}
 
 says-refused : (s : List ℕ) (o : Outcome) → Refusal s o → Says o (refused (o .number) (o .place))
 says-refused s o h = record { number = refl; place = refl; count = h .nothing }
+
+-- an accepted table is longer than its arrays' records
+long : (s c : List ℕ) → Accepts s c → 5 * length (tableIn c .lengths) < length s
+long s c a = accepted-long s (tableIn c) (accepted-parallel s (tableIn c) (a .is) .0)
 
 -- WRITING
 module _ (left right out : List ℕ) (arrays : ℕ) where
@@ -61,7 +68,7 @@ module _ (left right out : List ℕ) where
     rw (h .is),
   )
 
-  module _ (ours : List ℕ) (arrays loops : ℕ) (l : Held left ours arrays loops) where
+  module _ (ours : List ℕ) (l : Accepts left ours) where
     pub right-refused : (o : Outcome) → Refusal right o → Result o out
     unfolding joining final
     right-refused o h = (
@@ -74,16 +81,17 @@ module _ (left right out : List ℕ) where
       rw (l .is, h .is),
     )
 
-    module _ (theirs : List ℕ) (a n : ℕ) (r : Held right theirs a n) where
+    module _ (theirs : List ℕ) (r : Accepts right theirs) where
+      abbrev same : Bool
+      same = alike (tableIn ours .lengths) (tableIn theirs .lengths)
+
       -- both are accepted: what is left of the tests
       both : joining left right (length out)
-          ≡ (refused 14 0 if not (alike (take arrays ours) (take a theirs)) else
-          refused 4 0 if ltb 16 (loops + n) else
-          fitted (length out) (bytes left right arrays))
+          ≡ (refused 14 0 if not same else
+          refused 4 0 if ltb 16 (loopsIn ours + loopsIn theirs) else
+          fitted (length out) (bytes left right (arraysIn ours)))
       unfolding joining
-      both =
-          let len : length (take arrays ours) ≡ arrays = length-take-le arrays ours (omega (arith, l .sized, l .few-arrays)) in
-          rw (l .is, r .is, ← (l .lens), ← (r .lens), l .counted, r .counted, len)
+      both = rw (l .is, r .is, count-held (l .held), count-held (r .held), arrays-held (l .held))
 
       result : (o : Outcome) (then : List ℕ) (g : Given) → joining left right (length out) ≡ g → o ≡ outcomeOf g → then ≡ final g out → Result o then
       result o then g e s f = (
@@ -96,23 +104,24 @@ module _ (left right out : List ℕ) where
         rw e f,
       )
 
-      pub unlike-arrays : (o : Outcome) → o ≡ refusing 14 0 0 → false ≡ alike (take arrays ours) (take a theirs) → Result o out
+      pub unlike-arrays : (o : Outcome) → o ≡ refusing 14 0 0 → false ≡ same → Result o out
       unfolding final
       unlike-arrays o p e = result o out (refused 14 0) (both ∙ rw (← e)) p refl
 
-      module _ (like : true ≡ alike (take arrays ours) (take a theirs)) where
-        pub many-loops : (o : Outcome) → o ≡ refusing 4 0 0 → 16 < loops + n → Result o out
+      module _ (like : true ≡ same) where
+        pub many-loops : (o : Outcome) → o ≡ refusing 4 0 0 → 16 < loopsIn ours + loopsIn theirs → Result o out
         unfolding final
         many-loops o p h = result o out (refused 4 0) (both ∙ rw (← like, lt-ltb _ _ h)) p refl
 
-        pub joined : (o : Outcome) (then : List ℕ) → loops + n ≤ 16 → Gives (bytes left right arrays) out then o → Result o then
+        pub joined : (o : Outcome) (then : List ℕ) → loopsIn ours + loopsIn theirs ≤ 16 → Gives (bytes left right (arraysIn ours)) out then o → Result o then
         joined o then h g =
-            result o then (fitted (length out) (bytes left right arrays)) (both ∙ rw (← like, le-ltb _ _ h)) (g .tells) (g .leaves)
+            result o then (fitted (length out) (bytes left right (arraysIn ours))) (both ∙ rw (← like, le-ltb _ _ h)) (g .tells) (g .leaves)
 
         -- right's arrays are as many as left's, so there is something of it past them
-        pub enough : (0 < length left) × (arrays ≤ 16) × (5 * arrays ≤ length right)
+        pub enough : (0 < length left) × (arraysIn ours ≤ 16) × (5 * arraysIn ours ≤ length right)
         enough =
-            let same : take arrays ours ≡ take a theirs = alike-same (take arrays ours) (take a theirs) (sym like) in
-            let m : length (take arrays ours) ≡ arrays = length-take-le arrays ours (omega (arith, l .sized, l .few-arrays)) in
-            let k : length (take a theirs) ≡ a = length-take-le a theirs (omega (arith, r .sized, r .few-arrays)) in
-            (omega (arith, l .long), l .few-arrays, omega (arith, r .long, ap length same))
+            let as-many = ap length (alike-same (tableIn ours .lengths) (tableIn theirs .lengths) (sym like)) in (
+              omega (arith, long left ours l),
+              few-arrays (l .held),
+              omega (arith, long right theirs r, as-many, arrays-held (l .held)),
+            )

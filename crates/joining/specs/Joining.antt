@@ -9,7 +9,7 @@ use lib.Seq.{length-take-le}
 use lib.Dec.{eqb, ltb}
 use borrow.Author.Tests.{eqb-true, eq-eqb, ltb-false, not-false}
 use Rattle.model.specs.Table.{Table, count}
-use Rattle.reader.specs.Reading.{Answer, accepted}
+use Rattle.reader.specs.Reading.{AnswerOf, Answer, accepted}
 use Rattle.serial.specs.Serial.{table}
 use Rattle.outputs.specs.Given.{Given, refused, written, _if_else_, after, fitted, refused-written, passed}
 
@@ -79,8 +79,8 @@ written-known left right room bs e = go (table left) refl (table right) refl e
         refused 4 0 if ltb 16 (count t + count u) else
         fitted room (bytes left right (length (t .lengths)))) ≡ written bs
         → Written left right room bs
-    go (Answer.refused n p) f y g h = absurd (refused-written h)
-    go (accepted t) f (Answer.refused n p) g h = absurd (refused-written h)
+    go (AnswerOf.refused n p) f y g h = absurd (refused-written h)
+    go (accepted t) f (AnswerOf.refused n p) g h = absurd (refused-written h)
     go (accepted t) f (accepted u) g h =
         let (like, h₂) = passed 14 0 (not (alike (t .lengths) (u .lengths))) _ bs h in
         let (few, h₃) = passed 4 0 (ltb 16 (count t + count u)) _ bs h₂ in

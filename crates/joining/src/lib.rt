@@ -2,20 +2,23 @@
 use outputs::Outcome;
 use outputs::refusal;
 use outputs::written;
+use records::Store;
 use serial::Checked;
 ghost use mathlib.Core.Path.{_≡_};
 ghost use Prim.Native.Nat.{_+_, _*_, _≤_, _<_};
-ghost use lib.ListN.{length, take};
+ghost use lib.ListN.{length};
 ghost use lib.Seq.{paste};
 ghost use Rattle.outputs.specs.Given.{final};
 ghost use Rattle.outputs.specs.Gives.{Gives};
 ghost use Rattle.joining.specs.Joining.{alike, bytes, joining};
-ghost use Rattle.joining.specs.Told.{Told, Held, Known};
+ghost use Rattle.reader.specs.Store.{Sized, tableIn};
+ghost use Rattle.reader.specs.Held.{Held};
+ghost use Rattle.joining.specs.Told.{Told, Accepts, Known};
 
-// One of the two tables: refused, or how many arrays and loops it has.
+// One of the two tables: refused, or held by its store.
 enum Side {
     Refused(Outcome),
-    Accepted { arrays: usize, loops: usize },
+    Accepted,
 }
 
 fn wide(x: u32) -> usize
@@ -24,44 +27,26 @@ fn wide(x: u32) -> usize
     x as usize
 }
 
-// Reads a table through 9. Of its columns only the arrays' lengths are kept.
-fn read_side(s: &[u8], lens: &mut [u32; 16]) -> Side
-    requires { ⌜ length (now lens) ≡ 16 ⌝ }
-    ensures { λ r. ⌜ Known r (now (lens .exit)) (now (s .entry)) ⌝ }
+// Reads a table through 9 into the lent store.
+fn read_side(s: &[u8], store: &mut Store) -> Side
+    requires { ⌜ Sized (now store) ⌝ }
+    ensures { λ r. ⌜ Known r (now (store .exit)) (now (s .entry)) ⌝ }
 {
-    let mut firsts = [0u32; 16];
-    let mut lasts = [0u32; 16];
-    let mut starts = [0usize; 17];
-    let mut kinds = [0u8; 528];
-    let mut arrays = [0u32; 528];
-    let mut values = [0u32; 528];
-    let r = serial::check_table(
-        s,
-        lens,
-        &mut firsts,
-        &mut lasts,
-        &mut starts,
-        &mut kinds,
-        &mut arrays,
-        &mut values,
-    );
+    let r = serial::check_table(s, store);
     match r {
         Checked::Refused { number, place } => Side::Refused(refusal(wide(number), place, 0)),
         Checked::Serial { number, read } => Side::Refused(refusal(9, number, read)),
-        Checked::Accepted {
-            arrays: a,
-            loops,
-            rows: _,
-        } => Side::Accepted { arrays: a, loops },
+        Checked::Accepted => Side::Accepted,
     }
 }
 
-// Whether the first n lengths of the one are the first m of the other.
-fn same_lengths(n: usize, ours: &[u32; 16], m: usize, theirs: &[u32; 16]) -> bool
-    requires { ⌜ (n ≤ 16) × (m ≤ 16) × (length (now ours) ≡ 16) × (length (now theirs) ≡ 16) ⌝ }
-    ensures { λ r. ⌜ r ≡ alike (take n (now (ours .entry))) (take m (now (theirs .entry))) ⌝ }
+// Whether the arrays of the one are as many, and as long, as those of the other.
+fn same_lengths(ours: &Store, theirs: &Store) -> bool
+    requires { ⌜ Held (now ours) × Held (now theirs) ⌝ }
+    ensures { λ r. ⌜ r ≡ alike (tableIn (now (ours .entry)) .lengths) (tableIn (now (theirs .entry)) .lengths) ⌝ }
 {
-    if n != m {
+    let n = reader::arrays_in(ours);
+    if n != reader::arrays_in(theirs) {
         return false;
     }
     let mut k: usize = 0;
@@ -102,36 +87,26 @@ fn write(left: &[u8], right: &[u8], arrays: usize, out: &mut [u8]) -> Outcome
     written(count)
 }
 
-// The left table has been read: `arrays` arrays, whose lengths are in `ours`, and `loops` loops.
-fn join_right(
-    left: &[u8],
-    right: &[u8],
-    out: &mut [u8],
-    arrays: usize,
-    loops: usize,
-    ours: &[u32; 16],
-) -> Outcome
-    requires { ⌜ Held (now left) (now ours) arrays loops ⌝ }
+// The left table has been read: it is in the store `ours`.
+fn join_right(left: &[u8], right: &[u8], out: &mut [u8], ours: &Store) -> Outcome
+    requires { ⌜ Accepts (now left) (now ours) ⌝ }
     ensures { λ r. ⌜ Told (now (left .entry)) (now (right .entry)) (length (now (out .entry))) r ⌝ }
     ensures { λ r. ⌜ now (out .exit) ≡ final (joining (now (left .entry)) (now (right .entry)) (length (now (out .entry)))) (now (out .entry)) ⌝ }
 {
-    let mut theirs = [0u32; 16];
+    let mut theirs = [0u32; 1651];
     let r = read_side(right, &mut theirs);
     match r {
         Side::Refused(o) => o,
-        Side::Accepted {
-            arrays: a,
-            loops: l,
-        } => {
-            let like = same_lengths(arrays, ours, a, &theirs);
-            let total = loops + l;
+        Side::Accepted => {
+            let like = same_lengths(ours, &theirs);
+            let total = reader::loops_in(ours) + reader::loops_in(&theirs);
             if !like {
                 return refusal(14, 0, 0);
             }
             if 16 < total {
                 return refusal(4, 0, 0);
             }
-            write(left, right, arrays, out)
+            write(left, right, reader::arrays_in(ours), out)
         }
     }
 }
@@ -141,10 +116,10 @@ pub fn join(left: &[u8], right: &[u8], out: &mut [u8]) -> Outcome
     ensures { λ r. ⌜ Told (now (left .entry)) (now (right .entry)) (length (now (out .entry))) r ⌝ }
     ensures { λ r. ⌜ now (out .exit) ≡ final (joining (now (left .entry)) (now (right .entry)) (length (now (out .entry)))) (now (out .entry)) ⌝ }
 {
-    let mut lens = [0u32; 16];
-    let r = read_side(left, &mut lens);
+    let mut ours = [0u32; 1651];
+    let r = read_side(left, &mut ours);
     match r {
         Side::Refused(o) => o,
-        Side::Accepted { arrays, loops } => join_right(left, right, out, arrays, loops, &lens),
+        Side::Accepted => join_right(left, right, out, &ours),
     }
 }

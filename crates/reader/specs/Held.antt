@@ -3,7 +3,8 @@ use Prim.Native.Nat.{ℕ, suc, _+_, _≤_, _<_}
 use native.Mathlib.Omega.{arith}
 use mathlib.Core.Path.{_≡_, refl, sym, ap, _∙_}
 use mathlib.Core.List.{List}
-use lib.ListN.{take}
+use lib.ListN.{length, take}
+use lib.Seq.{length-take-le}
 use Rattle.model.specs.Table.{Loop, Table, count, loop, first, last}
 use Rattle.reader.specs.Store.{firstAt, lastAt, startAt, kindAt, arraysIn, loopsIn, loopAt, tableIn, count-table, loop-table}
 use Rattle.reader.specs.Stored.{Row, Holds, starts-up}
@@ -21,6 +22,9 @@ module _ {c : List ℕ} {t : Table} (h : Holds c t) where
 
   pub few-arrays : arraysIn c ≤ 16
   few-arrays = h .kept .few-arrays
+
+  pub arrays-held : length (t .lengths) ≡ arraysIn c
+  arrays-held = ap length lengths-held ∙ length-take-le (arraysIn c) c (omega (arith, h .sized, few-arrays))
 
   pub count-held : count t ≡ loopsIn c
   count-held = sym (ap count (h .is)) ∙ count-table c (arraysIn c) (loopsIn c)

@@ -1,14 +1,15 @@
 // The arrays that the loops of a table touch and those that they write, counted before and after fusion.
+use records::Store;
 ghost use mathlib.Core.Path.{_≡_};
 ghost use mathlib.Core.Bool.{_&&_, _||_};
-ghost use mathlib.Core.List.{List};
 ghost use Prim.Native.Nat.{ℕ, _<_, _≤_};
 ghost use lib.Dec.{eqb};
-ghost use lib.ListN.{getD};
 ghost use Rattle.marks.specs.Marks.{marked};
-ghost use Rattle.reader.specs.Columns.{columns, tableAt};
+ghost use Rattle.reader.specs.Store.{tableIn};
+ghost use Rattle.reader.specs.Stored.{Row};
+ghost use Rattle.reader.specs.Held.{Held};
 ghost use Rattle.sweeps.specs.Sweeps.{sweeps};
-ghost use Rattle.sweeps.specs.Rows.{touchedRows, Placed, Added};
+ghost use Rattle.sweeps.specs.Rows.{touchedRows, Added};
 
 // Before: the sizes of both sets summed over all loops. After: the sizes of the two unions.
 pub struct Sweeps {
@@ -30,7 +31,7 @@ fn wide(x: u32) -> usize
 }
 
 // The set m, with the array of a row that is a read.
-fn with_row(m: u16, kind: u8, array: u32) -> u16
+fn with_row(m: u16, kind: u32, array: u32) -> u16
     requires { ⌜ array < 16 ⌝ }
     ensures { λ r. ⌜ ((q : ℕ) → marked r q ≡ (marked m q || (eqb kind 3 && eqb q array))) ⌝ }
 {
@@ -41,26 +42,26 @@ fn with_row(m: u16, kind: u8, array: u32) -> u16
 }
 
 // The arrays that a loop touches: `from` is its destination's row, and its items' rows go up to `past`.
-fn touched_in(from: usize, past: usize, kinds: &[u8; 528], arrays: &[u32; 528]) -> u16
-    requires { ⌜ (from < past) × (past ≤ 528) × ((r : ℕ) → r < past → getD (now arrays) r 0 < 16) ⌝ }
-    ensures { λ r. ⌜ ((q : ℕ) → marked r q ≡ touchedRows (now (kinds .entry)) (now (arrays .entry)) from past q) ⌝ }
+fn touched_in(from: usize, past: usize, store: &Store) -> u16
+    requires { ⌜ (from < past) × (past ≤ 528) × ((r : ℕ) → r < past → Row (now store) r) ⌝ }
+    ensures { λ r. ⌜ ((q : ℕ) → marked r q ≡ touchedRows (now (store .entry)) from past q) ⌝ }
 {
-    let mut m = marks::with_mark(0, wide(arrays[from]));
+    let mut m = marks::with_mark(0, wide(reader::array_at(store, from)));
     let mut row = from + 1;
     while row < past {
-        m = with_row(m, kinds[row], arrays[row]);
+        m = with_row(m, reader::kind_at(store, row), reader::array_at(store, row));
         row += 1;
     }
     m
 }
 
 // The totals with one loop more, in the rows from `from` up to `past`.
-fn with_loop(s: Totals, from: usize, past: usize, kinds: &[u8; 528], arrays: &[u32; 528]) -> Totals
-    requires { ⌜ (s .before < 65536) × (from < past) × (past ≤ 528) × ((r : ℕ) → r < past → getD (now arrays) r 0 < 16) ⌝ }
-    ensures { λ r. ⌜ Added s r (now (kinds .entry)) (now (arrays .entry)) from past ⌝ }
+fn with_loop(s: Totals, from: usize, past: usize, store: &Store) -> Totals
+    requires { ⌜ (s .before < 65536) × (from < past) × (past ≤ 528) × ((r : ℕ) → r < past → Row (now store) r) ⌝ }
+    ensures { λ r. ⌜ Added s r (now (store .entry)) from past ⌝ }
 {
-    let touched = touched_in(from, past, kinds, arrays);
-    let written = marks::with_mark(0, wide(arrays[from]));
+    let touched = touched_in(from, past, store);
+    let written = marks::with_mark(0, wide(reader::array_at(store, from)));
     let sizes = marks::size_of(touched) + marks::size_of(written);
     let before = s.before + sizes;
     Totals {
@@ -70,16 +71,12 @@ fn with_loop(s: Totals, from: usize, past: usize, kinds: &[u8; 528], arrays: &[u
     }
 }
 
-// The sweeps of a table of so many loops, from the three columns that they depend on, whatever the others hold.
-pub fn sweeps_of(
-    loops: usize,
-    starts: &[usize; 17],
-    kinds: &[u8; 528],
-    arrays: &[u32; 528],
-) -> Sweeps
-    requires { ⌜ Placed (now starts) (now arrays) loops ⌝ }
-    ensures { λ r. ⌜ ((ns fs ls vs : List ℕ) (a : ℕ) → r ≡ sweeps (tableAt (columns ns fs ls (now (starts .entry)) (now (kinds .entry)) (now (arrays .entry)) vs) a loops)) ⌝ }
+// The sweeps of the table in a store.
+pub fn sweeps_of(store: &Store) -> Sweeps
+    requires { ⌜ Held (now store) ⌝ }
+    ensures { λ r. ⌜ r ≡ sweeps (tableIn (now (store .entry))) ⌝ }
 {
+    let loops = reader::loops_in(store);
     let mut s = Totals {
         before: 0,
         touched: 0,
@@ -87,7 +84,9 @@ pub fn sweeps_of(
     };
     let mut k: usize = 0;
     while k < loops {
-        s = with_loop(s, starts[k], starts[k + 1], kinds, arrays);
+        let from = reader::start_at(store, k);
+        let past = reader::start_at(store, k + 1);
+        s = with_loop(s, from, past, store);
         k += 1;
     }
     let after = marks::size_of(s.touched) + marks::size_of(s.written);

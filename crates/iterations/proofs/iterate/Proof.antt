@@ -22,9 +22,12 @@ add-value-of c = let a = c .before .before .before .args in
     omega (arith, c .before .start-at .ensures)
 
 value-of-requires : tie.Need-value-of-requires
-value-of-requires c κs = let a = c .before .before .before .before .args in
-    let (t, l, h, e) = c .before .before .before .before .pre in
-    rw (c .before .start-at2 .ensures, c .before .before .start-at .ensures) (body-asks t (now (a .store)) (now (a .bases)) l (a .number) (a .index) h (length (now (a .memory))) e)
+value-of-requires c κs =
+    let b = c .before .before .before .before in
+    let a = b .args in
+    let (t, l, h, e) = b .pre in
+    rw (c .before .start-at2 .ensures, c .before .before .start-at .ensures)
+    (body-asks t (now (a .store)) (now (a .bases)) l (a .number) (a .index) h (length (now (a .memory))) e)
 
 array-at-requires : tie.Need-array-at-requires
 array-at-requires c κs = let a = c .before .before .before .before .before .args in
@@ -39,18 +42,28 @@ value-at-requires c κs = let a = c .before .before .before .before .before .bef
     omega (arith, c .before .before .before .before .start-at .ensures)
 
 store-in-requires : tie.Need-store-in-requires
-store-in-requires c κs = let a = c .before .before .before .before .before .before .before .before .args in
-    let (t, l, h, e) = c .before .before .before .before .before .before .before .before .pre in
-    (omega (arith, index-small t (now (a .store)) (now (a .bases)) l (a .number) (a .index) h), rw (c .before .value-at .ensures, c .before .before .array-at .ensures, c .before .before .before .before .before .before .start-at .ensures) (destination-within t (now (a .store)) (now (a .bases)) l (a .number) (a .index) h (length (now (a .memory))) e))
+store-in-requires c κs =
+    let s = c .before .before .before .before .before .before in
+    let b = s .before .before in
+    let a = b .args in
+    let (t, l, h, e) = b .pre in (
+      omega (arith, index-small t (now (a .store)) (now (a .bases)) l (a .number) (a .index) h),
+      rw (c .before .value-at .ensures, c .before .before .array-at .ensures, s .start-at .ensures)
+          (destination-within t (now (a .store)) (now (a .bases)) l (a .number) (a .index) h (length (now (a .memory))) e),
+    )
 
 same-length : tie.Need-same-length
 same-length c = search needs
 
 returns : tie.Need-returns
-returns c = let a = c .before .before .before .before .before .before .before .before .before .before .before .args in
-    let x = rw (c .before .before .before .before .before .before .before .before .start-at2 .ensures, c .before .before .before .before .before .before .before .before .before .start-at .ensures) at (c .before .before .before .before .before .before .value-of .ensures) in
-    let y = rw (c .before .before .before .before .value-at .ensures, c .before .before .before .before .before .array-at .ensures, c .before .before .before .before .before .before .before .before .before .start-at .ensures) at (c .before .before .store-in .ensures) in
-    λ t l h. stored t (now (a .store)) (now (a .bases)) l (a .number) (a .index) h (now (a .memory)) _ (c .before .before .before .before .before .before .value-of .result) x y
+returns c =
+    let v = c .before .before .before .before in
+    let w = v .before .before in
+    let s = w .before .before in
+    let a = s .before .before .before .args in
+    let x = rw (s .start-at2 .ensures, s .before .start-at .ensures) at (w .value-of .ensures) in
+    let y = rw (v .value-at .ensures, v .before .array-at .ensures, s .before .start-at .ensures) at (c .before .before .store-in .ensures) in
+    λ t l h. stored t (now (a .store)) (now (a .bases)) l (a .number) (a .index) h (now (a .memory)) _ (w .value-of .result) x y
 
 pub iterate-spec : {M : Type 1} → statement M
 iterate-spec =

@@ -40,8 +40,11 @@ same-length : tie.Need-same-length
 same-length c = search needs
 
 returns : tie.Need-returns
-returns c = let a = c .before .before .before .before .before .before .args in
-    rw (c .before .before .store .ensures) (part-stored (now (a .memory)) (getD (now (a .bases)) (a .array) 0) (a .i + a .offset - 255) (a .x) (c .before .before .before .before .before .before .pre .1 .2))
+returns c =
+    let s = c .before .before in
+    let b = s .before .before .before .before in
+    let a = b .args in
+    rw (s .store .ensures) (part-stored (now (a .memory)) (getD (now (a .bases)) (a .array) 0) (a .i + a .offset - 255) (a .x) (b .pre .1 .2))
 
 pub store-in-spec : {M : Type 1} → statement M
 store-in-spec =

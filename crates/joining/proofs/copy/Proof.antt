@@ -31,13 +31,19 @@ loop-less : tie.Need-loop-less Inv-loop μ-loop
 loop-less c = omega arith
 
 loop-again : tie.Need-loop-again Inv-loop μ-loop
-loop-again c = let a = c .before .before .before .args in copy-more (now (a .from)) (now (a .to)) (a .at) (c .before .before .loop .to) (c .before .before .loop .k) (c .before .before .loop .inv) (c .before .before .before .pre) (c .before .loop-test .taken)
+loop-again c =
+    let l = c .before .before .loop in
+    let b = c .before .before .before in
+    copy-more (now (b .args .from)) (now (b .args .to)) (b .args .at) (l .to) (l .k) (l .inv) (b .pre) (c .before .loop-test .taken)
 
 same-length : tie.Need-same-length Inv-loop μ-loop
 same-length c = c .before .loop .inv .long
 
 returns : tie.Need-returns Inv-loop μ-loop
-returns c = let a = c .before .before .args in copy-done (now (a .from)) (now (a .to)) (a .at) (c .before .loop .to) (c .before .loop .k) (c .before .loop .inv) (c .loop-test .left)
+returns c =
+    let l = c .before .loop in
+    let a = c .before .before .args in
+    copy-done (now (a .from)) (now (a .to)) (a .at) (l .to) (l .k) (l .inv) (c .loop-test .left)
 
 pub copy-spec : {M : Type 1} → statement M
 copy-spec =

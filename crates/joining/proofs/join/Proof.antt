@@ -1,8 +1,6 @@
-use mathlib.Core.Path.{subst}
 use denote.Ref.{now}
+use Rattle.joining.proofs.Sides.{refused-side, accepted-side}
 use Rattle.joining.proofs.Answers.{left-refused}
-use Rattle.joining.specs.declared.Side.{Side}
-use Rattle.joining.specs.Told.{Known}
 use borrow.Author.Needs.{needs}
 use Rattle.joining.proofs.join.Statement.{statement}
 use Rattle.joining.proofs.join.Tie as tie
@@ -13,18 +11,22 @@ read-side-requires c κs = search needs
 enum-known-r : tie.Need-enum-known-r
 enum-known-r c = search needs
 
-enum-known-r-2 : tie.Need-enum-known-r-2
-enum-known-r-2 c = search needs
+enum-told : tie.Need-enum-told
+enum-told c = search needs
 
 join-right-requires : tie.Need-join-right-requires
-join-right-requires c κs = let a = c .before .before .before .before .before .before .before .before .before .before .args in
-    let h = subst (λ (x : Side). Known x (c .before .before .before .before .before .read-side .last .1 .0) (now (a .left))) (c .before .before .before .r2 .given .1) (c .before .before .before .before .before .read-side .ensures) in
-    h
+join-right-requires c κs =
+    let e = c .before .before in
+    let d = e .before .before in
+    let a = d .before .before .before .before .before .args in
+    accepted-side (now (a .left)) (d .read-side .last .1 .0) (d .read-side .result) (d .read-side .ensures) (e .enum-told .given .1)
 
 returns : tie.Need-returns
-returns c = let a = c .before .before .before .before .before .before .before .before .args in
-    let h = subst (λ (x : Side). Known x (c .before .before .before .read-side .last .1 .0) (now (a .left))) (c .before .r .given .1) (c .before .before .before .read-side .ensures) in
-    left-refused (now (a .left)) (now (a .right)) (now (a .out)) (c .before .r .given .0 .0) h
+returns c =
+    let d = c .before .before .before in
+    let a = d .before .before .before .before .before .args in
+    let h = refused-side (now (a .left)) (d .read-side .last .1 .0) (d .read-side .result) (d .read-side .ensures) _ (c .before .r .given .1) in
+    left-refused (now (a .left)) (now (a .right)) (now (a .out)) _ h
 
 same-length : tie.Need-same-length
 same-length c = search needs
@@ -38,7 +40,7 @@ join-spec =
     (tie.spec
     read-side-requires
     enum-known-r
-    enum-known-r-2
+    enum-told
     join-right-requires
     returns
     same-length

@@ -1,9 +1,9 @@
 use native.Mathlib.Omega.{arith}
-use mathlib.Core.Path.{sym, subst, _∙_}
+use mathlib.Core.Path.{sym, _∙_}
 use denote.Ref.{now}
+use Rattle.reader.specs.Held.{few-loops}
+use Rattle.joining.proofs.Sides.{refused-side, accepted-side}
 use Rattle.joining.proofs.Answers.{right-refused, unlike-arrays, many-loops, joined, enough}
-use Rattle.joining.specs.declared.Side.{Side}
-use Rattle.joining.specs.Told.{Known}
 use borrow.Author.Tests.{not-true, not-false}
 use borrow.Author.Needs.{needs}
 use Rattle.joining.proofs.join_right.Statement.{statement}
@@ -15,53 +15,107 @@ read-side-requires c κs = search needs
 enum-known-r : tie.Need-enum-known-r
 enum-known-r c = search needs
 
-enum-known-r-2 : tie.Need-enum-known-r-2
-enum-known-r-2 c = search needs
+enum-told : tie.Need-enum-told
+enum-told c = search needs
 
 same-lengths-requires : tie.Need-same-lengths-requires
-same-lengths-requires c κs = let a = c .before .before .before .before .before .before .before .before .before .args in
-    let h = subst (λ (x : Side). Known x (c .before .before .before .before .read-side .last .1 .0) (now (a .right))) (c .before .before .r2 .given .1) (c .before .before .before .before .read-side .ensures) in
-    (c .before .before .before .before .before .before .before .before .before .pre .few-arrays, h .few-arrays, c .before .before .before .before .before .before .before .before .before .pre .sized, h .sized)
+same-lengths-requires c κs =
+    let e = c .before in
+    let d = e .before .before in
+    let b = d .before .before .before .before .before in
+    let theirs = d .read-side .last .1 .0 in
+    let h = accepted-side (now (b .args .right)) theirs (d .read-side .result) (d .read-side .ensures) (e .enum-told .given .1) in
+    (b .pre .held, h .held)
+
+loops-in-requires : tie.Need-loops-in-requires
+loops-in-requires c κs = search needs
+
+loops-in-requires-2 : tie.Need-loops-in-requires-2
+loops-in-requires-2 c κs = search needs
 
 add-total : tie.Need-add-total
-add-total c = let a = c .before .before .before .before .before .before .before .before .before .before .args in
-    let h = subst (λ (x : Side). Known x (c .before .before .before .before .before .read-side .last .1 .0) (now (a .right))) (c .before .before .before .r2 .given .1) (c .before .before .before .before .before .read-side .ensures) in
-    omega (arith, c .before .before .before .before .before .before .before .before .before .before .pre .few-loops, h .few-loops)
+add-total c =
+    let l = c .before .before in
+    let e = l .before .before .before in
+    let d = e .before .before in
+    let b = d .before .before .before .before .before in
+    let theirs = d .read-side .last .1 .0 in
+    let h = accepted-side (now (b .args .right)) theirs (d .read-side .result) (d .read-side .ensures) (e .enum-told .given .1) in
+    omega (arith, l .loops-in .ensures, c .loops-in2 .ensures, few-loops (b .pre .held), few-loops (h .held))
 
 refusal-requires : tie.Need-refusal-requires
 refusal-requires c κs = search needs
 
 returns : tie.Need-returns
-returns c = let a = c .before .before .before .before .before .before .before .before .before .before .before .before .args in
-    let h = subst (λ (x : Side). Known x (c .before .before .before .before .before .before .before .read-side .last .1 .0) (now (a .right))) (c .before .before .before .before .before .r2 .given .1) (c .before .before .before .before .before .before .before .read-side .ensures) in
-    unlike-arrays (now (a .left)) (now (a .right)) (now (a .out)) (now (a .ours)) (a .arrays) (a .loops) (c .before .before .before .before .before .before .before .before .before .before .before .before .pre) (c .before .before .before .before .before .before .before .read-side .last .1 .0) (c .before .before .before .before .before .r2 .given .0 .0) (c .before .before .before .before .before .r2 .given .0 .1 .0) h (c .refusal .result) (c .refusal .ensures)
-    (sym (not-true _ (c .before .if1 .taken)) ∙ c .before .before .same-lengths .ensures)
+returns c =
+    let g = c .before .before .before .before .before in
+    let e = g .before .before in
+    let d = e .before .before in
+    let b = d .before .before .before .before .before in
+    let theirs = d .read-side .last .1 .0 in
+    let h = accepted-side (now (b .args .right)) theirs (d .read-side .result) (d .read-side .ensures) (e .enum-told .given .1) in
+    unlike-arrays (now (b .args .left)) (now (b .args .right)) (now (b .args .out)) (now (b .args .ours)) (b .pre) theirs h
+    (c .refusal .result) (c .refusal .ensures) (sym (not-true _ (c .before .if1 .taken)) ∙ g .same-lengths .ensures)
 
 refusal-requires-2 : tie.Need-refusal-requires-2
 refusal-requires-2 c κs = search needs
 
 returns-2 : tie.Need-returns-2
-returns-2 c = let a = c .before .before .before .before .before .before .before .before .before .before .before .before .before .args in
-    let h = subst (λ (x : Side). Known x (c .before .before .before .before .before .before .before .before .read-side .last .1 .0) (now (a .right))) (c .before .before .before .before .before .before .r2 .given .1) (c .before .before .before .before .before .before .before .before .read-side .ensures) in
-    many-loops (now (a .left)) (now (a .right)) (now (a .out)) (now (a .ours)) (a .arrays) (a .loops) (c .before .before .before .before .before .before .before .before .before .before .before .before .before .pre) (c .before .before .before .before .before .before .before .before .read-side .last .1 .0) (c .before .before .before .before .before .before .r2 .given .0 .0) (c .before .before .before .before .before .before .r2 .given .0 .1 .0) h (sym (not-false _ (c .before .before .if1 .left)) ∙ c .before .before .before .same-lengths .ensures) (c .refusal2 .result) (c .refusal2 .ensures) (omega (arith, c .before .if2 .taken))
+returns-2 c =
+    let f = c .before .before in
+    let l = f .before .before .before in
+    let g = l .before in
+    let e = g .before .before in
+    let d = e .before .before in
+    let b = d .before .before .before .before .before in
+    let theirs = d .read-side .last .1 .0 in
+    let h = accepted-side (now (b .args .right)) theirs (d .read-side .result) (d .read-side .ensures) (e .enum-told .given .1) in
+    many-loops (now (b .args .left)) (now (b .args .right)) (now (b .args .out)) (now (b .args .ours)) (b .pre) theirs h
+    (sym (not-false _ (f .if1 .left)) ∙ g .same-lengths .ensures) (c .refusal2 .result) (c .refusal2 .ensures)
+    (omega (arith, c .before .if2 .taken, l .loops-in .ensures, f .before .loops-in2 .ensures))
+
+arrays-in-requires : tie.Need-arrays-in-requires
+arrays-in-requires c κs = search needs
 
 write-requires : tie.Need-write-requires
-write-requires c κs = let a = c .before .before .before .before .before .before .before .before .before .before .before .before .before .args in
-    let h = subst (λ (x : Side). Known x (c .before .before .before .before .before .before .before .before .read-side .last .1 .0) (now (a .right))) (c .before .before .before .before .before .before .r2 .given .1) (c .before .before .before .before .before .before .before .before .read-side .ensures) in
-    enough (now (a .left)) (now (a .right)) (now (a .out)) (now (a .ours)) (a .arrays) (a .loops) (c .before .before .before .before .before .before .before .before .before .before .before .before .before .pre) (c .before .before .before .before .before .before .before .before .read-side .last .1 .0) (c .before .before .before .before .before .before .r2 .given .0 .0) (c .before .before .before .before .before .before .r2 .given .0 .1 .0) h (sym (not-false _ (c .before .before .if1 .left)) ∙ c .before .before .before .same-lengths .ensures)
+write-requires c κs =
+    let f = c .before .before .before in
+    let g = f .before .before .before .before in
+    let e = g .before .before in
+    let d = e .before .before in
+    let b = d .before .before .before .before .before in
+    let theirs = d .read-side .last .1 .0 in
+    let h = accepted-side (now (b .args .right)) theirs (d .read-side .result) (d .read-side .ensures) (e .enum-told .given .1) in
+    rw (c .before .arrays-in .ensures)
+    (enough (now (b .args .left)) (now (b .args .right)) (now (b .args .out)) (now (b .args .ours)) (b .pre) theirs h
+    (sym (not-false _ (f .if1 .left)) ∙ g .same-lengths .ensures))
 
 returns-3 : tie.Need-returns-3
-returns-3 c = let a = c .before .before .before .before .before .before .before .before .args in
-    let h = subst (λ (x : Side). Known x (c .before .before .before .read-side .last .1 .0) (now (a .right))) (c .before .r .given .1) (c .before .before .before .read-side .ensures) in
-    right-refused (now (a .left)) (now (a .right)) (now (a .out)) (now (a .ours)) (a .arrays) (a .loops) (c .before .before .before .before .before .before .before .before .pre) (c .before .r .given .0 .0) h
+returns-3 c =
+    let d = c .before .before .before in
+    let b = d .before .before .before .before .before in
+    let h = refused-side (now (b .args .right)) (d .read-side .last .1 .0) (d .read-side .result) (d .read-side .ensures) _ (c .before .r .given .1) in
+    right-refused (now (b .args .left)) (now (b .args .right)) (now (b .args .out)) (now (b .args .ours)) (b .pre) _ h
 
 same-length : tie.Need-same-length
 same-length c = search needs
 
 returns-4 : tie.Need-returns-4
-returns-4 c = let a = c .before .before .before .before .before .before .before .before .before .before .before .before .before .before .before .before .args in
-    let h = subst (λ (x : Side). Known x (c .before .before .before .before .before .before .before .before .before .before .before .read-side .last .1 .0) (now (a .right))) (c .before .before .before .before .before .before .before .before .before .r2 .given .1) (c .before .before .before .before .before .before .before .before .before .before .before .read-side .ensures) in
-    joined (now (a .left)) (now (a .right)) (now (a .out)) (now (a .ours)) (a .arrays) (a .loops) (c .before .before .before .before .before .before .before .before .before .before .before .before .before .before .before .before .pre) (c .before .before .before .before .before .before .before .before .before .before .before .read-side .last .1 .0) (c .before .before .before .before .before .before .before .before .before .r2 .given .0 .0) (c .before .before .before .before .before .before .before .before .before .r2 .given .0 .1 .0) h (sym (not-false _ (c .before .before .before .before .before .if1 .left)) ∙ c .before .before .before .before .before .before .same-lengths .ensures) (c .before .before .write .result) (c .before .before .write .last .1 .1 .1 .0) (omega (arith, c .before .before .before .before .if2 .left)) (c .before .before .write .ensures)
+returns-4 c =
+    let w = c .before .before in
+    let i = w .before .before .before in
+    let f = i .before in
+    let l = f .before .before .before in
+    let g = l .before in
+    let e = g .before .before in
+    let d = e .before .before in
+    let b = d .before .before .before .before .before in
+    let theirs = d .read-side .last .1 .0 in
+    let h = accepted-side (now (b .args .right)) theirs (d .read-side .result) (d .read-side .ensures) (e .enum-told .given .1) in
+    joined (now (b .args .left)) (now (b .args .right)) (now (b .args .out)) (now (b .args .ours)) (b .pre) theirs h
+    (sym (not-false _ (f .if1 .left)) ∙ g .same-lengths .ensures) (w .write .result) (w .write .last .1 .1 .1 .0)
+    (omega (arith, i .if2 .left, l .loops-in .ensures, f .before .loops-in2 .ensures))
+    (rw (w .before .before .arrays-in .ensures) at (w .write .ensures))
 
 pub join-right-spec : {M : Type 1} → statement M
 join-right-spec =
@@ -69,13 +123,16 @@ join-right-spec =
     (tie.spec
     read-side-requires
     enum-known-r
-    enum-known-r-2
+    enum-told
     same-lengths-requires
+    loops-in-requires
+    loops-in-requires-2
     add-total
     refusal-requires
     returns
     refusal-requires-2
     returns-2
+    arrays-in-requires
     write-requires
     returns-3
     same-length

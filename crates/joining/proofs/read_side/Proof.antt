@@ -1,8 +1,4 @@
-use mathlib.Core.Path.{_≡_, subst}
 use denote.Ref.{now}
-use Rattle.reader.specs.Columns.{columns}
-use Rattle.serial.specs.declared.Checked.{Checked}
-use Rattle.serial.specs.Serial.{table, answer, Left}
 use Rattle.joining.proofs.Sides.{side-refused, side-serial, side-accepted}
 use borrow.Author.Needs.{needs}
 use Rattle.joining.proofs.read_side.Statement.{statement}
@@ -26,29 +22,29 @@ enum-known-r-2 c = search needs
 refusal-requires-2 : tie.Need-refusal-requires-2
 refusal-requires-2 c κs = search needs
 
-enum-known-r-3 : tie.Need-enum-known-r-3
-enum-known-r-3 c = search needs
+enum-told : tie.Need-enum-told
+enum-told c = search needs
 
 returns : tie.Need-returns
-returns c = let z = c .before .before .before .before .before .check-table .last in
-    let d = columns (z .1 .0) (z .1 .1 .0) (z .1 .1 .1 .0) (z .1 .1 .1 .1 .0) (z .1 .1 .1 .1 .1 .0) (z .1 .1 .1 .1 .1 .1 .0) (z .1 .1 .1 .1 .1 .1 .1 .0) in
-    let s = now (c .before .before .before .before .before .before .before .before .before .before .before .before .before .before .args .s) in
-    let e = subst (λ (x : Checked). (answer x d ≡ table s) × Left x d s) (c .before .before .before .r .given .1) (c .before .before .before .before .before .check-table .ensures) in
-    side-refused s d _ _ _ (c .refusal .result) (e .0) (e .1) (c .before .wide .ensures) (c .refusal .ensures)
+returns c =
+    let d = c .before .before .before in
+    let b = d .before .before in
+    let s = now (b .before .before .before .args .s) in
+    side-refused s (b .check-table .last .1 .0) (b .check-table .result) (b .check-table .ensures) _ _ _ (c .refusal .result) (d .r .given .1)
+    (c .before .wide .ensures) (c .refusal .ensures)
 
 returns-2 : tie.Need-returns-2
-returns-2 c = let z = c .before .before .before .before .check-table .last in
-    let d = columns (z .1 .0) (z .1 .1 .0) (z .1 .1 .1 .0) (z .1 .1 .1 .1 .0) (z .1 .1 .1 .1 .1 .0) (z .1 .1 .1 .1 .1 .1 .0) (z .1 .1 .1 .1 .1 .1 .1 .0) in
-    let s = now (c .before .before .before .before .before .before .before .before .before .before .before .before .before .args .s) in
-    let e = subst (λ (x : Checked). (answer x d ≡ table s) × Left x d s) (c .before .before .r2 .given .1) (c .before .before .before .before .check-table .ensures) in
-    side-serial s d _ _ (c .refusal2 .result) (e .0) (e .1) (c .refusal2 .ensures)
+returns-2 c =
+    let d = c .before .before in
+    let b = d .before .before in
+    let s = now (b .before .before .before .args .s) in
+    side-serial s (b .check-table .last .1 .0) (b .check-table .result) (b .check-table .ensures) _ _ (c .refusal2 .result) (d .r2 .given .1) (c .refusal2 .ensures)
 
 returns-3 : tie.Need-returns-3
-returns-3 c = let z = c .before .before .before .check-table .last in
-    let d = columns (z .1 .0) (z .1 .1 .0) (z .1 .1 .1 .0) (z .1 .1 .1 .1 .0) (z .1 .1 .1 .1 .1 .0) (z .1 .1 .1 .1 .1 .1 .0) (z .1 .1 .1 .1 .1 .1 .1 .0) in
-    let s = now (c .before .before .before .before .before .before .before .before .before .before .before .before .args .s) in
-    let e = subst (λ (x : Checked). (answer x d ≡ table s) × Left x d s) (c .before .r3 .given .1) (c .before .before .before .check-table .ensures) in
-    side-accepted s d _ _ _ (e .0) (e .1)
+returns-3 c =
+    let b = c .before .before in
+    let s = now (b .before .before .before .args .s) in
+    side-accepted s (b .check-table .last .1 .0) (b .check-table .result) (b .check-table .ensures) (c .enum-told .given .1)
 
 pub read-side-spec : {M : Type 1} → statement M
 read-side-spec =
@@ -60,7 +56,7 @@ read-side-spec =
     refusal-requires
     enum-known-r-2
     refusal-requires-2
-    enum-known-r-3
+    enum-told
     returns
     returns-2
     returns-3)

@@ -1,52 +1,102 @@
-use mathlib.Core.Bool.{true, false}
-use Rattle.joining.specs.Joining.{alike}
 use native.Mathlib.Omega.{arith}
-use mathlib.Core.Path.{_≡_, subst}
+use borrow.Author.Needs.{needs}
 use denote.Ref.{now}
-use Prim.Native.Nat.{ℕ, _-_}
-use lib.ListN.{take}
-use Rattle.joining.proofs.Walks.{Inv, start, equal, differ, done, unlike}
+use Prim.Native.Nat.{_-_}
+use Rattle.joining.proofs.Walks.{Inv, start, few, equal, differ, done, unlike}
 use Rattle.joining.proofs.same_lengths.Statement.{statement}
 use Rattle.joining.proofs.same_lengths.Tie as tie
 
 abbrev Inv-loop : tie.InvT-loop
-Inv-loop n ours m theirs k₀ k = Inv ours theirs n k
+Inv-loop ours theirs n k₀ k = Inv ours theirs n k
 
 abbrev μ-loop : tie.MeasureT-loop
-μ-loop n ours m theirs k₀ k = n - k
+μ-loop ours theirs n k₀ k = n - k
+
+arrays-in-requires : tie.Need-arrays-in-requires Inv-loop μ-loop
+arrays-in-requires c κs = search needs
+
+arrays-in-requires-2 : tie.Need-arrays-in-requires-2 Inv-loop μ-loop
+arrays-in-requires-2 c κs = search needs
 
 returns : tie.Need-returns Inv-loop μ-loop
-returns c = let a = c .before .args in unlike (now (a .ours)) (now (a .theirs)) (a .n) (a .m) (omega (arith, c .before .pre)) (omega (arith, c .before .pre)) (c .if1 .taken)
+returns c =
+    let m = c .before in
+    let n = m .before in
+    let b = n .before in
+    unlike (now (b .args .ours)) (now (b .args .theirs)) (b .pre) (n .arrays-in .result) (m .arrays-in2 .result) (n .arrays-in .ensures) (m .arrays-in2 .ensures) (c .if1 .taken)
 
 loop-holds : tie.Need-loop-holds Inv-loop μ-loop
-loop-holds c = let a = c .before .args in start (now (a .ours)) (now (a .theirs)) (a .n)
+loop-holds c = let b = c .before .before .before in start (now (b .args .ours)) (now (b .args .theirs)) (c .before .before .arrays-in .result)
 
 mul-if2 : tie.Need-mul-if2 Inv-loop μ-loop
-mul-if2 c = omega (arith, c .before .before .before .pre)
+mul-if2 c =
+    let m = c .before .before .before in
+    let n = m .before in
+    let b = n .before in
+    let h = few (now (b .args .ours)) (now (b .args .theirs)) (b .pre) (n .arrays-in .result) (m .arrays-in2 .result) (n .arrays-in .ensures) (m .arrays-in2 .ensures) in
+    omega arith
 
 element-copy-out-if2 : tie.Need-element-copy-out-if2 Inv-loop μ-loop
-element-copy-out-if2 c = omega (arith, c .before .before .before .pre)
+element-copy-out-if2 c =
+    let m = c .before .before .before in
+    let n = m .before in
+    let b = n .before in
+    let h = few (now (b .args .ours)) (now (b .args .theirs)) (b .pre) (n .arrays-in .result) (m .arrays-in2 .result) (n .arrays-in .ensures) (m .arrays-in2 .ensures) in
+    omega arith
 
 mul-if2-2 : tie.Need-mul-if2-2 Inv-loop μ-loop
-mul-if2-2 c = omega (arith, c .before .before .before .before .pre)
+mul-if2-2 c =
+    let m = c .before .before .before .before in
+    let n = m .before in
+    let b = n .before in
+    let h = few (now (b .args .ours)) (now (b .args .theirs)) (b .pre) (n .arrays-in .result) (m .arrays-in2 .result) (n .arrays-in .ensures) (m .arrays-in2 .ensures) in
+    omega arith
 
 element-copy-out-if2-2 : tie.Need-element-copy-out-if2-2 Inv-loop μ-loop
-element-copy-out-if2-2 c = omega (arith, c .before .before .before .before .pre)
+element-copy-out-if2-2 c =
+    let m = c .before .before .before .before in
+    let n = m .before in
+    let b = n .before in
+    let h = few (now (b .args .ours)) (now (b .args .theirs)) (b .pre) (n .arrays-in .result) (m .arrays-in2 .result) (n .arrays-in .ensures) (m .arrays-in2 .ensures) in
+    omega arith
 
 returns-2 : tie.Need-returns-2 Inv-loop μ-loop
-returns-2 c = let a = c .before .before .before .before .before .before .args in subst (λ (m : ℕ). false ≡ alike (take (a .n) (now (a .ours))) (take m (now (a .theirs)))) (c .before .before .before .before .before .if1 .left) (differ (now (a .ours)) (now (a .theirs)) (a .n) (omega (arith, c .before .before .before .before .before .before .pre)) (omega (arith, c .before .before .before .before .before .before .pre)) (c .before .before .before .before .loop .k) (c .before .before .before .before .loop .inv) (omega (arith, c .before .before .before .loop-test .taken)) (c .if2 .taken))
+returns-2 c =
+    let t = c .before .before .before in
+    let l = t .before .loop in
+    let s = t .before .before in
+    let m = s .before in
+    let n = m .before in
+    let b = n .before in
+    differ (now (b .args .ours)) (now (b .args .theirs)) (b .pre) (n .arrays-in .result) (m .arrays-in2 .result) (n .arrays-in .ensures) (m .arrays-in2 .ensures)
+    (s .if1 .left) (l .k) (l .inv) (t .loop-test .taken) (c .if2 .taken)
 
 add-k : tie.Need-add-k Inv-loop μ-loop
-add-k c = omega (arith, c .before .before .before .before .before .before .pre)
+add-k c = search needs
 
 loop-less : tie.Need-loop-less Inv-loop μ-loop
 loop-less c = omega arith
 
 loop-again : tie.Need-loop-again Inv-loop μ-loop
-loop-again c = let a = c .before .before .before .before .before .before .args in equal (now (a .ours)) (now (a .theirs)) (a .n) (omega (arith, c .before .before .before .before .before .before .pre)) (omega (arith, c .before .before .before .before .before .before .pre)) (c .before .before .before .before .loop .k) (c .before .before .before .before .loop .inv) (omega (arith, c .before .before .before .loop-test .taken)) (c .if2 .left)
+loop-again c =
+    let t = c .before .before .before in
+    let l = t .before .loop in
+    let s = t .before .before in
+    let m = s .before in
+    let n = m .before in
+    let b = n .before in
+    equal (now (b .args .ours)) (now (b .args .theirs)) (b .pre) (n .arrays-in .result) (m .arrays-in2 .result) (n .arrays-in .ensures) (m .arrays-in2 .ensures)
+    (s .if1 .left) (l .k) (l .inv) (t .loop-test .taken) (c .if2 .left)
 
 returns-3 : tie.Need-returns-3 Inv-loop μ-loop
-returns-3 c = let a = c .before .before .before .args in subst (λ (m : ℕ). true ≡ alike (take (a .n) (now (a .ours))) (take m (now (a .theirs)))) (c .before .before .if1 .left) (done (now (a .ours)) (now (a .theirs)) (a .n) (c .before .loop .k) (c .before .loop .inv) (omega (arith, c .loop-test .left)))
+returns-3 c =
+    let l = c .before .loop in
+    let s = c .before .before in
+    let m = s .before in
+    let n = m .before in
+    let b = n .before in
+    done (now (b .args .ours)) (now (b .args .theirs)) (b .pre) (n .arrays-in .result) (m .arrays-in2 .result) (n .arrays-in .ensures) (m .arrays-in2 .ensures)
+    (s .if1 .left) (l .k) (l .inv) (c .loop-test .left)
 
 pub same-lengths-spec : {M : Type 1} → statement M
 same-lengths-spec =
@@ -54,6 +104,8 @@ same-lengths-spec =
     (tie.spec
     Inv-loop
     μ-loop
+    arrays-in-requires
+    arrays-in-requires-2
     returns
     loop-holds
     mul-if2

@@ -25,8 +25,11 @@ refusal-requires : tie.Need-refusal-requires
 refusal-requires c κs = search needs
 
 returns : tie.Need-returns
-returns c = let a = c .before .before .before .before .before .args in
-    rw (c .refusal .ensures) (too-long (now (a .left)) (now (a .right)) (now (a .out)) (a .arrays) (c .before .before .before .before .before .pre .0) (omega (arith, c .before .if1 .taken)))
+returns c =
+    let b = c .before .before .before .before .before in
+    let a = b .args in
+    rw (c .refusal .ensures)
+    (too-long (now (a .left)) (now (a .right)) (now (a .out)) (a .arrays) (b .pre .0) (omega (arith, c .before .if1 .taken)))
 
 slice-aggregate-copy : tie.Need-slice-aggregate-copy
 slice-aggregate-copy c = let a = c .before .before .before .before .before .args in
@@ -55,11 +58,17 @@ same-length : tie.Need-same-length
 same-length c = search needs
 
 returns-2 : tie.Need-returns-2
-returns-2 c = let a = c .before .before .before .before .before .before .before .before .before .before .before .before .before .before .before .args in
+returns-2 c =
+    let two = c .before .before .before in
+    let one = two .before .before .before .before .before in
+    let i = one .before .before .before in
+    let b = i .before .before .before .before in
+    let a = b .args in
     let r = now (a .right) in
     let n = 5 * a .arrays in
-    rw (c .written .ensures) (wrote (now (a .left)) (now (a .right)) (now (a .out)) (a .arrays) (c .before .before .before .before .before .before .before .before .before .before .before .before .before .before .before .pre .0) (c .before .before .before .before .before .before .before .before .copy .last .1 .0) (c .before .before .before .copy2 .last .1 .0) (take (length r - n) (drop n r)) (omega (arith, c .before .before .before .before .before .before .before .before .before .before .before .if1 .left))
-    (take-all (length r - n) (drop n r) (omega (arith, length-drop n r))) (c .before .before .before .before .before .before .before .before .copy .ensures) (c .before .before .before .copy2 .ensures))
+    rw (c .written .ensures)
+    (wrote (now (a .left)) r (now (a .out)) (a .arrays) (b .pre .0) (one .copy .last .1 .0) (two .copy2 .last .1 .0) (take (length r - n) (drop n r))
+    (omega (arith, i .if1 .left)) (take-all (length r - n) (drop n r) (omega (arith, length-drop n r))) (one .copy .ensures) (two .copy2 .ensures))
 
 pub write-spec : {M : Type 1} → statement M
 write-spec =

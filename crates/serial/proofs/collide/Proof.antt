@@ -24,7 +24,15 @@ wide-requires-2 c κs = search needs
 
 returns-3 : tie.Need-returns-3
 unfolding collides
-returns-3 c = simp (eq-eqb _ _ (c .before .before .before .before .if1 .left), ne-eqb _ _ (c .before .before .before .if2 .left), ← (c .before .before .wide .ensures .0), ← (c .before .wide2 .ensures .0), lt-leb _ _ (c .if3 .taken))
+returns-3 c =
+    let f = c .before .before .before in
+    simp (
+      eq-eqb _ _ (f .before .if1 .left),
+      ne-eqb _ _ (f .if2 .left),
+      ← (c .before .before .wide .ensures .0),
+      ← (c .before .wide2 .ensures .0),
+      lt-leb _ _ (c .if3 .taken),
+    )
 
 wide-requires-3 : tie.Need-wide-requires-3
 wide-requires-3 c κs = search needs
@@ -37,11 +45,23 @@ wide-requires-4 c κs = search needs
 
 returns-4 : tie.Need-returns-4
 unfolding collides
-returns-4 c = simp (eq-eqb _ _ (c .before .before .before .before .before .before .before .if1 .left), ne-eqb _ _ (c .before .before .before .before .before .before .if2 .left), le-leb _ _ (near (c .before .before .before .before .before .before .before .before .args .span) (c .before .before .before .before .before .wide .ensures .0) (c .before .before .before .before .wide2 .ensures .0) (c .before .before .before .if3 .left)), lt-leb _ _ (far (c .before .before .before .before .before .before .before .before .args .span) (c .before .before .wide3 .ensures .0) (c .before .wide4 .ensures .0) (c .if4 .taken)))
+returns-4 c =
+    let g = c .before .before .before in
+    let f = g .before .before .before in
+    let span = f .before .before .args .span in
+    let one = near span (g .before .before .wide .ensures .0) (g .before .wide2 .ensures .0) (g .if3 .left) in
+    let two = far span (c .before .before .wide3 .ensures .0) (c .before .wide4 .ensures .0) (c .if4 .taken) in
+    simp (eq-eqb _ _ (f .before .if1 .left), ne-eqb _ _ (f .if2 .left), le-leb _ _ one, lt-leb _ _ two)
 
 returns-5 : tie.Need-returns-5
 unfolding collides
-returns-5 c = simp (eq-eqb _ _ (c .before .before .before .before .before .before .before .if1 .left), ne-eqb _ _ (c .before .before .before .before .before .before .if2 .left), le-leb _ _ (near (c .before .before .before .before .before .before .before .before .args .span) (c .before .before .before .before .before .wide .ensures .0) (c .before .before .before .before .wide2 .ensures .0) (c .before .before .before .if3 .left)), le-leb _ _ (near (c .before .before .before .before .before .before .before .before .args .span) (c .before .before .wide3 .ensures .0) (c .before .wide4 .ensures .0) (c .if4 .left)))
+returns-5 c =
+    let g = c .before .before .before in
+    let f = g .before .before .before in
+    let span = f .before .before .args .span in
+    let one = near span (g .before .before .wide .ensures .0) (g .before .wide2 .ensures .0) (g .if3 .left) in
+    let two = near span (c .before .before .wide3 .ensures .0) (c .before .wide4 .ensures .0) (c .if4 .left) in
+    simp (eq-eqb _ _ (f .before .if1 .left), ne-eqb _ _ (f .if2 .left), le-leb _ _ one, le-leb _ _ two)
 
 pub collide-spec : {M : Type 1} → statement M
 collide-spec =

@@ -2,45 +2,58 @@ use native.Mathlib.Omega.{arith}
 use borrow.Author.Needs.{needs}
 use denote.Ref.{now}
 use Prim.Native.Nat.{_-_}
-use Rattle.sweeps.proofs.Walks.{LoopInv, loops-start, loops-next, loops-done, room}
+use Rattle.sweeps.proofs.Walks.{LoopInv, loops-start, loops-few, loops-next, loops-done, room}
 use Rattle.sweeps.proofs.sweeps_of.Statement.{statement}
 use Rattle.sweeps.proofs.sweeps_of.Tie as tie
 
 abbrev Inv-loop : tie.InvT-loop
-Inv-loop loops starts kinds arrays s₀ k₀ s k = LoopInv starts kinds arrays loops k s
+Inv-loop store loops s₀ k₀ s k = LoopInv store loops k s
 
 abbrev μ-loop : tie.MeasureT-loop
-μ-loop loops starts kinds arrays s₀ k₀ s k = loops - k
+μ-loop store loops s₀ k₀ s k = loops - k
+
+loops-in-requires : tie.Need-loops-in-requires Inv-loop μ-loop
+loops-in-requires c κs = search needs
 
 loop-holds : tie.Need-loop-holds Inv-loop μ-loop
-loop-holds c = let a = c .args in loops-start (now (a .starts)) (now (a .kinds)) (now (a .arrays)) (a .loops)
+loop-holds c = loops-start (now (c .before .args .store)) (c .before .pre) (c .loops-in .result) (c .loops-in .ensures)
 
-mul-with-loop : tie.Need-mul-with-loop Inv-loop μ-loop
-mul-with-loop c = omega (arith, c .before .before .pre .few)
+start-at-requires : tie.Need-start-at-requires Inv-loop μ-loop
+start-at-requires c κs =
+    let n = c .before .before in
+    omega (arith, loops-few (now (n .before .args .store)) (n .before .pre) (n .loops-in .result) (n .loops-in .ensures))
 
-element-copy-out-with-loop : tie.Need-element-copy-out-with-loop Inv-loop μ-loop
-element-copy-out-with-loop c = omega (arith, c .before .before .pre .few)
+add-start-at : tie.Need-add-start-at Inv-loop μ-loop
+add-start-at c =
+    let n = c .before .before .before in
+    omega (arith, loops-few (now (n .before .args .store)) (n .before .pre) (n .loops-in .result) (n .loops-in .ensures))
 
-add-with-loop : tie.Need-add-with-loop Inv-loop μ-loop
-add-with-loop c = omega (arith, c .before .before .before .pre .few)
-
-mul-with-loop-2 : tie.Need-mul-with-loop-2 Inv-loop μ-loop
-mul-with-loop-2 c = omega (arith, c .before .before .before .pre .few)
-
-element-copy-out-with-loop-2 : tie.Need-element-copy-out-with-loop-2 Inv-loop μ-loop
-element-copy-out-with-loop-2 c = omega (arith, c .before .before .before .pre .few)
+start-at-requires-2 : tie.Need-start-at-requires-2 Inv-loop μ-loop
+start-at-requires-2 c κs =
+    let n = c .before .before .before in
+    omega (arith, loops-few (now (n .before .args .store)) (n .before .pre) (n .loops-in .result) (n .loops-in .ensures))
 
 with-loop-requires : tie.Need-with-loop-requires Inv-loop μ-loop
-with-loop-requires c κs = let a = c .before .before .before .before .args in let l = c .before .before .before .loop in room (now (a .starts)) (now (a .kinds)) (now (a .arrays)) (a .loops) (l .k) (l .s) (l .inv) (c .before .before .before .before .pre) (c .before .before .loop-test .taken)
+with-loop-requires c κs =
+    let t = c .before .before in
+    let l = t .before .loop in
+    let n = t .before .before in
+    rw (c .start-at2 .ensures, c .before .start-at .ensures)
+    (room (now (n .before .args .store)) (n .before .pre) (n .loops-in .result) (n .loops-in .ensures) (l .k) (l .s) (l .inv) (t .loop-test .taken))
 
 add-k : tie.Need-add-k Inv-loop μ-loop
-add-k c = omega (arith, c .before .before .before .before .before .pre .few)
+add-k c = search needs
 
 loop-less : tie.Need-loop-less Inv-loop μ-loop
 loop-less c = omega arith
 
 loop-again : tie.Need-loop-again Inv-loop μ-loop
-loop-again c = let a = c .before .before .before .before .before .args in let l = c .before .before .before .before .loop in loops-next (now (a .starts)) (now (a .kinds)) (now (a .arrays)) (a .loops) (l .k) (l .s) (l .inv) (c .before .before .before .loop-test .taken) (c .with-loop .result) (c .with-loop .ensures)
+loop-again c =
+    let t = c .before .before .before in
+    let l = t .before .loop in
+    let n = t .before .before in
+    loops-next (now (n .before .args .store)) (n .before .pre) (n .loops-in .result) (n .loops-in .ensures) (l .k) (l .s) (l .inv) (t .loop-test .taken)
+    (c .with-loop .result) (rw (c .before .start-at2 .ensures, c .before .before .start-at .ensures) at (c .with-loop .ensures))
 
 size-of-requires : tie.Need-size-of-requires Inv-loop μ-loop
 size-of-requires c κs = search needs
@@ -52,7 +65,13 @@ add-after : tie.Need-add-after Inv-loop μ-loop
 add-after c = omega (arith, c .before .size-of .ensures .1, c .size-of2 .ensures .1)
 
 returns : tie.Need-returns Inv-loop μ-loop
-returns c = let a = c .before .before .before .before .args in let l = c .before .before .before .loop in loops-done (now (a .starts)) (now (a .kinds)) (now (a .arrays)) (a .loops) (l .k) (l .s) (l .inv) (c .before .before .loop-test .left) (c .before .size-of .result) (c .size-of2 .result) (c .before .size-of .ensures .0) (c .size-of2 .ensures .0)
+returns c =
+    let x = c .before in
+    let t = x .before in
+    let l = t .before .loop in
+    let n = t .before .before in
+    loops-done (now (n .before .args .store)) (n .before .pre) (n .loops-in .result) (n .loops-in .ensures) (l .k) (l .s) (l .inv) (t .loop-test .left)
+    (x .size-of .result) (c .size-of2 .result) (x .size-of .ensures .0) (c .size-of2 .ensures .0)
 
 pub sweeps-of-spec : {M : Type 1} → statement M
 sweeps-of-spec =
@@ -60,12 +79,11 @@ sweeps-of-spec =
     (tie.spec
     Inv-loop
     μ-loop
+    loops-in-requires
     loop-holds
-    mul-with-loop
-    element-copy-out-with-loop
-    add-with-loop
-    mul-with-loop-2
-    element-copy-out-with-loop-2
+    start-at-requires
+    add-start-at
+    start-at-requires-2
     with-loop-requires
     add-k
     loop-less

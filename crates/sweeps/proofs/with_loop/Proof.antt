@@ -1,4 +1,5 @@
 use native.Mathlib.Omega.{arith}
+use mathlib.Core.Path.{_∙_}
 use denote.Ref.{now}
 use Rattle.sweeps.proofs.Walks.{alone, added}
 use borrow.Author.Needs.{needs}
@@ -8,17 +9,16 @@ use Rattle.sweeps.proofs.with_loop.Tie as tie
 touched-in-requires : tie.Need-touched-in-requires
 touched-in-requires c κs = search needs
 
-mul-wide : tie.Need-mul-wide
-mul-wide c = search needs
-
-element-copy-out-wide : tie.Need-element-copy-out-wide
-element-copy-out-wide c = search needs
+array-at-requires : tie.Need-array-at-requires
+array-at-requires c κs = search needs
 
 wide-requires : tie.Need-wide-requires
 wide-requires c κs = search needs
 
 with-mark-requires : tie.Need-with-mark-requires
-with-mark-requires c κs = omega (arith, c .wide .ensures, c .before .before .before .pre .3 (c .before .before .before .args .from) (c .before .before .before .pre .1))
+with-mark-requires c κs =
+    let b = c .before .before .before in
+    omega (arith, c .wide .ensures, c .before .array-at .ensures, b .pre .3 (b .args .from) (b .pre .1) .array)
 
 size-of-requires : tie.Need-size-of-requires
 size-of-requires c κs = search needs
@@ -39,16 +39,24 @@ union-requires-2 : tie.Need-union-requires-2
 union-requires-2 c κs = search needs
 
 returns : tie.Need-returns
-returns c = let a = c .before .before .before .before .before .before .before .before .before .args in
-    added (now (a .kinds)) (now (a .arrays)) (a .from) (a .past) (a .s) (c .before .before .before .before .before .before .before .before .touched-in .result) (c .before .before .before .before .before .with-mark .result) (c .before .before .before .before .size-of .result) (c .before .before .before .size-of2 .result) (c .before .union .result) (c .union2 .result) (c .before .before .before .before .before .before .before .before .touched-in .ensures) (alone (c .before .before .before .before .before .with-mark .result) (c .before .before .before .before .before .before .wide .result) (c .before .before .before .before .before .before .wide .ensures) (c .before .before .before .before .before .with-mark .ensures)) (c .before .before .before .before .size-of .ensures .0) (c .before .before .before .size-of2 .ensures .0) (c .before .union .ensures) (c .union2 .ensures)
+returns c =
+    let y = c .before .before .before in
+    let x = y .before in
+    let m = x .before in
+    let w = m .before in
+    let t = w .before .before in
+    let a = t .before .args in
+    let one = alone (m .with-mark .result) (w .wide .result) (w .wide .ensures ∙ w .before .array-at .ensures) (m .with-mark .ensures) in
+    added (now (a .store)) (a .from) (a .past) (a .s) (t .touched-in .result) (m .with-mark .result) (x .size-of .result) (y .size-of2 .result)
+    (c .before .union .result) (c .union2 .result) (t .touched-in .ensures) one (x .size-of .ensures .0) (y .size-of2 .ensures .0)
+    (c .before .union .ensures) (c .union2 .ensures)
 
 pub with-loop-spec : {M : Type 1} → statement M
 with-loop-spec =
     tie.close
     (tie.spec
     touched-in-requires
-    mul-wide
-    element-copy-out-wide
+    array-at-requires
     wide-requires
     with-mark-requires
     size-of-requires
