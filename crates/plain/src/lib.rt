@@ -11,7 +11,7 @@ ghost use Rattle.reader.specs.Store.{tableIn};
 ghost use Rattle.reader.specs.Held.{Held};
 ghost use Rattle.grounds.specs.Accepted.{Valid};
 ghost use Rattle.tables.specs.Verdict.{numberOf, Told};
-ghost use Rattle.iterations.specs.Memory.{remembered};
+ghost use Rattle.iterations.specs.Memory.{total, remembered};
 ghost use Rattle.plain.specs.Plain.{plainAnswer, after, plainMemory};
 ghost use Rattle.plain.specs.Running.{Running};
 
