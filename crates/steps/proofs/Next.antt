@@ -26,13 +26,13 @@ use Rattle.stepping.specs.Step.{reportOf}
 use Rattle.steps.specs.Ready.{Listed, Ready, Leaves}
 
 -- a phase that a processor has come to is behind it no further than what it has done
-pub come-used : (ends : List ℕ) (b done m : ℕ) → beforeBy ends (comeBy ends b done m) b ≤ done
-come-used ends b done zero = omega arith
-come-used ends b done (suc m) = go (leb (beforeBy ends (suc m) b) done) refl (come-used ends b done m)
+pub come-used : (es : List ℕ) (b done m : ℕ) → beforeBy es (comeBy es b done m) b ≤ done
+come-used es b done zero = omega arith
+come-used es b done (suc m) = go (leb (beforeBy es (suc m) b) done) refl (come-used es b done m)
   where
-    go : (x : Bool) → leb (beforeBy ends (suc m) b) done ≡ x → beforeBy ends (comeBy ends b done m) b ≤ done
-        → beforeBy ends (cond x (suc m) (comeBy ends b done m)) b ≤ done
-    go true e ih = leb-true (beforeBy ends (suc m) b) done e
+    go : (x : Bool) → leb (beforeBy es (suc m) b) done ≡ x → beforeBy es (comeBy es b done m) b ≤ done
+        → beforeBy es (cond x (suc m) (comeBy es b done m)) b ≤ done
+    go true e ih = leb-true (beforeBy es (suc m) b) done e
     go false e ih = ih
 
 -- THE NEXT REPORT
@@ -68,10 +68,10 @@ module _ {w : Work Iteration} {P b : ℕ} {es xs : List ℕ} {at : ℕ} {c : Lis
   says-ends e l = rw (← come, opens false e, le-ltb done (before w (suc n) b) (omega (arith, late)))
 
   -- the place in its list
-  pub asks : done < beforeBy es (n + 1) b → done - beforeBy es n b < length (listOf xs (at + 48 * n) (loopsIn c) n)
+  asks : done < beforeBy es (n + 1) b → done - beforeBy es n b < length (listOf xs (at + 48 * n) (loopsIn c) n)
   asks l = rw (h .is n small) (omega (arith, early, late, used))
 
-  pub says-performs : false ≡ closedBy P es cs n → done < beforeBy es (n + 1) b → (x : Iteration)
+  says-performs : false ≡ closedBy P es cs n → done < beforeBy es (n + 1) b → (x : Iteration)
       → x ≡ getD (listOf xs (at + 48 * n) (loopsIn c) n) (done - beforeBy es n b) (iteration 0 0)
       → Performed (x .number) (x .index) ≡ reportOf (next (iteration 0 0) w b cs)
   unfolding next
@@ -80,6 +80,16 @@ module _ {w : Work Iteration} {P b : ℕ} {es xs : List ℕ} {at : ℕ} {c : Lis
       q ∙ ap (λ (k : List Iteration). getD k (done - beforeBy es n b) (iteration 0 0)) (h .is n small)
       ∙ ap (λ (k : ℕ). getD (w .list n b) (done - k) (iteration 0 0)) early in
       rw (← come, opens false e, lt-ltb done (before w (suc n) b) (omega (arith, late)), z)
+
+  -- as the code finds it
+  module _ (place loops m : ℕ) (at-phase : place ≡ at + 48 * n) (loops-are : loops ≡ loopsIn c) (m-is : m ≡ done - beforeBy es n b)
+      (more : done < beforeBy es (n + 1) b) where
+    pub nth-asks : (loops ≤ 16) × (place + 48 ≤ length xs) × (m < length (listOf xs place loops n))
+    nth-asks = (omega (arith, h .few-loops), omega (arith, h .room), rw (at-phase, loops-are, m-is) (asks more))
+
+    pub nth-says : false ≡ closedBy P es cs n → (x : Iteration) → x ≡ getD (listOf xs place loops n) m (iteration 0 0)
+        → Performed (x .number) (x .index) ≡ reportOf (next (iteration 0 0) w b cs)
+    nth-says e x q = says-performs e more x (rw (at-phase, loops-are, m-is) at q)
 
 -- WHAT PERFORMING IT LEAVES
 reported : (s : Said Iteration) (k i : ℕ) → Performed k i ≡ reportOf s → s ≡ performs (iteration k i)

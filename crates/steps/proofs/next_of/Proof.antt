@@ -1,86 +1,99 @@
+use Prim.Native.Nat.{ℕ, _+_, _*_, _<_}
+use native.Mathlib.Omega.{arith}
+use mathlib.Core.Path.{_≡_, sym, ap, _∙_}
+use denote.Ref.{now}
+use lib.ListN.{getD}
+use Rattle.barriers.specs.Code.{phaseBy, beforeBy}
+use Rattle.steps.proofs.Next.{used, says-waits, says-ends, nth-asks, nth-says}
 use borrow.Author.Needs.{needs}
 use Rattle.steps.proofs.next_of.Statement.{statement}
 use Rattle.steps.proofs.next_of.Tie as tie
-use Rattle.steps.proofs.next_of.Reads as reads
-use Rattle.steps.proofs.next_of.Lts as lts
-use Rattle.arithmetic.proofs.wide.Reads as wide-reads
-use Rattle.barriers.proofs.before_of.Reads as before-of-reads
-use Rattle.barriers.proofs.is_closed.Reads as is-closed-reads
-use Rattle.barriers.proofs.phase_of.Reads as phase-of-reads
-use Rattle.ranges.proofs.nth_of.Reads as nth-of-reads
-use Rattle.reader.proofs.loops_in.Reads as loops-in-reads
 
--- src/lib.rt:56:23
 wide-requires : tie.Need-wide-requires
 wide-requires c κs = search needs
 
--- src/lib.rt:56:16
 mul-done : tie.Need-mul-done
 mul-done c = search needs
 
--- src/lib.rt:56:16
 element-copy-out-done : tie.Need-element-copy-out-done
 element-copy-out-done c = search needs
 
--- src/lib.rt:57:9
 phase-of-requires : tie.Need-phase-of-requires
 phase-of-requires c κs = search needs
 
--- src/lib.rt:58:8
 is-closed-requires : tie.Need-is-closed-requires
 is-closed-requires c κs = search needs
 
--- src/lib.rt:59:9
 returns : tie.Need-returns
-returns c = ?
+returns c = let a = c .before .before .before .before .before .before .args in
+    let cs = now (a .counts) in
+    let n = c .before .before .phase-of in
+    let e = ap (λ (k : ℕ). getD cs k 0) (c .before .before .before .before .wide .ensures .0) in
+    let f = n .ensures .0 ∙ ap (λ (k : ℕ). phaseBy (now (a .ends)) 2 (a .b) k) e in
+    λ w h. says-waits h cs (n .result) f (n .ensures .1) (sym (c .if1 .taken) ∙ c .before .is-closed .ensures)
 
--- src/lib.rt:61:34
 add-before-of : tie.Need-add-before-of
 add-before-of c = search needs
 
--- src/lib.rt:61:8
 before-of-requires : tie.Need-before-of-requires
 before-of-requires c κs = search needs
 
--- src/lib.rt:62:9
 returns-2 : tie.Need-returns-2
-returns-2 c = ?
+returns-2 c = let a = c .before .before .before .before .before .before .before .before .args in
+    let cs = now (a .counts) in
+    let n = c .before .before .before .before .phase-of in
+    let e = ap (λ (k : ℕ). getD cs k 0) (c .before .before .before .before .before .before .wide .ensures .0) in
+    let f = n .ensures .0 ∙ ap (λ (k : ℕ). phaseBy (now (a .ends)) 2 (a .b) k) e in
+    λ w h. says-ends h cs (n .result) f (n .ensures .1) (sym (c .before .before .if1 .left) ∙ c .before .before .before .is-closed .ensures)
+        (omega (arith, e, c .if2 .taken, c .before .before-of .ensures))
 
--- src/lib.rt:64:9
 loops-in-requires : tie.Need-loops-in-requires
 loops-in-requires c κs = search needs
 
--- src/lib.rt:65:30
 wide-requires-2 : tie.Need-wide-requires-2
 wide-requires-2 c κs = search needs
 
--- src/lib.rt:65:22
 mul-place : tie.Need-mul-place
 mul-place c = search needs
 
--- src/lib.rt:65:17
 add-place : tie.Need-add-place
 add-place c = search needs
 
--- src/lib.rt:66:20
 before-of-requires-2 : tie.Need-before-of-requires-2
 before-of-requires-2 c κs = search needs
 
--- src/lib.rt:66:13
 sub-n : tie.Need-sub-n
-sub-n c = ?
+sub-n c = let a = c .before .before .before .before .before .before .before .before .before .before .before .args in
+    let cs = now (a .counts) in
+    let n = c .before .before .before .before .before .before .before .phase-of in
+    let e = ap (λ (k : ℕ). getD cs k 0) (c .before .before .before .before .before .before .before .before .before .wide .ensures .0) in
+    let f = n .ensures .0 ∙ ap (λ (k : ℕ). phaseBy (now (a .ends)) 2 (a .b) k) e in
+    omega (arith, e, c .before-of2 .ensures, used (c .before .before .before .before .before .before .before .before .before .before .before .pre .0 .1) cs (n .result) f (n .ensures .1))
 
--- src/lib.rt:67:56
 wide-requires-3 : tie.Need-wide-requires-3
 wide-requires-3 c κs = search needs
 
--- src/lib.rt:67:9
 nth-of-requires : tie.Need-nth-of-requires
-nth-of-requires c κs = ?
+nth-of-requires c κs = let a = c .before .before .before .before .before .before .before .before .before .before .before .before .args in
+    let cs = now (a .counts) in
+    let n = c .before .before .before .before .before .before .before .before .phase-of in
+    let e = ap (λ (k : ℕ). getD cs k 0) (c .before .before .before .before .before .before .before .before .before .before .wide .ensures .0) in
+    let f = n .ensures .0 ∙ ap (λ (k : ℕ). phaseBy (now (a .ends)) 2 (a .b) k) e in
+    let p = ap (λ (k : ℕ). a .at + 48 * k) (c .before .before .wide2 .ensures .0) in
+    let more : getD cs (a .b) 0 < beforeBy (now (a .ends)) (n .result + 1) (a .b) = omega (arith, e, c .before .before .before .before .if2 .left, c .before .before .before .before .before .before-of .ensures) in
+    nth-asks (c .before .before .before .before .before .before .before .before .before .before .before .before .pre .0 .1) cs (n .result) f (n .ensures .1) _ _ (c .wide3 .result) p (c .before .before .before .loops-in .ensures) (omega (arith, e, c .wide3 .ensures .0, c .before .before-of2 .ensures)) more
 
--- src/lib.rt:44:1
 returns-3 : tie.Need-returns-3
-returns-3 c = ?
+returns-3 c = let a = c .before .before .before .before .before .before .before .before .before .before .before .before .before .args in
+    let cs = now (a .counts) in
+    let n = c .before .before .before .before .before .before .before .before .before .phase-of in
+    let e = ap (λ (k : ℕ). getD cs k 0) (c .before .before .before .before .before .before .before .before .before .before .before .wide .ensures .0) in
+    let f = n .ensures .0 ∙ ap (λ (k : ℕ). phaseBy (now (a .ends)) 2 (a .b) k) e in
+    let p = ap (λ (k : ℕ). a .at + 48 * k) (c .before .before .before .wide2 .ensures .0) in
+    let more : getD cs (a .b) 0 < beforeBy (now (a .ends)) (n .result + 1) (a .b) = omega (arith, e, c .before .before .before .before .before .if2 .left, c .before .before .before .before .before .before .before-of .ensures) in
+    let m = c .before .wide3 in
+    λ w h. nth-says h cs (n .result) f (n .ensures .1) _ _ (m .result) p (c .before .before .before .before .loops-in .ensures) (omega (arith, e, m .ensures .0, c .before .before .before-of2 .ensures)) more
+        (sym (c .before .before .before .before .before .before .before .if1 .left) ∙ c .before .before .before .before .before .before .before .before .is-closed .ensures) (c .nth-of .result) (c .nth-of .ensures)
 
 pub next-of-spec : {M : Type 1} → statement M
 next-of-spec =

@@ -1,55 +1,67 @@
+use native.Mathlib.Omega.{arith}
+use mathlib.Core.Path.{_≡_, refl, sym, ap, _∙_}
+use Prim.Native.Nat.{ℕ}
+use mathlib.Core.Logic.{⊎-elim}
+use denote.Ref.{now}
+use lib.ListN.{getD}
+use Rattle.reader.specs.Store.{tableIn}
+use Rattle.stepping.specs.declared.Report.the-variants.{Performed}
+use Rattle.steps.proofs.Next.{performed-inside, leaves-performed, leaves-other}
 use borrow.Author.Needs.{needs}
 use Rattle.steps.proofs.turn.Statement.{statement}
 use Rattle.steps.proofs.turn.Tie as tie
-use Rattle.steps.proofs.turn.Reads as reads
-use Rattle.steps.proofs.turn.Lts as lts
-use Rattle.arithmetic.proofs.wide.Reads as wide-reads
-use Rattle.iterations.proofs.iterate.Reads as iterate-reads
-use Rattle.steps.proofs.next_of.Reads as next-of-reads
 
--- src/lib.rt:89:9
 next-of-requires : tie.Need-next-of-requires
 next-of-requires c κs = search needs
 
--- src/lib.rt:90:32
 enum-known-report : tie.Need-enum-known-report
 enum-known-report c = search needs
 
--- src/lib.rt:91:9
 iterate-requires : tie.Need-iterate-requires
-iterate-requires c κs = ?
+iterate-requires c κs = let a = c .before .before .before .before .before .before .before .before .args in
+    let p = c .before .before .before .before .before .before .before .before .pre in
+    let w = p .0 .0 in
+    let h = p .0 .1 in
+    let x = c .before .before .before .before .next-of in
+    let g = c .before .before .report .given in
+    (tableIn (now (a .store)), h .loaded, performed-inside h (now (a .counts)) (g .0 .0) (g .0 .1 .0) (x .result) (x .ensures w (h .listed)) (g .1) .0, p .2)
 
--- src/lib.rt:92:16
 wide-requires : tie.Need-wide-requires
 wide-requires c κs = search needs
 
--- src/lib.rt:92:9
 mul-counts : tie.Need-mul-counts
 mul-counts c = search needs
 
--- src/lib.rt:92:9
 element-copy-out-counts : tie.Need-element-copy-out-counts
 element-copy-out-counts c = search needs
 
--- src/lib.rt:92:9
 add-counts : tie.Need-add-counts
-add-counts c = ?
+add-counts c = let a = c .before .before .before .before .before .before .before .before .before .before .before .before .before .args in
+    let p = c .before .before .before .before .before .before .before .before .before .before .before .before .before .pre in
+    let h = p .0 .1 in
+    let x = c .before .before .before .before .before .before .before .before .before .next-of in
+    let g = c .before .before .before .before .before .before .before .report .given in
+    let e = ap (λ (k : ℕ). getD (now (a .counts)) k 0) (c .before .wide .ensures .0) in
+    record { fits = omega (arith, e, performed-inside h (now (a .counts)) (g .0 .0) (g .0 .1 .0) (x .result) (x .ensures (p .0 .0) (h .listed)) (g .1) .1) }
 
--- src/lib.rt:92:9
 element-write-counts : tie.Need-element-write-counts
 element-write-counts c = search needs
 
--- src/lib.rt:75:1
 same-length : tie.Need-same-length
 same-length c = search needs
 
--- src/lib.rt:75:1
 returns : tie.Need-returns
-returns c = ?
+returns c = let a = c .before .before .before .before .before .before .before .before .before .before .before .before .before .args in
+    let x = c .before .before .before .before .before .before .before .before .before .next-of in
+    let g = c .before .before .before .before .before .before .before .report .given in
+    λ w h. leaves-performed h (now (a .counts)) (now (a .memory)) (Performed (g .0 .0) (g .0 .1 .0)) (sym (g .1) ∙ x .ensures w (h .listed)) (g .0 .0) (g .0 .1 .0) refl (c .before .wide .result) (c .before .wide .ensures .0) _
+        (c .before .before .before .before .iterate .ensures (tableIn (now (a .store))) (h .loaded) (performed-inside h (now (a .counts)) (g .0 .0) (g .0 .1 .0) (x .result) (x .ensures w (h .listed)) (g .1) .0))
 
--- src/lib.rt:75:1
 returns-2 : tie.Need-returns-2
-returns-2 c = ?
+returns-2 c = let a = c .before .before .before .before .before .args in
+    let x = c .before .next-of in
+    λ w h. leaves-other h (now (a .counts)) (now (a .memory)) (x .result) (x .ensures w (h .listed))
+        (λ k i q. ⊎-elim (λ z. omega (arith, z)) (⊎-elim (λ z. omega (arith, z)) (λ z. omega (arith, z))) (rw q at (c .match .keys2)))
 
 pub turn-spec : {M : Type 1} → statement M
 turn-spec =
