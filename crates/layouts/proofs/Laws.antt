@@ -6,7 +6,6 @@ use mathlib.Core.Path.{_≡_, refl, sym, ap, subst, _∙_}
 use mathlib.Core.Logic.{_⊎_, inl, inr, ⊎-elim}
 use mathlib.Core.List.{List}
 use lib.ListN.{length, set, length-set}
-use lib.Seq.{getD-set-same, getD-set-other}
 use Rattle.reader.specs.Store.{loopsIn, tableIn}
 use Rattle.blocks.specs.declared.Axis.{Axis}
 use Rattle.blocks.specs.Sums.{column}
@@ -17,6 +16,7 @@ use Rattle.plans.specs.Code.{Laid}
 use Rattle.ranges.specs.Code.{rangeOf, Kept, Apart}
 use Rattle.ranges.specs.Listed.{few-loops, few-blocks, kept-apart, apart-twice}
 use Rattle.layouts.specs.Layout.{workIn, Stands, withEnds, stands-apart}
+use Rattle.layouts.specs.Ends.{ends-here, ends-other, ends-small}
 
 module _ (a : Axis) (c : List ℕ) (h : Laid a c) (b : ℕ) where
   -- ONE PROCESSOR: the second list leaves the first
@@ -37,33 +37,6 @@ module _ (a : Axis) (c : List ℕ) (h : Laid a c) (b : ℕ) where
       let one : r ≡ before (workIn a c) 1 b = omega arith in
       let two : s ≡ before (workIn a c) 2 b = omega arith in
       rw (e, one, two)
-
-  -- where its phases end is read off again
-  module _ (xs : List ℕ) (size : length xs ≡ 192) (few : b < 64) where
-    pub ends-here : (n : ℕ) → n < 2 → column (withEnds a c b xs) (64 * n + b) ≡ before (workIn a c) (suc n) b
-    ends-here zero l =
-        let e : 64 * 0 + b ≡ b = omega arith in
-        ap (column (withEnds a c b xs)) e
-        ∙ getD-set-other (set xs b (before (workIn a c) 1 b)) (64 + b) b (before (workIn a c) 2 b) 0 (λ z. omega arith)
-        ∙ getD-set-same xs b (before (workIn a c) 1 b) 0 (omega arith)
-    ends-here (suc zero) l =
-        let e : 64 * 1 + b ≡ 64 + b = omega arith in
-        ap (column (withEnds a c b xs)) e
-        ∙ getD-set-same (set xs b (before (workIn a c) 1 b)) (64 + b) (before (workIn a c) 2 b) 0 (simp length-set (omega arith))
-    ends-here (suc (suc n)) l = absurd (omega arith)
-
-    pub ends-other : (i : ℕ) → (i ≡ b → ⊥) → (i ≡ 64 + b → ⊥) → column (withEnds a c b xs) i ≡ column xs i
-    ends-other i p q =
-        getD-set-other (set xs b (before (workIn a c) 1 b)) (64 + b) i (before (workIn a c) 2 b) 0 q
-        ∙ getD-set-other xs b i (before (workIn a c) 1 b) 0 p
-
-    pub ends-small : Small xs → long 0 ≤ 1052656 → long 1 ≤ 1052656 → Small (withEnds a c b xs)
-    ends-small s f g i = go (ℕ-discrete i b) (ℕ-discrete i (64 + b))
-      where
-        go : Dec (i ≡ b) → Dec (i ≡ 64 + b) → column (withEnds a c b xs) i ≤ 3200000
-        go (yes e) d = let z : i ≡ 64 * 0 + b = omega arith in omega (arith, ap (column (withEnds a c b xs)) z, ends-here 0 (omega arith))
-        go (no e) (yes d) = let z : i ≡ 64 * 1 + b = omega arith in omega (arith, ap (column (withEnds a c b xs)) z, ends-here 1 (omega arith))
-        go (no e) (no d) = omega (arith, ends-other i e d, s i)
 
 -- ALL: the first b processors are laid out
 pub record Laying (a : Axis) (c : List ℕ) (stride : ℕ) (old xs ends : List ℕ) (b : ℕ) : Type 0 where
@@ -100,15 +73,15 @@ module _ (a : Axis) (c : List ℕ) (h : Laid a c) (stride : ℕ) (old xs ends : 
     below = omega arith;
     long = p .long ∙ y .long;
     ends-long = simp length-set (y .ends-long);
-    small = ends-small a c h b ends (y .ends-long) few (y .small) f g;
+    small = ends-small a c b ends (y .ends-long) few (y .small) f g;
     ends-are = λ n d l i. ended n d l i (ℕ-discrete d b);
     stands = λ z d i. kept z d i (ℕ-discrete d b);
   })
     where
       ended : (n d : ℕ) → n < 2 → d < b + 1 → Dec (d ≡ b) → column (withEnds a c b ends) (64 * n + d) ≡ before (workIn a c) (suc n) d
-      ended n d l i (yes q) = rw q (ends-here a c h b ends (y .ends-long) few n l)
+      ended n d l i (yes q) = rw q (ends-here a c b ends (y .ends-long) few n l)
       ended n d l i (no q) =
-          ends-other a c h b ends (y .ends-long) few (64 * n + d) (λ z. omega arith) (λ z. omega arith) ∙ y .ends-are n d l (omega arith)
+          ends-other a c b ends (y .ends-long) few (64 * n + d) (λ z. omega arith) (λ z. omega arith) ∙ y .ends-are n d l (omega arith)
 
       kept : stride ≡ 96 → (d : ℕ) → d < b + 1 → Dec (d ≡ b) → Stands a c ys (stride * d) d
       kept z d i (yes q) = rw q s

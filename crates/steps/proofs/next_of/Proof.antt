@@ -45,7 +45,7 @@ returns-2 c = let a = c .before .before .before .before .before .before .before 
     let e = ap (λ (k : ℕ). getD cs k 0) (c .before .before .before .before .before .before .wide .ensures .0) in
     let f = n .ensures .0 ∙ ap (λ (k : ℕ). phaseBy (now (a .ends)) 2 (a .b) k) e in
     λ w h. says-ends h cs (n .result) f (n .ensures .1) (sym (c .before .before .if1 .left) ∙ c .before .before .before .is-closed .ensures)
-        (omega (arith, e, c .if2 .taken, c .before .before-of .ensures))
+    (omega (arith, e, c .if2 .taken, c .before .before-of .ensures))
 
 loops-in-requires : tie.Need-loops-in-requires
 loops-in-requires c κs = search needs
@@ -93,7 +93,7 @@ returns-3 c = let a = c .before .before .before .before .before .before .before 
     let more : getD cs (a .b) 0 < beforeBy (now (a .ends)) (n .result + 1) (a .b) = omega (arith, e, c .before .before .before .before .before .if2 .left, c .before .before .before .before .before .before .before-of .ensures) in
     let m = c .before .wide3 in
     λ w h. nth-says h cs (n .result) f (n .ensures .1) _ _ (m .result) p (c .before .before .before .before .loops-in .ensures) (omega (arith, e, m .ensures .0, c .before .before .before-of2 .ensures)) more
-        (sym (c .before .before .before .before .before .before .before .if1 .left) ∙ c .before .before .before .before .before .before .before .before .is-closed .ensures) (c .nth-of .result) (c .nth-of .ensures)
+    (sym (c .before .before .before .before .before .before .before .if1 .left) ∙ c .before .before .before .before .before .before .before .before .is-closed .ensures) (c .nth-of .result) (c .nth-of .ensures)
 
 pub next-of-spec : {M : Type 1} → statement M
 next-of-spec =

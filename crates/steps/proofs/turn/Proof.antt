@@ -55,13 +55,13 @@ returns c = let a = c .before .before .before .before .before .before .before .b
     let x = c .before .before .before .before .before .before .before .before .before .next-of in
     let g = c .before .before .before .before .before .before .before .report .given in
     λ w h. leaves-performed h (now (a .counts)) (now (a .memory)) (Performed (g .0 .0) (g .0 .1 .0)) (sym (g .1) ∙ x .ensures w (h .listed)) (g .0 .0) (g .0 .1 .0) refl (c .before .wide .result) (c .before .wide .ensures .0) _
-        (c .before .before .before .before .iterate .ensures (tableIn (now (a .store))) (h .loaded) (performed-inside h (now (a .counts)) (g .0 .0) (g .0 .1 .0) (x .result) (x .ensures w (h .listed)) (g .1) .0))
+    (c .before .before .before .before .iterate .ensures (tableIn (now (a .store))) (h .loaded) (performed-inside h (now (a .counts)) (g .0 .0) (g .0 .1 .0) (x .result) (x .ensures w (h .listed)) (g .1) .0))
 
 returns-2 : tie.Need-returns-2
 returns-2 c = let a = c .before .before .before .before .before .args in
     let x = c .before .next-of in
     λ w h. leaves-other h (now (a .counts)) (now (a .memory)) (x .result) (x .ensures w (h .listed))
-        (λ k i q. ⊎-elim (λ z. omega (arith, z)) (⊎-elim (λ z. omega (arith, z)) (λ z. omega (arith, z))) (rw q at (c .match .keys2)))
+    (λ k i q. ⊎-elim (λ z. omega (arith, z)) (⊎-elim (λ z. omega (arith, z)) (λ z. omega (arith, z))) (rw q at (c .match .keys2)))
 
 pub turn-spec : {M : Type 1} → statement M
 turn-spec =

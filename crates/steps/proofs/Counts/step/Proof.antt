@@ -1,35 +1,35 @@
+use mathlib.Core.Path.{_≡_}
+use denote.Ref.{now}
+use Rattle.plans.specs.Plans.{settings}
+use Rattle.steps.proofs.Laws.{steps-refused, laid-named, steps-made}
 use borrow.Author.Needs.{needs}
 use Rattle.steps.proofs.Counts.step.Statement.{statement}
 use Rattle.steps.proofs.Counts.step.Tie as tie
-use Rattle.steps.proofs.Counts.step.Reads as reads
-use Rattle.steps.proofs.Counts.step.Lts as lts
-use Rattle.plans.proofs.plan_for.Reads as plan-for-reads
-use Rattle.steps.proofs.Counts.refused.Reads as refused-reads
-use Rattle.steps.proofs.Counts.step_planned.Reads as step-planned-reads
 
--- src/lib.rt:151:13
 plan-for-requires : tie.Need-plan-for-requires
 plan-for-requires c κs = search needs
 
--- src/lib.rt:153:13
 refused-requires : tie.Need-refused-requires
 refused-requires c κs = search needs
 
--- src/lib.rt:153:13
 returns : tie.Need-returns
-returns c = ?
+returns c = let a = c .before .before .before .before .before .before .before .args in
+    let x = c .before .before .before .plan-for in
+    rw (c .refused .ensures) (steps-refused (now (a .s)) (settings (a .processors)) (a .processor) (x .result) (x .last .1 .1 .1 .0) (x .ensures) (a .self) (now (a .memory)) (c .before .if1 .taken))
 
--- src/lib.rt:156:9
 step-planned-requires : tie.Need-step-planned-requires
-step-planned-requires c κs = ?
+step-planned-requires c κs = let a = c .before .before .before .before .before .before .before .before .before .args in
+    let x = c .before .before .before .before .before .plan-for in
+    laid-named (now (a .s)) (settings (a .processors)) (a .processor) (x .result) (x .last .1 .1 .1 .0) (x .ensures) (a .self) (now (a .memory)) (c .before .before .before .if1 .left)
 
--- src/lib.rt:147:5
 same-length : tie.Need-same-length
 same-length c = search needs
 
--- src/lib.rt:147:5
 returns-2 : tie.Need-returns-2
-returns-2 c = ?
+returns-2 c = let a = c .before .before .before .before .before .before .before .before .before .before .before .before .args in
+    let x = c .before .before .before .before .before .before .before .before .plan-for in
+    let y = c .before .before .step-planned in
+    steps-made (now (a .s)) (settings (a .processors)) (a .processor) (x .result) (x .last .1 .1 .1 .0) (x .ensures) (a .self) (now (a .memory)) (c .before .before .before .before .before .before .if1 .left) (y .result) _ (y .ensures .0) (y .ensures .1)
 
 pub step-spec : {M : Type 1} → statement M
 step-spec =
