@@ -6,8 +6,7 @@ use mathlib.Core.Bool.{Bool, true, false}
 use mathlib.Core.List.{List, _++_}
 use lib.Dec.{ltb}
 use lib.ListN.{length, drop}
-use Rattle.model.specs.Table.{Table}
-use Rattle.reader.specs.Reading.{Answer, accepted}
+use Rattle.reader.specs.Reading.{AnswerOf, accepted}
 use Rattle.outputs.specs.declared.Outcome.{Outcome}
 
 -- a refusal with its number and its place, or the bytes written
@@ -21,9 +20,9 @@ abbrev pub _if_else_ : Given → Bool → Given → Given
 _if_else_ a true b = a
 _if_else_ a false b = b
 
--- what follows an answer on a table's bytes: its refusal, or more of the table
-abbrev pub after : Answer → (Table → Given) → Given
-after (Answer.refused n p) more = refused n p
+-- what follows an answer: its refusal, or more of what it accepts
+abbrev pub after : {T : Type 0} → AnswerOf T → (T → Given) → Given
+after (AnswerOf.refused n p) more = refused n p
 after (accepted t) more = more t
 
 -- 13 where the bytes don't fit the lent ones
