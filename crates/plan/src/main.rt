@@ -3,17 +3,15 @@
 use libc::STDIN_FILENO;
 use libc::STDOUT_FILENO;
 
-fn wide(x: u8) -> u32 {
-    x as u32
-}
+// No listing is longer, so it is never refused.
+const LINES: usize = 212992;
 
 fn main() {
     let mut processors = [0u8; 1];
     io::read_full(STDIN_FILENO, &mut processors);
     let mut table = io::buffer();
     let n = io::read_full(STDIN_FILENO, &mut table);
-    // No listing is longer, so it is never refused.
-    let mut lines = [0u8; 212992];
-    let printed = printing::print_plan(&table[..n], wide(processors[0]), &mut lines);
+    let mut lines = [0u8; LINES];
+    let printed = printing::print_plan(&table[..n], processors[0] as u32, &mut lines);
     io::write_all(STDOUT_FILENO, &lines[..printed.written]);
 }
