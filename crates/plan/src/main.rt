@@ -6,12 +6,16 @@ use libc::STDOUT_FILENO;
 // No listing is longer, so it is never refused.
 const LINES: usize = 212992;
 
+fn wide(x: u8) -> u32 {
+    x as u32
+}
+
 fn main() {
     let mut processors = [0u8; 1];
     io::read_full(STDIN_FILENO, &mut processors);
     let mut table = io::buffer();
     let n = io::read_full(STDIN_FILENO, &mut table);
     let mut lines = [0u8; LINES];
-    let printed = printing::print_plan(&table[..n], processors[0] as u32, &mut lines);
+    let printed = printing::print_plan(&table[..n], wide(processors[0]), &mut lines);
     io::write_all(STDOUT_FILENO, &lines[..printed.written]);
 }
