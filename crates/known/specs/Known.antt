@@ -92,7 +92,10 @@ pub record Known : Type 0 where
   pub nan-bits : toBits binary64 nan ≡ 0x7FF8000000000000
 
 pub known : Known
-unfolding planned fitting table through serialFrom loopHit hit collides reading readFrom follow loopsOf tested ground early fields passed edge two four offset kindOf bodyLength recordOf recordAt operands withArray withLoop withItem advanced blank summary lengths dependence required raised walk numbers threshold spanOf Blocks.size start isShort plainMemory after plainAnswer remembered binary combined applied worked workedAll value performed add sum div round size span climb units odd trailingZeros ofInt toBits
+unfolding planned fitting table through serialFrom loopHit hit collides reading readFrom follow loopsOf tested ground early fields passed
+    edge two four offset kindOf bodyLength recordOf recordAt operands withArray withLoop withItem advanced blank summary lengths dependence
+    required raised walk numbers threshold spanOf Blocks.size start isShort plainMemory after plainAnswer remembered binary combined applied
+    worked workedAll value performed add sum div round size span climb units odd trailingZeros ofInt toBits
 known = record {
   example-threshold = refl;
   example-five = refl;

@@ -39,5 +39,8 @@ pub example-text : text example (settings 2)
     ++ ascii "fused 1 1 7 10\n"
     ++ ascii "peeled 0 1 5 6\n"
     ++ ascii "sweeps 6 5\n"
-unfolding text textOf planned fitting table through serialFrom loopHit hit collides reading readFrom follow loopsOf tested ground early fields passed edge two four offset kindOf bodyLength recordOf recordAt operands withArray withLoop withItem advanced blank summary lengths dependence required raised walk numbers threshold spanOf size start isShort fusedPart peeledPart some countFrom listing line decimal digits
+unfolding text textOf planned fitting table through serialFrom loopHit hit collides reading readFrom follow loopsOf tested ground early
+    fields passed edge two four offset kindOf bodyLength recordOf recordAt operands withArray withLoop withItem advanced blank summary
+    lengths dependence required raised walk numbers threshold spanOf size start isShort fusedPart peeledPart some countFrom listing line
+    decimal digits
 example-text = refl
