@@ -1,5 +1,5 @@
 -- The known results, from bytes and by computation, in the paper's order.
-use Prim.Native.Nat.{ℕ, zero, suc, _+_}
+use Prim.Native.Nat.{ℕ, zero, suc, _+_, _-_}
 use mathlib.Core.Path.{_≡_, refl}
 use mathlib.Core.List.{List, [], _∷_, _++_}
 use lib.Count.{trailingZeros}
@@ -9,25 +9,25 @@ use lib.Ieee.{Float, nan, binary64, ofInt, div, toBits, round, add, sum, size, s
 use Rattle.records.specs.Bytes.{two, four, offset, kindOf, bodyLength, recordOf, recordAt}
 use Rattle.records.specs.Grounds.{early, edge, fields, ground, passed, tested}
 use Rattle.records.specs.History.{operands, withArray, withLoop, withItem, advanced, blank, summary, lengths}
-use Rattle.model.specs.Table.{Table, count}
+use Rattle.model.specs.Table.{count}
 use Rattle.model.specs.References.{allRefs}
 use Rattle.model.specs.Bodies.{binary, combined, applied, worked, workedAll, value, performed}
-use Rattle.reader.specs.Reading.{Answer, accepted, refused, loopsOf, follow, readFrom, reading}
+use Rattle.reader.specs.Reading.{AnswerOf, accepted, refused, loopsOf, follow, readFrom, reading}
 use Rattle.serial.specs.Serial.{collides, hit, loopHit, serialFrom, through, table}
 use Rattle.chains.specs.Dependence.{dependence}
 use Rattle.chains.specs.Walk.{required, raised, walk, numbers, shifts, peels}
 use Rattle.chains.specs.Threshold.{threshold}
-use Rattle.blocks.specs.Span.{spanOf, tableSpan}
-use Rattle.blocks.specs.Blocks.{isShort}
+use Rattle.blocks.specs.Span.{spanOf}
+use Rattle.blocks.specs.Blocks.{start, isShort}
 use Rattle.blocks.specs.Blocks as Blocks
 use Rattle.tables.specs.Verdict.{numberOf}
-use Rattle.plans.specs.Plans.{thresholdOf, fitting, planned}
+use Rattle.plans.specs.Plans.{Planned, settings, thresholdOf, fitting, planned}
 use Rattle.iterations.specs.Memory.{remembered}
 use Rattle.plain.specs.Plain.{plainAnswer, after, plainMemory}
 use Rattle.known.specs.Bytes.{example, three, minusOneThenZero, storeAfterRead, itself, single, zeroByZero}
 
--- what f says of an accepted table; of a refused one nothing
-abbrev told : (Table → List ℕ) → Answer → List ℕ
+-- what f says of what is accepted; of a refusal nothing
+abbrev told : {T : Type 0} → (T → List ℕ) → AnswerOf T → List ℕ
 told f (accepted t) = f t
 told f (refused n p) = []
 
@@ -41,8 +41,11 @@ peelsIn s = told (λ t. take (count t) (peels (allRefs t))) (table s)
 abbrev pub thresholdIn : List ℕ → List ℕ
 thresholdIn s = told (λ t. thresholdOf t ∷ []) (table s)
 
+abbrev blockSize : Planned → ℕ → ℕ
+blockSize q b = q .plan .edge (suc b) - q .plan .edge b
+
 abbrev pub sizesIn : List ℕ → List ℕ
-sizesIn s = told (λ t. Blocks.size (tableSpan t .count) 3 0 ∷ Blocks.size (tableSpan t .count) 3 1 ∷ Blocks.size (tableSpan t .count) 3 2 ∷ []) (planned s 3)
+sizesIn s = told (λ q. blockSize q 0 ∷ blockSize q 1 ∷ blockSize q 2 ∷ []) (planned s (settings 3))
 
 -- every element its own index, in three arrays of 12; and element i of array 2 after the example's plain run
 abbrev pub whole : ℕ → Float
@@ -61,8 +64,8 @@ element i = getD (plainMemory example own) (24 + i) nan
 pub record Known : Type 0 where
   -- the example: threshold 2; P = 5 accepted, P = 6 refused 11
   pub example-threshold : thresholdIn example ≡ 2 ∷ []
-  pub example-five : numberOf (planned example 5) ≡ 0
-  pub example-six : numberOf (planned example 6) ≡ 11
+  pub example-five : numberOf (planned example (settings 5)) ≡ 0
+  pub example-six : numberOf (planned example (settings 6)) ≡ 11
   -- with every element its own index first, A2[1] = 3, A2[5] = 12, A2[10] = 21
   pub element-1 : element 1 ≡ whole 3
   pub element-5 : element 5 ≡ whole 12
@@ -82,14 +85,17 @@ pub record Known : Type 0 where
   pub three-blocks : sizesIn single ≡ 4 ∷ 3 ∷ 3 ∷ []
   -- T = 10, threshold 0: P = 10 accepted, 11 refused
   pub single-threshold : thresholdIn single ≡ 0 ∷ []
-  pub single-ten : numberOf (planned single 10) ≡ 0
-  pub single-eleven : numberOf (planned single 11) ≡ 11
+  pub single-ten : numberOf (planned single (settings 10)) ≡ 0
+  pub single-eleven : numberOf (planned single (settings 11)) ≡ 11
   -- 0 divided by 0 stores 7FF8000000000000
   pub zero-by-zero : plainMemory zeroByZero (whole 1 ∷ []) ≡ nan ∷ []
   pub nan-bits : toBits binary64 nan ≡ 0x7FF8000000000000
 
 pub known : Known
-unfolding planned fitting table through serialFrom loopHit hit collides reading readFrom follow loopsOf tested ground early fields passed edge two four offset kindOf bodyLength recordOf recordAt operands withArray withLoop withItem advanced blank summary lengths dependence required raised walk numbers threshold spanOf Blocks.size isShort plainMemory after plainAnswer remembered binary combined applied worked workedAll value performed add sum div round size span climb units odd trailingZeros ofInt toBits
+unfolding planned fitting table through serialFrom loopHit hit collides reading readFrom follow loopsOf tested ground early fields passed
+    edge two four offset kindOf bodyLength recordOf recordAt operands withArray withLoop withItem advanced blank summary lengths dependence
+    required raised walk numbers threshold spanOf Blocks.size start isShort plainMemory after plainAnswer remembered binary combined applied
+    worked workedAll value performed add sum div round size span climb units odd trailingZeros ofInt toBits
 known = record {
   example-threshold = refl;
   example-five = refl;

@@ -1,5 +1,4 @@
 -- The listing's known results, from bytes to text, by computation.
-use Prim.Native.Nat.{ℕ}
 use mathlib.Core.Path.{_≡_, refl}
 use mathlib.Core.List.{[], _++_}
 use Rattle.records.specs.Bytes.{two, four, offset, kindOf, bodyLength, recordOf, recordAt}
@@ -13,7 +12,7 @@ use Rattle.chains.specs.Threshold.{threshold}
 use Rattle.blocks.specs.Span.{spanOf}
 use Rattle.blocks.specs.Blocks.{size, start, isShort}
 use Rattle.blocks.specs.Parts.{fusedPart, peeledPart}
-use Rattle.plans.specs.Plans.{fitting, planned}
+use Rattle.plans.specs.Plans.{Settings, settings, fitting, planned}
 use Rattle.known.specs.Bytes.{example}
 use Rattle.marks.specs.Marks.{countFrom}
 use Rattle.sweeps.specs.Sweeps.{some}
@@ -23,13 +22,13 @@ use Rattle.text.specs.Line.{line}
 use Rattle.listing.specs.Listing.{listing, refusal}
 use Rattle.printing.specs.Printing.{textOf, text}
 
--- no table byte, whatever P is
-pub empty-input : (P : ℕ) → text [] P ≡ ascii "refused 1 0\n"
+-- no table byte, whatever the settings are
+pub empty-input : (w : Settings) → text [] w ≡ ascii "refused 1 0\n"
 unfolding text textOf planned fitting table through reading readFrom follow tested ground refusal line decimal digits
-empty-input P = refl
+empty-input w = refl
 
 -- the example
-pub example-text : text example 2
+pub example-text : text example (settings 2)
     ≡ ascii "loop 0 0 0\n"
     ++ ascii "loop 1 1 1\n"
     ++ ascii "block 0 1 5\n"
@@ -40,5 +39,8 @@ pub example-text : text example 2
     ++ ascii "fused 1 1 7 10\n"
     ++ ascii "peeled 0 1 5 6\n"
     ++ ascii "sweeps 6 5\n"
-unfolding text textOf planned fitting table through serialFrom loopHit hit collides reading readFrom follow loopsOf tested ground early fields passed edge two four offset kindOf bodyLength recordOf recordAt operands withArray withLoop withItem advanced blank summary lengths dependence required raised walk numbers threshold spanOf size start isShort fusedPart peeledPart some countFrom listing line decimal digits
+unfolding text textOf planned fitting table through serialFrom loopHit hit collides reading readFrom follow loopsOf tested ground early
+    fields passed edge two four offset kindOf bodyLength recordOf recordAt operands withArray withLoop withItem advanced blank summary
+    lengths dependence required raised walk numbers threshold spanOf size start isShort fusedPart peeledPart some countFrom listing line
+    decimal digits
 example-text = refl

@@ -1,4 +1,2 @@
 -- what the lines are
 pub mod Listing
--- the names that contracts cite
-pub mod Code

@@ -5,11 +5,12 @@ use mathlib.Core.List.{List, [], _∷_, _++_}
 use Prim.Native.Nat.{ℕ, zero, suc, _-_, _<_}
 use native.Mathlib.Omega.{arith}
 use lib.Dec.{ltb}
+use Rattle.model.specs.Table.{Table, count}
 use Rattle.text.specs.Ascii.{ascii}
 use Rattle.text.specs.Line.{line}
 use Rattle.blocks.specs.declared.Range.{Range}
 use Rattle.blocks.specs.Blocks.{blockAt}
-use Rattle.blocks.specs.Parts.{fusedPart, peeledPart}
+use Rattle.lists.specs.Fusion.{Fusion, fusedRange, peeledRange}
 
 -- loop, shift, peel
 abbrev pub loopLine : ℕ → ℕ → ℕ → List ℕ
@@ -36,19 +37,24 @@ each (suc n) f = each n f ++ f n
 abbrev pub rangeLines : List ℕ → ℕ → ℕ → (ℕ → ℕ → Range) → List ℕ
 rangeLines word P n part = each P (λ b. each n (λ k. rangeLine word b k (part b k)))
 
--- n loops with their own bounds, shifts and peels; P blocks, of which block b runs from E b up to E (b + 1); the two counts of sweeps
-module _ (n : ℕ) (own : ℕ → Range) (shift peel : ℕ → ℕ) (P : ℕ) (E : ℕ → ℕ) (before after : ℕ) where
+-- the word of a phase
+abbrev pub phaseName : ℕ → List ℕ
+phaseName zero = ascii "fused"
+phaseName (suc n) = ascii "peeled"
+
+-- of a table, its plan and the two counts of sweeps
+module _ (t : Table) (c : Fusion) (before after : ℕ) where
   abbrev loops : List ℕ
-  loops = each n (λ k. loopLine k (shift k) (peel k))
+  loops = each (count t) (λ k. loopLine k (c .shift k) (c .peel k))
 
   abbrev blocks : List ℕ
-  blocks = each P (λ b. blockLine b (blockAt E b))
+  blocks = each (c .processors) (λ b. blockLine b (blockAt (c .edge) b))
 
   abbrev fused : List ℕ
-  fused = rangeLines (ascii "fused") P n (λ b k. fusedPart (own k) (blockAt E b) P b (shift k) (peel k))
+  fused = rangeLines (phaseName 0) (c .processors) (count t) (fusedRange t c)
 
   abbrev peeled : List ℕ
-  peeled = rangeLines (ascii "peeled") P n (λ b k. peeledPart (own k) (blockAt E b) P b (shift k) (peel k))
+  peeled = rangeLines (phaseName 1) (c .processors) (count t) (peeledRange t c)
 
   -- loops, blocks, then fused and then peeled ranges, then sweeps
   unfoldable pub listing : List ℕ
@@ -58,7 +64,7 @@ module _ (n : ℕ) (own : ℕ → Range) (shift peel : ℕ → ℕ) (P : ℕ) (E
 unfoldable pub refusal : ℕ → ℕ → List ℕ
 refusal number place = line (ascii "refused") (number ∷ place ∷ [])
 
--- LAWS
+-- LAWS: nothing is asked of loops that are not there
 pub each-same : (n : ℕ) (f g : ℕ → List ℕ) → ((k : ℕ) → k < n → f k ≡ g k) → each n f ≡ each n g
 each-same zero f g e = refl
 each-same (suc n) f g e = rw (each-same n f g (λ k l. e k (omega arith)), e n (omega arith))
@@ -66,21 +72,3 @@ each-same (suc n) f g e = rw (each-same n f g (λ k l. e k (omega arith)), e n (
 pub ranges-same : (word : List ℕ) (P n : ℕ) (part part′ : ℕ → ℕ → Range) → ((b k : ℕ) → k < n → part b k ≡ part′ b k)
     → rangeLines word P n part ≡ rangeLines word P n part′
 ranges-same word P n part part′ e = each-same P _ _ (λ b h. each-same n _ _ (λ k l. rw (e b k l)))
-
--- the listing asks nothing of loops that are not there
-pub listing-same : (n : ℕ) (own own′ : ℕ → Range) (shift shift′ peel peel′ : ℕ → ℕ) (P : ℕ) (E : ℕ → ℕ) (before after : ℕ)
-    → ((k : ℕ) → k < n → own k ≡ own′ k) → ((k : ℕ) → k < n → shift k ≡ shift′ k) → ((k : ℕ) → k < n → peel k ≡ peel′ k)
-    → listing n own shift peel P E before after ≡ listing n own′ shift′ peel′ P E before after
-unfolding listing
-listing-same n own own′ shift shift′ peel peel′ P E before after e f g =
-    rw (
-      each-same n (λ k. loopLine k (shift k) (peel k)) (λ k. loopLine k (shift′ k) (peel′ k)) (λ k l. rw (f k l, g k l)),
-      ranges-same (ascii "fused") P n
-          (λ b k. fusedPart (own k) (blockAt E b) P b (shift k) (peel k))
-          (λ b k. fusedPart (own′ k) (blockAt E b) P b (shift′ k) (peel′ k))
-          (λ b k l. rw (e k l, f k l, g k l)),
-      ranges-same (ascii "peeled") P n
-          (λ b k. peeledPart (own k) (blockAt E b) P b (shift k) (peel k))
-          (λ b k. peeledPart (own′ k) (blockAt E b) P b (shift′ k) (peel′ k))
-          (λ b k l. rw (e k l, f k l, g k l)),
-    )

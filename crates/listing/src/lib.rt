@@ -1,37 +1,21 @@
 // The listing: the lines of a plan, or the single line of a refusal, into lent bytes. What has no room is left out, and the answer
 // is the text's whole length, so a first call with no bytes tells how many are needed.
-
-use blocks::Part;
+use arithmetic::minus;
+use blocks::Axis;
 use blocks::Range;
+use records::Store;
 use text::put_line_of_four;
 use text::put_line_of_three;
 use text::put_line_of_two;
-ghost use mathlib.Core.Path.{_≡_};
-ghost use Prim.Native.Nat.{suc, _+_, _-_, _^_, _≤_, _<_};
-ghost use Rattle.text.specs.Written.{Put, Whole};
+ghost use Prim.Native.Nat.{_+_, _^_, _≤_, _<_};
+ghost use Rattle.reader.specs.Store.{loopsIn, lastAt, tableIn};
 ghost use Rattle.blocks.specs.Sums.{column};
-ghost use Rattle.blocks.specs.Blocks.{edge, block};
-ghost use Rattle.listing.specs.Listing.{loopLine, blockLine, rangeLine, each, rangeLines, listing, refusal};
-ghost use Rattle.listing.specs.Code.{partName, partRange, ownOf, Sizes};
-ghost use Rattle.blocks.specs.Code.{partOf};
-
-// How many loops and processors there are, and the indices that the blocks split: `count` of them from `first` on.
-struct Shape {
-    loops: usize,
-    processors: u32,
-    first: u32,
-    count: u32,
-}
-
-// The last index of a range that is past at `past`.
-fn last_before(past: u32) -> usize
-    ensures { λ r. ⌜ r ≡ past - 1 ⌝ }
-{
-    if past < 1 {
-        return 0;
-    }
-    (past - 1) as usize
-}
+ghost use Rattle.blocks.specs.Blocks.{block};
+ghost use Rattle.lists.specs.Fusion.{fusionIn};
+ghost use Rattle.text.specs.Written.{Put, Whole};
+ghost use Rattle.plans.specs.Code.{Laid};
+ghost use Rattle.ranges.specs.Code.{partIn, partAt, rangeOf};
+ghost use Rattle.listing.specs.Listing.{loopLine, blockLine, rangeLine, each, rangeLines, phaseName, listing, refusal};
 
 // Loop k, its shift and its peel.
 fn put_loop(out: &mut [u8], at: usize, k: usize, shift: u32, peel: u32) -> usize
@@ -42,176 +26,144 @@ fn put_loop(out: &mut [u8], at: usize, k: usize, shift: u32, peel: u32) -> usize
 }
 
 // Block b, its first and its last index.
-fn put_block(out: &mut [u8], at: usize, processors: u32, b: u32, first: u32, count: u32) -> usize
-    requires { ⌜ (at < 2 ^ 32) × (b < processors) × (first + count < 2 ^ 31) ⌝ }
-    ensures { λ r. ⌜ Put (now (out .entry)) at (blockLine b (block first count processors b)) 100 (now (out .exit)) r ⌝ }
+fn put_block(out: &mut [u8], at: usize, a: Axis, b: u32) -> usize
+    requires { ⌜ (at < 2 ^ 32) × (b < a .blocks) × (a .first + a .count < 2 ^ 31) ⌝ }
+    ensures { λ r. ⌜ Put (now (out .entry)) at (blockLine b (block (a .first) (a .count) (a .blocks) b)) 100 (now (out .exit)) r ⌝ }
 {
-    let r = blocks::block_of(first, count, processors, b);
-    let from = r.from;
-    let to = last_before(r.past);
-    put_line_of_three(out, at, b"block", b as usize, from as usize, to)
+    let r = blocks::block_of(a.first, a.count, a.blocks, b);
+    let last = minus(r.past, 1);
+    put_line_of_three(
+        out,
+        at,
+        b"block",
+        b as usize,
+        r.from as usize,
+        last as usize,
+    )
 }
 
-// Block b, loop k, the first and the last index of the range; nothing if it is empty.
-fn put_range(out: &mut [u8], at: usize, part: Part, b: u32, k: usize, from: u32, past: u32) -> usize
+// Block b, loop k, the first and the last index of the range that the loop has in a phase; nothing if it is empty.
+fn put_range(out: &mut [u8], at: usize, phase: u32, b: u32, k: usize, r: Range) -> usize
     requires { ⌜ at < 2 ^ 32 ⌝ }
-    ensures { λ r. ⌜ Put (now (out .entry)) at (rangeLine (partName part) b k (record { from = from; past = past })) 100 (now (out .exit)) r ⌝ }
+    ensures { λ x. ⌜ Put (now (out .entry)) at (rangeLine (phaseName phase) b k r) 100 (now (out .exit)) x ⌝ }
 {
+    let from = r.from;
+    let past = r.past;
     if past <= from {
         return at;
     }
-    let to = last_before(past);
-    match part {
-        Part::Fused => put_line_of_four(out, at, b"fused", b as usize, k, from as usize, to),
-        Part::Peeled => put_line_of_four(out, at, b"peeled", b as usize, k, from as usize, to),
+    let last = minus(past, 1);
+    if phase == 0 {
+        put_line_of_four(
+            out,
+            at,
+            b"fused",
+            b as usize,
+            k,
+            from as usize,
+            last as usize,
+        )
+    } else {
+        put_line_of_four(
+            out,
+            at,
+            b"peeled",
+            b as usize,
+            k,
+            from as usize,
+            last as usize,
+        )
     }
 }
 
-// The range of loop k, with its bounds, its shift and its peel, in block b.
+// The range of loop k in block b, whose indices are `blk`.
 fn put_part(
     out: &mut [u8],
     at: usize,
-    part: Part,
-    processors: u32,
-    b: u32,
+    phase: u32,
+    a: Axis,
     blk: Range,
+    b: u32,
     k: usize,
-    first: u32,
-    last: u32,
-    shift: u32,
-    peel: u32,
+    store: &Store,
 ) -> usize
-    requires { ⌜ (at < 2 ^ 32) × (b < processors) × (last < 2 ^ 31) × (blk .from + peel < 2 ^ 32) × (blk .past + peel < 2 ^ 32) ⌝ }
-    ensures { λ r. ⌜ Put (now (out .entry)) at (rangeLine (partName part) b k (partOf part (record { from = first; past = suc last }) blk processors b shift peel)) 100 (now (out .exit)) r ⌝ }
+    requires { ⌜ at < 2 ^ 32 ⌝ }
+    requires { ⌜ (k < 16) × (b < a .blocks) × (lastAt (now store) k < 2 ^ 31) × (blk .from + column (a .peels) k < 2 ^ 32) × (blk .past + column (a .peels) k < 2 ^ 32) ⌝ }
+    ensures { λ r. ⌜ Put (now (out .entry)) at (rangeLine (phaseName phase) b k (partAt (partIn phase) a (now (store .entry)) blk b k)) 100 (now (out .exit)) r ⌝ }
 {
-    let r = blocks::part_between(part, first, last, blk, processors, b, shift, peel);
-    let from = r.from;
-    let past = r.past;
-    put_range(out, at, part, b, k, from, past)
+    let part = ranges::part_in(phase);
+    let r = ranges::range_at(part, a, blk, b, k, store);
+    put_range(out, at, phase, b, k, r)
 }
 
 // The ranges of the loops in block b.
-fn put_block_parts(
-    out: &mut [u8],
-    at: usize,
-    part: Part,
-    shape: Shape,
-    b: u32,
-    firsts: &[u32; 16],
-    lasts: &[u32; 16],
-    shifts: &[u32; 16],
-    peels: &[u32; 16],
-) -> usize
-    requires { ⌜ (at < 2 ^ 31) × (b < shape .processors) × Sizes (shape .loops) (shape .processors) (shape .first) (shape .count) (now lasts) (now peels) ⌝ }
-    ensures { λ r. ⌜ Put (now (out .entry)) at (each (shape .loops) (λ k. rangeLine (partName part) b k (partRange part (shape .first) (shape .count) (shape .processors) (now (firsts .entry)) (now (lasts .entry)) (now (shifts .entry)) (now (peels .entry)) b k))) 1600 (now (out .exit)) r ⌝ }
+fn put_block_parts(out: &mut [u8], at: usize, phase: u32, a: Axis, b: u32, store: &Store) -> usize
+    requires { ⌜ (at < 2 ^ 31) × (b < a .blocks) × Laid a (now store) ⌝ }
+    ensures { λ r. ⌜ Put (now (out .entry)) at (each (loopsIn (now (store .entry))) (λ k. rangeLine (phaseName phase) b k (rangeOf phase a (now (store .entry)) b k))) 1600 (now (out .exit)) r ⌝ }
 {
-    let blk = blocks::block_of(shape.first, shape.count, shape.processors, b);
+    let blk = blocks::block_of(a.first, a.count, a.blocks, b);
+    let loops = reader::loops_in(store);
     let mut next = at;
     let mut k: usize = 0;
-    while k < shape.loops {
-        next = put_part(
-            out,
-            next,
-            part,
-            shape.processors,
-            b,
-            blk,
-            k,
-            firsts[k],
-            lasts[k],
-            shifts[k],
-            peels[k],
-        );
+    while k < loops {
+        next = put_part(out, next, phase, a, blk, b, k, store);
         k += 1;
     }
     next
 }
 
-// The ranges, by block and within it by loop.
-fn put_parts(
-    out: &mut [u8],
-    at: usize,
-    part: Part,
-    shape: Shape,
-    firsts: &[u32; 16],
-    lasts: &[u32; 16],
-    shifts: &[u32; 16],
-    peels: &[u32; 16],
-) -> usize
-    requires { ⌜ (at < 2 ^ 30) × Sizes (shape .loops) (shape .processors) (shape .first) (shape .count) (now lasts) (now peels) ⌝ }
-    ensures { λ r. ⌜ Put (now (out .entry)) at (rangeLines (partName part) (shape .processors) (shape .loops) (partRange part (shape .first) (shape .count) (shape .processors) (now (firsts .entry)) (now (lasts .entry)) (now (shifts .entry)) (now (peels .entry)))) 102400 (now (out .exit)) r ⌝ }
+// The ranges of a phase, by block and within it by loop.
+fn put_parts(out: &mut [u8], at: usize, phase: u32, a: Axis, store: &Store) -> usize
+    requires { ⌜ (at < 2 ^ 30) × Laid a (now store) ⌝ }
+    ensures { λ r. ⌜ Put (now (out .entry)) at (rangeLines (phaseName phase) (a .blocks) (loopsIn (now (store .entry))) (rangeOf phase a (now (store .entry)))) 102400 (now (out .exit)) r ⌝ }
 {
     let mut next = at;
     let mut b: u32 = 0;
-    while b < shape.processors {
-        next = put_block_parts(out, next, part, shape, b, firsts, lasts, shifts, peels);
+    while b < a.blocks {
+        next = put_block_parts(out, next, phase, a, b, store);
         b += 1;
     }
     next
 }
 
 // The loops.
-fn put_loops(
-    out: &mut [u8],
-    at: usize,
-    loops: usize,
-    shifts: &[u32; 16],
-    peels: &[u32; 16],
-) -> usize
-    requires { ⌜ (at < 2 ^ 30) × (loops ≤ 16) ⌝ }
-    ensures { λ r. ⌜ Put (now (out .entry)) at (each loops (λ k. loopLine k (column (now (shifts .entry)) k) (column (now (peels .entry)) k))) 1600 (now (out .exit)) r ⌝ }
+fn put_loops(out: &mut [u8], at: usize, a: Axis, store: &Store) -> usize
+    requires { ⌜ (at < 2 ^ 30) × Laid a (now store) ⌝ }
+    ensures { λ r. ⌜ Put (now (out .entry)) at (each (loopsIn (now (store .entry))) (λ k. loopLine k (column (a .shifts) k) (column (a .peels) k))) 1600 (now (out .exit)) r ⌝ }
 {
+    let loops = reader::loops_in(store);
     let mut next = at;
     let mut k: usize = 0;
     while k < loops {
-        next = put_loop(out, next, k, shifts[k], peels[k]);
+        next = put_loop(out, next, k, a.shifts[k], a.peels[k]);
         k += 1;
     }
     next
 }
 
 // The blocks.
-fn put_blocks(out: &mut [u8], at: usize, processors: u32, first: u32, count: u32) -> usize
-    requires { ⌜ (at < 2 ^ 30) × (processors ≤ 64) × (first + count < 2 ^ 31) ⌝ }
-    ensures { λ r. ⌜ Put (now (out .entry)) at (each processors (λ b. blockLine b (block first count processors b))) 6400 (now (out .exit)) r ⌝ }
+fn put_blocks(out: &mut [u8], at: usize, a: Axis) -> usize
+    requires { ⌜ (at < 2 ^ 30) × (a .blocks ≤ 64) × (a .first + a .count < 2 ^ 31) ⌝ }
+    ensures { λ r. ⌜ Put (now (out .entry)) at (each (a .blocks) (λ b. blockLine b (block (a .first) (a .count) (a .blocks) b))) 6400 (now (out .exit)) r ⌝ }
 {
     let mut next = at;
     let mut b: u32 = 0;
-    while b < processors {
-        next = put_block(out, next, processors, b, first, count);
+    while b < a.blocks {
+        next = put_block(out, next, a, b);
         b += 1;
     }
     next
 }
 
-// The listing of a plan: the loops' bounds, shifts and peels, the blocks of the `count` indices from `first` on, and the two counts
-// of sweeps.
-pub fn write_listing(
-    out: &mut [u8],
-    loops: usize,
-    processors: u32,
-    first: u32,
-    count: u32,
-    firsts: &[u32; 16],
-    lasts: &[u32; 16],
-    shifts: &[u32; 16],
-    peels: &[u32; 16],
-    before: u32,
-    after: u32,
-) -> usize
-    requires { ⌜ Sizes loops processors first count (now lasts) (now peels) ⌝ }
-    ensures { λ r. ⌜ Whole (now (out .entry)) (listing loops (ownOf (now (firsts .entry)) (now (lasts .entry))) (column (now (shifts .entry))) (column (now (peels .entry))) processors (edge first count processors) before after) 212900 (now (out .exit)) r ⌝ }
+// The listing of a plan, for the table in the store, and the two counts of sweeps.
+pub fn write_listing(out: &mut [u8], axis: Axis, store: &Store, before: u32, after: u32) -> usize
+    requires { ⌜ Laid axis (now store) ⌝ }
+    ensures { λ r. ⌜ Whole (now (out .entry)) (listing (tableIn (now (store .entry))) (fusionIn axis) before after) 212900 (now (out .exit)) r ⌝ }
 {
-    let shape = Shape {
-        loops,
-        processors,
-        first,
-        count,
-    };
-    let a = put_loops(out, 0, loops, shifts, peels);
-    let b = put_blocks(out, a, processors, first, count);
-    let c = put_parts(out, b, Part::Fused, shape, firsts, lasts, shifts, peels);
-    let d = put_parts(out, c, Part::Peeled, shape, firsts, lasts, shifts, peels);
+    let a = put_loops(out, 0, axis, store);
+    let b = put_blocks(out, a, axis);
+    let c = put_parts(out, b, 0, axis, store);
+    let d = put_parts(out, c, 1, axis, store);
     put_line_of_two(out, d, b"sweeps", before as usize, after as usize)
 }
 

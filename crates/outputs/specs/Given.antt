@@ -20,7 +20,7 @@ abbrev pub _if_else_ : Given → Bool → Given → Given
 _if_else_ a true b = a
 _if_else_ a false b = b
 
--- what follows an answer on a table's bytes: its refusal, or more of what was asked for
+-- what follows an answer: its refusal, or more of what it accepts
 abbrev pub after : {T : Type 0} → AnswerOf T → (T → Given) → Given
 after (AnswerOf.refused n p) more = refused n p
 after (accepted t) more = more t

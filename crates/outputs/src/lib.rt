@@ -2,6 +2,9 @@
 ghost use mathlib.Core.Path.{_≡_};
 ghost use Rattle.outputs.specs.Gives.{refusing, writing};
 
+// Ground 13: the lent bytes are too few.
+pub const BUFFER: usize = 13;
+
 // The number of the refusal, 0 for none; its place; the read that 9 names, else 0; how many bytes are written.
 pub struct Outcome {
     pub number: usize,

@@ -3,6 +3,9 @@
 use libc::STDIN_FILENO;
 use libc::STDOUT_FILENO;
 
+// No listing is longer, so it is never refused.
+const LINES: usize = 212992;
+
 fn wide(x: u8) -> u32 {
     x as u32
 }
@@ -12,8 +15,7 @@ fn main() {
     io::read_full(STDIN_FILENO, &mut processors);
     let mut table = io::buffer();
     let n = io::read_full(STDIN_FILENO, &mut table);
-    // No listing is longer, so it is never refused.
-    let mut lines = [0u8; 212992];
+    let mut lines = [0u8; LINES];
     let printed = printing::print_plan(&table[..n], wide(processors[0]), &mut lines);
     io::write_all(STDOUT_FILENO, &lines[..printed.written]);
 }

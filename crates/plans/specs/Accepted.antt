@@ -1,5 +1,6 @@
 -- What is known of an accepted plan. All that stands above the planner needs of a plan is here, however it was found.
-use Prim.Native.Nat.{ℕ, _+_, _≤_, _<_}
+use Prim.Native.Nat.{ℕ, zero, suc, _+_, _*_, _/_, _%_, _≤_, _<_}
+use native.Mathlib.Nat.{mod-lt, div-add-mod, mul-zero}
 use native.Mathlib.Omega.{arith}
 use mathlib.Core.Path.{_≡_, refl, sym, ap, subst, _∙_}
 use mathlib.Core.Bool.{Bool, true, false, false≢true, _||_, or-false, or-true}
@@ -19,18 +20,19 @@ use Rattle.chains.specs.Tables.{allRefs-refs, allRefs-below, refs-number, plan-
 use Rattle.chains.specs.Bounds.{InRange, shifts-bound, peels-bound, plan-threshold-bound}
 use Rattle.chains.specs.Threshold.{threshold-upper}
 use Rattle.blocks.specs.Span.{tableSpan, span-most}
-use Rattle.blocks.specs.Blocks.{start-up, start-last}
+use Rattle.blocks.specs.Blocks.{start-next, start-up, start-last, size-least, short-not}
 use Rattle.lists.specs.Fusion.{Fusion, Wide, fusion-wide}
 use Rattle.rows.specs.Legal.{Legal}
 use Rattle.plans.specs.Plans.{Settings, Planned, shiftOf, peelOf, thresholdOf, planOf, shortFor, badProcessors, badNumber, fitting, planned, plannedFor}
 
--- the table meets none of the grounds 1 to 9; every dependence is kept; the blocks are no smaller than any loop's shift and peel together; and
--- the bounds that the code's sums need
+-- the table meets none of the grounds 1 to 9; every dependence is kept; the blocks are no smaller than any loop's shift and peel together, and
+-- none is empty; and the bounds that the code's sums need
 pub record Fit (t : Table) (c : Fusion) : Type 0 where
   pub valid : Valid t
   pub sound : Sound t
   pub legal : Legal (Dependence (allRefs t)) t c
   pub wide : Wide t c
+  pub rising : (b : ℕ) → b < c .processors → c .edge b < c .edge (suc b)
   pub few : c .processors ≤ 64
   pub small-shift : (k : ℕ) → c .shift k ≤ 10000
   pub small-peel : (k : ℕ) → c .peel k ≤ 10000
@@ -45,6 +47,14 @@ pub record Accepts (s : List ℕ) (w : Settings) (q : Planned) : Type 0 where
 pub neither : (a b : Bool) → (a || b) ≡ false → (a ≡ false) × (b ≡ false)
 neither true b e = absurd (false≢true (let z : false ≡ true = cc in z))
 neither false b e = (refl, e)
+
+-- where there are no fewer indices than blocks, each block has one
+some-each : (T P : ℕ) → 0 < P → P ≤ T → 0 < T / P
+some-each T P pos l = go (T / P) refl
+  where
+    go : (q : ℕ) → T / P ≡ q → 0 < q
+    go zero e = absurd (omega (arith, mod-lt T pos, ap (λ (x : ℕ). P * x + T % P) (sym e) ∙ div-add-mod T P, mul-zero P))
+    go (suc q) e = omega arith
 
 -- OUR SHIFTS AND PEELS
 module _ (t : Table) (v : Valid t) where
@@ -78,6 +88,12 @@ module _ (t : Table) (v : Valid t) where
         fusion-wide t (w .processors) (shiftOf t) (peelOf t) (thresholdOf t)
         (λ k l. threshold-upper (shifts (allRefs t)) (peels (allRefs t)) k (omega (arith, v .few-loops))) pos e
 
+    plan-rises : 0 < w .processors → shortFor t w ≡ false → (b : ℕ) → planOf t w .edge b < planOf t w .edge (suc b)
+    plan-rises pos e b =
+        let T = tableSpan t .count in
+        let P = w .processors in
+        omega (arith, start-next T P b, size-least T P b, some-each T P pos (short-not T P (thresholdOf t) e .0))
+
     pub plan-fits : Sound t → badProcessors w ≡ false → shortFor t w ≡ false → Fit t (planOf t w)
     plan-fits sound b e =
         let (z, m) = neither (eqb (w .processors) 0) (ltb 64 (w .processors)) b in
@@ -88,6 +104,7 @@ module _ (t : Table) (v : Valid t) where
           sound = sound;
           legal = plan-keeps;
           wide = plan-wide pos e;
+          rising = λ b l. plan-rises pos e b;
           few = ltb-false 64 (w .processors) m;
           small-shift = λ k. omega (arith, shift-small k);
           small-peel = λ k. omega (arith, peel-small k);

@@ -1,6 +1,4 @@
--- the text of a table and a number of processors, and what lent bytes hold once it is printed
+-- the text of a table for a number of processors, and what lent bytes hold once it is printed
 pub mod Printing
 -- the first 4,096 bytes of a table decide its text
 pub mod Prefix
--- the names that contracts cite
-pub mod Code

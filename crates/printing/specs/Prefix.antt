@@ -5,9 +5,9 @@ use mathlib.Core.List.{List}
 use lib.ListN.{take}
 use Rattle.serial.specs.Serial.{table}
 use Rattle.grounds.specs.Prefix.{reading-kept}
-use Rattle.plans.specs.Plans.{planned}
+use Rattle.plans.specs.Plans.{Settings, planned}
 use Rattle.printing.specs.Printing.{text}
 
-pub text-kept : (s : List ℕ) (P : ℕ) → text (take 4096 s) P ≡ text s P
+pub text-kept : (s : List ℕ) (w : Settings) → text (take 4096 s) w ≡ text s w
 unfolding text planned table
-text-kept s P = rw (reading-kept s)
+text-kept s w = rw (reading-kept s)

@@ -4,8 +4,10 @@ ghost use Prim.Native.Nat.{_+_, _<_, _≤_};
 ghost use Rattle.records.specs.History.{operands, withArray, withLoop, withItem, advanced, blank};
 ghost use Rattle.records.specs.Clear.{Room};
 
-// A table as it is kept (reader/specs/Store.antt): the lengths of the arrays come first.
-pub type Store = [u32; 1651];
+// A table as it is kept (reader/specs/Store.antt), in so many numbers: the lengths of the arrays come first.
+pub const STORE: usize = 1651;
+
+pub type Store = [u32; STORE];
 
 pub enum Kind {
     Unknown,

@@ -1,11 +1,13 @@
 use denote.Ref.{now}
-use Rattle.entries.specs.Code.{blockEnds}
-use Rattle.numbers.specs.Numbers.{encoded}
-use Rattle.outputs.specs.Gives.{gives-short}
-use Rattle.entries.proofs.Laws.{ends-size, gives-put}
+use Rattle.lists.specs.Fusion.{fusionIn}
+use Rattle.entries.specs.Entries.{blocksOf}
+use Rattle.entries.proofs.Laws.{blocks-size, numbers-short, numbers-put}
 use borrow.Author.Needs.{needs}
 use Rattle.entries.proofs.give_blocks.Statement.{statement}
 use Rattle.entries.proofs.give_blocks.Tie as tie
+
+wide-requires : tie.Need-wide-requires
+wide-requires c κs = search needs
 
 mul-if1 : tie.Need-mul-if1
 mul-if1 c = search needs
@@ -14,7 +16,10 @@ refusal-requires : tie.Need-refusal-requires
 refusal-requires c κs = search needs
 
 returns : tie.Need-returns
-returns c = rw (c .refusal .ensures) (gives-short (encoded (blockEnds (c .before .before .before .args .first) (c .before .before .before .args .count) (c .before .before .before .args .processors))) (now (c .before .before .before .args .out)) (rw (ends-size (c .before .before .before .args .first) (c .before .before .before .args .count) (c .before .before .before .args .processors)) (c .before .if1 .taken)))
+returns c = let a = c .before .before .before .before .args in
+    let e = c .before .before .wide .ensures .0 in
+    let xs = blocksOf (fusionIn (a .a)) in
+    rw (c .refusal .ensures) (numbers-short xs (now (a .out)) _ (blocks-size (a .a)) (rw e at (c .before .if1 .taken)))
 
 write-blocks-requires : tie.Need-write-blocks-requires
 write-blocks-requires c κs = search needs
@@ -26,12 +31,16 @@ same-length : tie.Need-same-length
 same-length c = search needs
 
 returns-2 : tie.Need-returns-2
-returns-2 c = rw (c .written .ensures) (gives-put (encoded (blockEnds (c .before .before .before .before .before .before .before .args .first) (c .before .before .before .before .before .before .before .args .count) (c .before .before .before .before .before .before .before .args .processors))) (now (c .before .before .before .before .before .before .before .args .out)) _ _ _ (rw (ends-size (c .before .before .before .before .before .before .before .args .first) (c .before .before .before .before .before .before .before .args .count) (c .before .before .before .before .before .before .before .args .processors)) (c .before .before .before .before .before .if1 .left)) (c .before .before .before .write-blocks .ensures))
+returns-2 c = let a = c .before .before .before .before .before .before .before .before .args in
+    let e = c .before .before .before .before .before .before .wide .ensures .0 in
+    let xs = blocksOf (fusionIn (a .a)) in
+    rw (c .written .ensures) (numbers-put xs (now (a .out)) _ (blocks-size (a .a)) (rw e at (c .before .before .before .before .before .if1 .left)) (c .before .before .before .write-blocks .ensures))
 
 pub give-blocks-spec : {M : Type 1} → statement M
 give-blocks-spec =
     tie.close
     (tie.spec
+    wide-requires
     mul-if1
     refusal-requires
     returns

@@ -1,27 +1,20 @@
+use native.Mathlib.Omega.{arith}
 use denote.Ref.{now}
-use Rattle.entries.proofs.Laws.{write-asks, list-short, list-written}
-use Rattle.ranges.specs.Held.{few-loops, cut-long, total-asks}
+use Rattle.reader.specs.Store.{tableIn}
+use Rattle.reader.specs.Held.{few-loops}
+use Rattle.lists.specs.Fusion.{fusionIn, work}
+use Rattle.ranges.specs.Listed.{list-in}
+use Rattle.entries.specs.Entries.{pairsOf}
+use Rattle.entries.proofs.Laws.{list-fits, list-size, numbers-short, numbers-put}
 use borrow.Author.Needs.{needs}
 use Rattle.entries.proofs.give_list.Statement.{statement}
 use Rattle.entries.proofs.give_list.Tie as tie
 
-ranges-of-requires : tie.Need-ranges-of-requires
-ranges-of-requires c κs = search needs
+slice-aggregate-put-list : tie.Need-slice-aggregate-put-list
+slice-aggregate-put-list c = search needs
 
-array-share-prefix-froms : tie.Need-array-share-prefix-froms
-array-share-prefix-froms c = search needs
-
-slice-aggregate-total-length : tie.Need-slice-aggregate-total-length
-slice-aggregate-total-length c = cut-long (c .before .before .before .before .before .before .before .args .p .loops) _ (few-loops (c .before .before .before .before .before .before .before .args .processors) (c .before .before .before .before .before .before .before .args .p) (now (c .before .before .before .before .before .before .before .args .firsts)) (now (c .before .before .before .before .before .before .before .args .lasts)) (c .before .before .before .before .before .before .before .pre .1)) (c .before .before .before .before .before .ranges-of .ensures .0 .0)
-
-array-share-prefix-pasts : tie.Need-array-share-prefix-pasts
-array-share-prefix-pasts c = search needs
-
-slice-aggregate-total-length-2 : tie.Need-slice-aggregate-total-length-2
-slice-aggregate-total-length-2 c = cut-long (c .before .before .before .before .before .before .before .before .args .p .loops) _ (few-loops (c .before .before .before .before .before .before .before .before .args .processors) (c .before .before .before .before .before .before .before .before .args .p) (now (c .before .before .before .before .before .before .before .before .args .firsts)) (now (c .before .before .before .before .before .before .before .before .args .lasts)) (c .before .before .before .before .before .before .before .before .pre .1)) (c .before .before .before .before .before .before .ranges-of .ensures .0 .1)
-
-total-length-requires : tie.Need-total-length-requires
-total-length-requires c κs = total-asks (c .before .before .before .before .before .before .before .before .args .p .loops) (c .before .before .before .before .before .before .ranges-of .result .froms) (c .before .before .before .before .before .before .ranges-of .result .pasts) (few-loops (c .before .before .before .before .before .before .before .before .args .processors) (c .before .before .before .before .before .before .before .before .args .p) (now (c .before .before .before .before .before .before .before .before .args .firsts)) (now (c .before .before .before .before .before .before .before .before .args .lasts)) (c .before .before .before .before .before .before .before .before .pre .1)) (c .before .before .before .before .before .before .ranges-of .ensures .0)
+put-list-requires : tie.Need-put-list-requires
+put-list-requires c κs = search needs
 
 mul-if1 : tie.Need-mul-if1
 mul-if1 c = search needs
@@ -30,28 +23,22 @@ refusal-requires : tie.Need-refusal-requires
 refusal-requires c κs = search needs
 
 returns : tie.Need-returns
-returns c = λ t h. rw (c .refusal .ensures) (list-short (c .before .before .before .before .before .before .before .before .before .before .before .args .processors) (c .before .before .before .before .before .before .before .before .before .before .before .args .p) (now (c .before .before .before .before .before .before .before .before .before .before .before .args .firsts)) (now (c .before .before .before .before .before .before .before .before .before .before .before .args .lasts)) (c .before .before .before .before .before .before .before .before .before .before .before .args .part) (c .before .before .before .before .before .before .before .before .before .before .before .args .b) (c .before .before .before .before .before .before .before .before .before .ranges-of .result .froms) (c .before .before .before .before .before .before .before .before .before .ranges-of .result .pasts) (c .before .before .before .before .before .before .before .before .before .ranges-of .ensures .0) (c .before .before .before .before .before .before .before .before .before .ranges-of .ensures .1) (c .before .before .total-length .result) (c .before .before .total-length .ensures) t h (now (c .before .before .before .before .before .before .before .before .before .before .before .args .out)) (c .before .if1 .taken))
+returns c = let a = c .before .before .before .before .before .before .args in
+    let l = work (tableIn (now (a .store))) (fusionIn (a .a)) (a .phase) (a .b) in
+    let size = list-size _ l (c .before .before .before .put-list .ensures .0 .0) in
+    rw (c .refusal .ensures) (numbers-short (pairsOf l) (now (a .out)) _ size (c .before .if1 .taken))
 
-array-share-prefix-froms-2 : tie.Need-array-share-prefix-froms-2
-array-share-prefix-froms-2 c = search needs
-
-slice-aggregate-write-list : tie.Need-slice-aggregate-write-list
-slice-aggregate-write-list c = cut-long (c .before .before .before .before .before .before .before .before .before .before .before .before .args .p .loops) _ (few-loops (c .before .before .before .before .before .before .before .before .before .before .before .before .args .processors) (c .before .before .before .before .before .before .before .before .before .before .before .before .args .p) (now (c .before .before .before .before .before .before .before .before .before .before .before .before .args .firsts)) (now (c .before .before .before .before .before .before .before .before .before .before .before .before .args .lasts)) (c .before .before .before .before .before .before .before .before .before .before .before .before .pre .1)) (c .before .before .before .before .before .before .before .before .before .before .ranges-of .ensures .0 .0)
-
-array-share-prefix-pasts-2 : tie.Need-array-share-prefix-pasts-2
-array-share-prefix-pasts-2 c = search needs
-
-slice-aggregate-write-list-2 : tie.Need-slice-aggregate-write-list-2
-slice-aggregate-write-list-2 c = cut-long (c .before .before .before .before .before .before .before .before .before .before .before .before .before .args .p .loops) _ (few-loops (c .before .before .before .before .before .before .before .before .before .before .before .before .before .args .processors) (c .before .before .before .before .before .before .before .before .before .before .before .before .before .args .p) (now (c .before .before .before .before .before .before .before .before .before .before .before .before .before .args .firsts)) (now (c .before .before .before .before .before .before .before .before .before .before .before .before .before .args .lasts)) (c .before .before .before .before .before .before .before .before .before .before .before .before .before .pre .1)) (c .before .before .before .before .before .before .before .before .before .before .before .ranges-of .ensures .0 .1)
-
-array-share-prefix-shifts : tie.Need-array-share-prefix-shifts
-array-share-prefix-shifts c = search needs
-
-slice-aggregate-write-list-3 : tie.Need-slice-aggregate-write-list-3
-slice-aggregate-write-list-3 c = cut-long (c .before .before .before .before .before .before .before .before .before .before .before .before .before .before .args .p .loops) _ (few-loops (c .before .before .before .before .before .before .before .before .before .before .before .before .before .before .args .processors) (c .before .before .before .before .before .before .before .before .before .before .before .before .before .before .args .p) (now (c .before .before .before .before .before .before .before .before .before .before .before .before .before .before .args .firsts)) (now (c .before .before .before .before .before .before .before .before .before .before .before .before .before .before .args .lasts)) (c .before .before .before .before .before .before .before .before .before .before .before .before .before .before .pre .1)) (c .before .before .before .before .before .before .before .before .before .before .before .before .before .before .pre .1 .1 .shifts-long)
+loops-in-requires : tie.Need-loops-in-requires
+loops-in-requires c κs = search needs
 
 write-list-requires : tie.Need-write-list-requires
-write-list-requires c κs = write-asks (c .before .before .before .before .before .before .before .before .before .before .before .before .before .before .args .processors) (c .before .before .before .before .before .before .before .before .before .before .before .before .before .before .args .p) (now (c .before .before .before .before .before .before .before .before .before .before .before .before .before .before .args .firsts)) (now (c .before .before .before .before .before .before .before .before .before .before .before .before .before .before .args .lasts)) (c .before .before .before .before .before .before .before .before .before .before .before .before .before .before .args .part) (c .before .before .before .before .before .before .before .before .before .before .before .before .before .before .args .b) (c .before .before .before .before .before .before .before .before .before .before .before .before .ranges-of .result .froms) (c .before .before .before .before .before .before .before .before .before .before .before .before .ranges-of .result .pasts) (c .before .before .before .before .before .before .before .before .before .before .before .before .ranges-of .ensures .0) (c .before .before .before .before .before .before .before .before .before .before .before .before .ranges-of .ensures .1) (c .before .before .before .before .before .total-length .result) (c .before .before .before .before .before .total-length .ensures) (c .before .before .before .before .before .before .before .before .before .before .before .before .before .before .pre .1 .0) (c .before .before .before .before .before .before .before .before .before .before .before .before .before .before .pre .1 .1) (c .before .before .before .before .before .before .before .before .before .before .before .before .before .before .pre .0)
+write-list-requires c κs = let a = c .before .before .before .before .before .before .before .before .args in
+    let st = now (a .store) in
+    let p = c .before .before .before .before .before .before .before .before .pre in
+    let q = c .before .before .before .before .before .put-list .ensures in
+    let n = c .before .loops-in .ensures in
+    let e = list-in (a .a) st (p .0) (a .phase) (a .b) _ 0 (q .1 .0) in
+    (omega (arith, n, few-loops (p .0 .held)), rw n (list-fits (a .a) st (p .0) (a .phase) (a .b) (p .1) _ _ e (q .0)))
 
 written-requires : tie.Need-written-requires
 written-requires c κs = search needs
@@ -60,27 +47,25 @@ same-length : tie.Need-same-length
 same-length c = search needs
 
 returns-2 : tie.Need-returns-2
-returns-2 c = λ t h. rw (c .written .ensures) (list-written (c .before .before .before .before .before .before .before .before .before .before .before .before .before .before .before .before .before .before .args .processors) (c .before .before .before .before .before .before .before .before .before .before .before .before .before .before .before .before .before .before .args .p) (now (c .before .before .before .before .before .before .before .before .before .before .before .before .before .before .before .before .before .before .args .firsts)) (now (c .before .before .before .before .before .before .before .before .before .before .before .before .before .before .before .before .before .before .args .lasts)) (c .before .before .before .before .before .before .before .before .before .before .before .before .before .before .before .before .before .before .args .part) (c .before .before .before .before .before .before .before .before .before .before .before .before .before .before .before .before .before .before .args .b) (c .before .before .before .before .before .before .before .before .before .before .before .before .before .before .before .before .ranges-of .result .froms) (c .before .before .before .before .before .before .before .before .before .before .before .before .before .before .before .before .ranges-of .result .pasts) (c .before .before .before .before .before .before .before .before .before .before .before .before .before .before .before .before .ranges-of .ensures .0) (c .before .before .before .before .before .before .before .before .before .before .before .before .before .before .before .before .ranges-of .ensures .1) (c .before .before .before .before .before .before .before .before .before .total-length .result) (c .before .before .before .before .before .before .before .before .before .total-length .ensures) t h (now (c .before .before .before .before .before .before .before .before .before .before .before .before .before .before .before .before .before .before .args .out)) (c .before .before .before .before .before .before .before .before .if1 .left) _ _ _ (c .before .before .before .write-list .ensures))
+returns-2 c = let a = c .before .before .before .before .before .before .before .before .before .before .before .before .args in
+    let st = now (a .store) in
+    let q = c .before .before .before .before .before .before .before .before .before .put-list .ensures in
+    let l = work (tableIn st) (fusionIn (a .a)) (a .phase) (a .b) in
+    let size = list-size _ l (q .0 .0) in
+    let e = list-in (a .a) st (c .before .before .before .before .before .before .before .before .before .before .before .before .pre .0) (a .phase) (a .b) _ 0 (q .1 .0) in
+    let w = rw e at (rw (c .before .before .before .before .before .loops-in .ensures) at (c .before .before .before .write-list .ensures)) in
+    rw (c .written .ensures) (numbers-put (pairsOf l) (now (a .out)) _ size (c .before .before .before .before .before .before .before .if1 .left) w)
 
 pub give-list-spec : {M : Type 1} → statement M
 give-list-spec =
     tie.close
     (tie.spec
-    ranges-of-requires
-    array-share-prefix-froms
-    slice-aggregate-total-length
-    array-share-prefix-pasts
-    slice-aggregate-total-length-2
-    total-length-requires
+    slice-aggregate-put-list
+    put-list-requires
     mul-if1
     refusal-requires
     returns
-    array-share-prefix-froms-2
-    slice-aggregate-write-list
-    array-share-prefix-pasts-2
-    slice-aggregate-write-list-2
-    array-share-prefix-shifts
-    slice-aggregate-write-list-3
+    loops-in-requires
     write-list-requires
     written-requires
     same-length

@@ -5,8 +5,8 @@ use Rattle.entries.proofs.put_block.Tie as tie
 block-of-requires : tie.Need-block-of-requires
 block-of-requires c κs = search needs
 
-last-before-requires : tie.Need-last-before-requires
-last-before-requires c κs = search needs
+minus-requires : tie.Need-minus-requires
+minus-requires c κs = search needs
 
 put-pair-requires : tie.Need-put-pair-requires
 put-pair-requires c κs = search needs
@@ -15,9 +15,14 @@ same-length : tie.Need-same-length
 same-length c = search needs
 
 returns : tie.Need-returns
-returns c = rw (c .before .before .before .before .before .block-of .ensures) at (rw (c .before .before .before .before .last-before .ensures) at (c .before .before .put-pair .ensures))
+returns c = rw (c .before .before .before .before .before .block-of .ensures) at (rw (c .before .before .before .before .minus .ensures) at (c .before .before .put-pair .ensures))
 
 pub put-block-spec : {M : Type 1} → statement M
 put-block-spec =
     tie.close
-    (tie.spec block-of-requires last-before-requires put-pair-requires same-length returns)
+    (tie.spec
+    block-of-requires
+    minus-requires
+    put-pair-requires
+    same-length
+    returns)

@@ -1,69 +1,66 @@
 use native.Mathlib.Omega.{arith}
 use denote.Ref.{now}
 use Prim.Native.Nat.{_-_}
-use Rattle.blocks.specs.Sums.{column}
-use Rattle.listing.specs.Listing.{rangeLine}
-use Rattle.listing.specs.Code.{partName, partRange}
-use Rattle.listing.proofs.Laws.{Lines, lines-start, lines-next, lines-end, part-fits}
 use Rattle.text.specs.Written.{put-length}
+use Rattle.ranges.specs.Code.{rangeOf}
+use Rattle.ranges.specs.Listed.{few-loops, span-fits, part-asks}
+use Rattle.listing.specs.Listing.{rangeLine, phaseName}
+use Rattle.listing.proofs.Laws.{Lines, lines-start, lines-next, lines-end}
+use borrow.Author.Needs.{needs}
 use Rattle.listing.proofs.put_block_parts.Statement.{statement}
 use Rattle.listing.proofs.put_block_parts.Tie as tie
 
 abbrev Inv-loop : tie.InvT-loop
-Inv-loop out₀ at part shape b firsts lasts shifts peels blk next₀ k₀ out next k =
-    Lines out₀ at 100 (λ j. rangeLine (partName part) b j (partRange part (shape .first) (shape .count) (shape .processors) firsts lasts shifts peels b j)) (shape .loops) k out next
+Inv-loop out₀ at phase a b store blk loops next₀ k₀ out next k =
+    Lines out₀ at 100 (λ j. rangeLine (phaseName phase) b j (rangeOf phase a store b j)) loops k out next
 
 abbrev μ-loop : tie.MeasureT-loop
-μ-loop out₀ at part shape b firsts lasts shifts peels blk next₀ k₀ out next k =
-    shape .loops - k
+μ-loop out₀ at phase a b store blk loops next₀ k₀ out next k = loops - k
 
 block-of-requires : tie.Need-block-of-requires Inv-loop μ-loop
-block-of-requires c κs = (c .before .pre .1, omega (arith, c .before .pre .2 .span))
+block-of-requires c κs = let a = c .before .args in
+    let p = c .before .pre in
+    (p .1, omega (arith, span-fits (a .a) (now (a .store)) (p .2)))
+
+loops-in-requires : tie.Need-loops-in-requires Inv-loop μ-loop
+loops-in-requires c κs = search needs
 
 loop-holds : tie.Need-loop-holds Inv-loop μ-loop
-loop-holds c = let a = c .before .before .args in lines-start (now (a .out)) (a .at) 100 (λ j. rangeLine (partName (a .part)) (a .b) j (partRange (a .part) (a .shape .first) (a .shape .count) (a .shape .processors) (now (a .firsts)) (now (a .lasts)) (now (a .shifts)) (now (a .peels)) (a .b) j)) (a .shape .loops)
-
-mul-put-part : tie.Need-mul-put-part Inv-loop μ-loop
-mul-put-part c = omega (arith, c .before .before .before .before .before .before .pre .2 .few-loops)
-
-element-copy-out-put-part : tie.Need-element-copy-out-put-part Inv-loop μ-loop
-element-copy-out-put-part c = omega (arith, c .before .before .before .before .before .before .pre .2 .few-loops)
-
-mul-put-part-2 : tie.Need-mul-put-part-2 Inv-loop μ-loop
-mul-put-part-2 c = omega (arith, c .before .before .before .before .before .before .before .pre .2 .few-loops)
-
-element-copy-out-put-part-2 : tie.Need-element-copy-out-put-part-2 Inv-loop μ-loop
-element-copy-out-put-part-2 c = omega (arith, c .before .before .before .before .before .before .before .pre .2 .few-loops)
-
-mul-put-part-3 : tie.Need-mul-put-part-3 Inv-loop μ-loop
-mul-put-part-3 c = omega (arith, c .before .before .before .before .before .before .before .before .pre .2 .few-loops)
-
-element-copy-out-put-part-3 : tie.Need-element-copy-out-put-part-3 Inv-loop μ-loop
-element-copy-out-put-part-3 c = omega (arith, c .before .before .before .before .before .before .before .before .pre .2 .few-loops)
-
-mul-put-part-4 : tie.Need-mul-put-part-4 Inv-loop μ-loop
-mul-put-part-4 c = omega (arith, c .before .before .before .before .before .before .before .before .before .pre .2 .few-loops)
-
-element-copy-out-put-part-4 : tie.Need-element-copy-out-put-part-4 Inv-loop μ-loop
-element-copy-out-put-part-4 c = omega (arith, c .before .before .before .before .before .before .before .before .before .pre .2 .few-loops)
+loop-holds c = lines-start
 
 put-part-requires : tie.Need-put-part-requires Inv-loop μ-loop
-put-part-requires c κs = let a = c .before .before .before .before .before .before .before .before .before .before .args in let l = c .before .before .before .before .before .before .before .loop in let q = c .before .before .before .before .before .before .before .before .before .before .pre .2 in let t = c .before .before .before .before .before .if1 .taken in let f = part-fits (a .shape .first) (a .shape .count) (a .shape .processors) (a .b) (c .before .before .before .before .before .before .before .before .block-of .result) (c .before .before .before .before .before .before .before .before .block-of .ensures) (c .before .before .before .before .before .before .before .before .before .before .pre .1) (q .span) (column (now (a .peels)) (l .k)) (q .peel (l .k) t) in (omega (arith, c .before .before .before .before .before .before .before .before .before .before .pre .0, q .few-loops, l .inv .put .place, l .inv .put .few), c .before .before .before .before .before .before .before .before .before .before .pre .1, q .last (l .k) t, f .0, f .1)
+put-part-requires c κs = let a = c .before .before .before .before .before .before .args in
+    let p = c .before .before .before .before .before .before .pre in
+    let l = c .before .before .loop in
+    let st = now (a .store) in
+    let i = c .before .loop-test .taken in
+    let n = c .before .before .before .loops-in .ensures in
+    let e = c .before .before .before .before .block-of .ensures in
+    let few = few-loops (a .a) st (p .2) in
+    (omega (arith, l .inv .put .place, l .inv .put .few, p .0), part-asks (a .a) st (p .2) (a .b) (l .k) _ (p .1) (omega arith) e)
 
 add-k : tie.Need-add-k Inv-loop μ-loop
-add-k c = omega (arith, c .before .before .before .before .before .before .before .before .before .before .before .before .before .pre .2 .few-loops)
+add-k c = let a = c .before .before .before .before .before .before .before .before .before .args in
+    let i = c .before .before .before .before .loop-test .taken in
+    let h = c .before .before .before .before .before .before .before .before .before .pre .2 in
+    omega (arith, c .before .before .before .before .before .before .loops-in .ensures, few-loops (a .a) (now (a .store)) h)
 
 loop-less : tie.Need-loop-less Inv-loop μ-loop
-loop-less c = omega arith
+loop-less c = omega (arith, c .before .before .before .before .loop-test .taken)
 
 loop-again : tie.Need-loop-again Inv-loop μ-loop
-loop-again c = let a = c .before .before .before .before .before .before .before .before .before .before .before .before .before .args in lines-next (now (a .out)) (a .at) 100 (λ j. rangeLine (partName (a .part)) (a .b) j (partRange (a .part) (a .shape .first) (a .shape .count) (a .shape .processors) (now (a .firsts)) (now (a .lasts)) (now (a .shifts)) (now (a .peels)) (a .b) j)) (a .shape .loops) (c .before .before .before .before .before .before .before .before .before .before .loop .k) (c .before .before .before .before .before .before .before .before .before .before .loop .inv) (c .before .before .before .before .before .before .before .before .if1 .taken) (rw (c .before .before .before .before .before .before .before .before .before .before .before .block-of .ensures) at (c .before .before .put-part .ensures))
+loop-again c = let l = c .before .before .before .before .loop-test .taken in
+    let p = rw (c .before .before .before .before .before .before .before .block-of .ensures) at (c .before .before .put-part .ensures) in
+    lines-next (c .before .before .before .before .before .loop .inv) l p
 
 same-length : tie.Need-same-length Inv-loop μ-loop
-same-length c = put-length (c .before .before .loop .inv .put)
+same-length c = put-length (c .before .loop .inv .put)
 
 returns : tie.Need-returns Inv-loop μ-loop
-returns c = let a = c .before .before .before .before .before .args in lines-end (now (a .out)) (a .at) 100 (λ j. rangeLine (partName (a .part)) (a .b) j (partRange (a .part) (a .shape .first) (a .shape .count) (a .shape .processors) (now (a .firsts)) (now (a .lasts)) (now (a .shifts)) (now (a .peels)) (a .b) j)) (a .shape .loops) 1600 (c .before .before .loop .k) (omega (arith, c .before .before .before .before .before .pre .2 .few-loops)) (c .before .before .loop .inv) (c .if1 .left)
+returns c = let a = c .before .before .before .before .before .args in
+    let n = c .before .before .loops-in .ensures in
+    let few = few-loops (a .a) (now (a .store)) (c .before .before .before .before .before .pre .2) in
+    rw (← n) (lines-end 1600 (omega arith) (c .before .loop .inv) (c .loop-test .left))
 
 pub put-block-parts-spec : {M : Type 1} → statement M
 put-block-parts-spec =
@@ -72,15 +69,8 @@ put-block-parts-spec =
     Inv-loop
     μ-loop
     block-of-requires
+    loops-in-requires
     loop-holds
-    mul-put-part
-    element-copy-out-put-part
-    mul-put-part-2
-    element-copy-out-put-part-2
-    mul-put-part-3
-    element-copy-out-put-part-3
-    mul-put-part-4
-    element-copy-out-put-part-4
     put-part-requires
     add-k
     loop-less

@@ -2,8 +2,11 @@ use borrow.Author.Needs.{needs}
 use Rattle.listing.proofs.put_part.Statement.{statement}
 use Rattle.listing.proofs.put_part.Tie as tie
 
-part-between-requires : tie.Need-part-between-requires
-part-between-requires c κs = search needs
+part-in-requires : tie.Need-part-in-requires
+part-in-requires c κs = search needs
+
+range-at-requires : tie.Need-range-at-requires
+range-at-requires c κs = search needs
 
 put-range-requires : tie.Need-put-range-requires
 put-range-requires c κs = search needs
@@ -12,7 +15,15 @@ same-length : tie.Need-same-length
 same-length c = search needs
 
 returns : tie.Need-returns
-returns c = rw (c .before .before .before .before .part-between .ensures) at (c .before .before .put-range .ensures)
+returns c = let e = rw (c .before .before .before .before .before .part-in .ensures) at (c .before .before .before .before .range-at .ensures) in
+    rw e at (c .before .before .put-range .ensures)
 
 pub put-part-spec : {M : Type 1} → statement M
-put-part-spec = tie.close (tie.spec part-between-requires put-range-requires same-length returns)
+put-part-spec =
+    tie.close
+    (tie.spec
+    part-in-requires
+    range-at-requires
+    put-range-requires
+    same-length
+    returns)

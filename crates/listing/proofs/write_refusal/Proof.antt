@@ -19,4 +19,9 @@ returns c = put-whole (c .before .before .put-line-of-two .ensures)
 
 pub write-refusal-spec : {M : Type 1} → statement M
 write-refusal-spec =
-    tie.close (tie.spec slice-aggregate-put-line-of-two put-line-of-two-requires same-length returns)
+    tie.close
+    (tie.spec
+    slice-aggregate-put-line-of-two
+    put-line-of-two-requires
+    same-length
+    returns)

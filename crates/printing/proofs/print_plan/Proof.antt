@@ -1,10 +1,7 @@
 use denote.Ref.{now}
-use mathlib.Core.Path.{subst}
-use mathlib.Core.List.{List}
-use Prim.Native.Nat.{ℕ}
-use Rattle.reader.specs.Columns.{columns}
-use Rattle.printing.proofs.Laws.{refused-text, placed, small, made-text}
-use Rattle.printing.specs.Printing.{Prints}
+use Rattle.plans.specs.Plans.{settings}
+use Rattle.plans.specs.Code.{made-laid}
+use Rattle.printing.proofs.Laws.{refused-text, made-text}
 use borrow.Author.Needs.{needs}
 use Rattle.printing.proofs.print_plan.Statement.{statement}
 use Rattle.printing.proofs.print_plan.Tie as tie
@@ -19,44 +16,27 @@ same-length : tie.Need-same-length
 same-length c = search needs
 
 returns : tie.Need-returns
-returns c = let z = c .before .before .before .before .before .before .plan-table .last .1 in
-    let d = columns (z .1 .0) (z .1 .1 .0) (z .1 .1 .1 .0) (z .1 .1 .1 .1 .0) (z .1 .1 .1 .1 .1 .0) (z .1 .1 .1 .1 .1 .1 .0) (z .1 .1 .1 .1 .1 .1 .1 .0) in
-    let s = now (c .before .before .before .before .before .before .before .before .before .before .before .before .before .before .before .before .args .s) in
-    let P = c .before .before .before .before .before .before .before .before .before .before .before .before .before .before .before .before .args .processors in
-    let p = c .before .before .before .before .before .before .plan-table .result in
-    let h = c .before .before .before .before .before .before .plan-table .ensures in
-    subst (λ (x : List ℕ). Prints x (now (c .before .before .before .before .before .before .before .before .before .before .before .before .before .before .before .before .args .out)) (c .before .before .print-refusal .last .0) (c .before .before .print-refusal .result)) (refused-text s P d p h (c .before .before .before .before .if1 .taken)) (c .before .before .print-refusal .ensures)
+returns c = let a = c .before .before .before .before .before .before .before .before .before .before .args in
+    let n = c .before .before .before .before .if1 .taken in
+    let e = refused-text (now (a .s)) (settings (a .processors)) _ _ (c .before .before .before .before .before .before .plan-table .ensures) n in
+    rw e at (c .before .before .print-refusal .ensures)
 
 sweeps-of-requires : tie.Need-sweeps-of-requires
-sweeps-of-requires c κs = let z = c .before .before .before .before .before .plan-table .last .1 in
-    let d = columns (z .1 .0) (z .1 .1 .0) (z .1 .1 .1 .0) (z .1 .1 .1 .1 .0) (z .1 .1 .1 .1 .1 .0) (z .1 .1 .1 .1 .1 .1 .0) (z .1 .1 .1 .1 .1 .1 .1 .0) in
-    let s = now (c .before .before .before .before .before .before .before .before .before .before .before .before .before .before .before .args .s) in
-    let P = c .before .before .before .before .before .before .before .before .before .before .before .before .before .before .before .args .processors in
-    let p = c .before .before .before .before .before .plan-table .result in
-    let h = c .before .before .before .before .before .plan-table .ensures in
-    placed s P d p h (c .before .before .before .if1 .left)
+sweeps-of-requires c κs = c .before .before .before .plan-table .ensures .made (c .before .if1 .left) .held
 
 print-lines-requires : tie.Need-print-lines-requires
-print-lines-requires c κs = let z = c .before .before .before .before .before .before .before .before .before .plan-table .last .1 in
-    let d = columns (z .1 .0) (z .1 .1 .0) (z .1 .1 .1 .0) (z .1 .1 .1 .1 .0) (z .1 .1 .1 .1 .1 .0) (z .1 .1 .1 .1 .1 .1 .0) (z .1 .1 .1 .1 .1 .1 .1 .0) in
-    let s = now (c .before .before .before .before .before .before .before .before .before .before .before .before .before .before .before .before .before .before .before .args .s) in
-    let P = c .before .before .before .before .before .before .before .before .before .before .before .before .before .before .before .before .before .before .before .args .processors in
-    let p = c .before .before .before .before .before .before .before .before .before .plan-table .result in
-    let h = c .before .before .before .before .before .before .before .before .before .plan-table .ensures in
-    small s P d p h (c .before .before .before .before .before .before .before .if1 .left)
+print-lines-requires c κs = let a = c .before .before .before .before .before .before .before .before .before .before .args in
+    let m = c .before .before .before .before .before .before .plan-table .ensures .made (c .before .before .before .before .if1 .left) in
+    made-laid (now (a .s)) (settings (a .processors)) _ _ m
 
 same-length-2 : tie.Need-same-length-2
 same-length-2 c = search needs
 
 returns-2 : tie.Need-returns-2
-returns-2 c = let z = c .before .before .before .before .before .before .before .before .before .before .before .before .plan-table .last .1 in
-    let d = columns (z .1 .0) (z .1 .1 .0) (z .1 .1 .1 .0) (z .1 .1 .1 .1 .0) (z .1 .1 .1 .1 .1 .0) (z .1 .1 .1 .1 .1 .1 .0) (z .1 .1 .1 .1 .1 .1 .1 .0) in
-    let s = now (c .before .before .before .before .before .before .before .before .before .before .before .before .before .before .before .before .before .before .before .before .before .before .args .s) in
-    let P = c .before .before .before .before .before .before .before .before .before .before .before .before .before .before .before .before .before .before .before .before .before .before .args .processors in
-    let p = c .before .before .before .before .before .before .before .before .before .before .before .before .plan-table .result in
-    let h = c .before .before .before .before .before .before .before .before .before .before .before .before .plan-table .ensures in
-    subst (λ (x : List ℕ). Prints x (now (c .before .before .before .before .before .before .before .before .before .before .before .before .before .before .before .before .before .before .before .before .before .before .args .out)) (c .before .before .print-lines .last .0) (c .before .before .print-lines .result))
-    (made-text s P d p h (c .before .before .before .before .before .before .before .before .before .before .if1 .left) (c .before .before .before .before .before .before .sweeps-of .result) (c .before .before .before .before .before .before .sweeps-of .ensures (d .lens) (d .firsts) (d .lasts) (d .values) (p .arrays))) (c .before .before .print-lines .ensures)
+returns-2 c = let a = c .before .before .before .before .before .before .before .before .before .before .before .before .before .args in
+    let m = c .before .before .before .before .before .before .before .before .before .plan-table .ensures .made (c .before .before .before .before .before .before .before .if1 .left) in
+    let e = made-text (now (a .s)) (settings (a .processors)) _ _ m _ (c .before .before .before .before .before .sweeps-of .ensures) in
+    rw e at (c .before .before .print-lines .ensures)
 
 pub print-plan-spec : {M : Type 1} → statement M
 print-plan-spec =

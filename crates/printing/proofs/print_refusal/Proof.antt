@@ -1,6 +1,6 @@
-use Rattle.printing.proofs.Laws.{no-room, room}
 use lib.Dec.{lit≤}
 use denote.Ref.{now}
+use Rattle.printing.proofs.Laws.{no-room, room}
 use borrow.Author.Needs.{needs}
 use Rattle.printing.proofs.print_refusal.Statement.{statement}
 use Rattle.printing.proofs.print_refusal.Tie as tie
@@ -21,7 +21,9 @@ same-length : tie.Need-same-length
 same-length c = search needs
 
 returns : tie.Need-returns
-returns c = no-room _ (now (c .before .before .before .before .before .before .before .args .out)) _ _ _ (lit≤ tt) (c .before .before .before .before .write-refusal .ensures) (c .before .if1 .taken) _ (c .refusal .ensures)
+returns c = let out = now (c .before .before .before .before .before .before .before .args .out) in
+    let first = c .before .before .before .before .write-refusal .ensures in
+    no-room _ out _ _ _ (lit≤ tt) first (c .before .if1 .taken) _ (c .refusal .ensures)
 
 write-refusal-requires-2 : tie.Need-write-refusal-requires-2
 write-refusal-requires-2 c κs = search needs
@@ -33,7 +35,10 @@ same-length-2 : tie.Need-same-length-2
 same-length-2 c = search needs
 
 returns-2 : tie.Need-returns-2
-returns-2 c = room _ (now (c .before .before .before .before .before .before .before .before .before .before .before .args .out)) _ _ _ (lit≤ tt) (c .before .before .before .before .before .before .before .before .write-refusal .ensures) _ _ (c .before .before .before .write-refusal2 .ensures) (c .before .before .before .before .before .if1 .left) _ (c .written .ensures)
+returns-2 c = let out = now (c .before .before .before .before .before .before .before .before .before .before .before .args .out) in
+    let first = c .before .before .before .before .before .before .before .before .write-refusal .ensures in
+    let l = c .before .before .before .before .before .if1 .left in
+    room _ out _ _ _ (lit≤ tt) first _ _ (c .before .before .before .write-refusal2 .ensures) l _ (c .written .ensures)
 
 pub print-refusal-spec : {M : Type 1} → statement M
 print-refusal-spec =

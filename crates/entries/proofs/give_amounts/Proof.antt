@@ -1,0 +1,59 @@
+use native.Mathlib.Omega.{arith}
+use denote.Ref.{now}
+use Rattle.reader.specs.Store.{tableIn}
+use Rattle.reader.specs.Held.{few-loops}
+use Rattle.entries.specs.Entries.{amountsOf}
+use Rattle.entries.proofs.Laws.{amounts-are, amounts-size, numbers-short, numbers-put}
+use borrow.Author.Needs.{needs}
+use Rattle.entries.proofs.give_amounts.Statement.{statement}
+use Rattle.entries.proofs.give_amounts.Tie as tie
+
+loops-in-requires : tie.Need-loops-in-requires
+loops-in-requires c κs = search needs
+
+mul-if1 : tie.Need-mul-if1
+mul-if1 c = omega (arith, c .loops-in .ensures, few-loops (c .before .before .pre))
+
+refusal-requires : tie.Need-refusal-requires
+refusal-requires c κs = search needs
+
+returns : tie.Need-returns
+returns c = let a = c .before .before .before .before .args in
+    let st = now (a .store) in
+    let size = amounts-size st (c .before .before .before .before .pre) _ (c .before .before .loops-in .ensures) in
+    rw (c .refusal .ensures) (numbers-short (amountsOf (tableIn st)) (now (a .out)) _ size (c .before .if1 .taken))
+
+amounts-of-requires : tie.Need-amounts-of-requires
+amounts-of-requires c κs = search needs
+
+write-amounts-requires : tie.Need-write-amounts-requires
+write-amounts-requires c κs = omega (arith, c .before .before .before .loops-in .ensures, few-loops (c .before .before .before .before .before .pre))
+
+written-requires : tie.Need-written-requires
+written-requires c κs = search needs
+
+same-length : tie.Need-same-length
+same-length c = search needs
+
+returns-2 : tie.Need-returns-2
+returns-2 c = let a = c .before .before .before .before .before .before .before .before .before .args in
+    let st = now (a .store) in
+    let e = c .before .before .before .before .before .before .before .loops-in .ensures in
+    let m = c .before .before .before .before .before .amounts-of .ensures in
+    let size = amounts-size st (c .before .before .before .before .before .before .before .before .before .pre) _ e in
+    let p = rw (amounts-are st _ _ (c .before .before .before .before .before .before .before .before .before .pre) (m .0) (m .1) _ e) at (c .before .before .before .write-amounts .ensures) in
+    rw (c .written .ensures) (numbers-put (amountsOf (tableIn st)) (now (a .out)) _ size (c .before .before .before .before .before .before .if1 .left) p)
+
+pub give-amounts-spec : {M : Type 1} → statement M
+give-amounts-spec =
+    tie.close
+    (tie.spec
+    loops-in-requires
+    mul-if1
+    refusal-requires
+    returns
+    amounts-of-requires
+    write-amounts-requires
+    written-requires
+    same-length
+    returns-2)

@@ -1,0 +1,48 @@
+use denote.Ref.{now}
+use Rattle.plans.specs.Plans.{settings, plannedFor}
+use Rattle.entries.specs.Entries.{listGiven, listedOf}
+use Rattle.entries.proofs.Laws.{entry-refused, entry-given, named-laid}
+use borrow.Author.Needs.{needs}
+use Rattle.entries.proofs.list.Statement.{statement}
+use Rattle.entries.proofs.list.Tie as tie
+
+plan-for-requires : tie.Need-plan-for-requires
+plan-for-requires c κs = search needs
+
+refusal-requires : tie.Need-refusal-requires
+refusal-requires c κs = search needs
+
+returns : tie.Need-returns
+unfolding listGiven
+returns c = let a = c .before .before .before .before .before .before .before .args in
+    let s = now (a .s) in
+    let p = plannedFor s (settings (a .processors)) (a .b) in
+    let h = c .before .before .before .plan-for .ensures .tells in
+    rw (c .refusal .ensures) (entry-refused s p (listedOf (a .phase) (a .b)) (now (a .out)) _ _ _ h (c .before .if1 .taken))
+
+give-list-requires : tie.Need-give-list-requires
+give-list-requires c κs = let a = c .before .before .before .before .before .before .before .before .args in
+    let m = c .before .before .before .before .plan-for .ensures .made (c .before .before .if1 .left) in
+    named-laid (now (a .s)) (settings (a .processors)) (a .b) _ _ m
+
+same-length : tie.Need-same-length
+same-length c = search needs
+
+returns-2 : tie.Need-returns-2
+unfolding listGiven
+returns-2 c = let a = c .before .before .before .before .before .before .before .before .before .before .before .args in
+    let s = now (a .s) in
+    let p = plannedFor s (settings (a .processors)) (a .b) in
+    let m = c .before .before .before .before .before .before .before .plan-for .ensures .made (c .before .before .before .before .before .if1 .left) in
+    entry-given s p (listedOf (a .phase) (a .b)) (now (a .out)) (m .is) (c .before .before .give-list .ensures)
+
+pub list-spec : {M : Type 1} → statement M
+list-spec =
+    tie.close
+    (tie.spec
+    plan-for-requires
+    refusal-requires
+    returns
+    give-list-requires
+    same-length
+    returns-2)
