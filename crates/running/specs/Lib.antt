@@ -1,4 +1,4 @@
--- a call, and the processors that can step, by the lengths that the code keeps
+-- what the code of a run is lent, and what its calls leave
 pub mod Code
 -- what a run promises
 pub mod Runs

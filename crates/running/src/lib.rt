@@ -1,24 +1,29 @@
 // The run in a caller's order: a call for each byte, then calls for the lowest-numbered processor that can step, each made by the step.
-use plans::Plan;
-use ranges::Lengths;
+use arithmetic::wide;
+use barriers::Ends;
+use blocks::Axis;
+use layouts::LISTS;
+use ranges::PHASES;
+use records::Store;
 use stepping::Report;
-use steps::Counts;
 ghost use mathlib.Core.Path.{_≡_};
+ghost use Prim.Native.Nat.{ℕ, _≤_, _<_};
 ghost use mathlib.Core.List.{List};
-ghost use Prim.Native.Nat.{ℕ, _+_, _≤_, _<_, _^_};
 ghost use lib.ListN.{length};
-ghost use Rattle.model.specs.Table.{Table};
-ghost use Rattle.blocks.specs.Sums.{total};
-ghost use Rattle.reader.specs.Columns.{columns, tableAt};
+ghost use Rattle.model.specs.declared.Iteration.{Iteration};
 ghost use Rattle.reader.specs.Reading.{accepted};
-ghost use Rattle.iterations.specs.Memory as memories;
-ghost use Rattle.plans.specs.Plans.{planned};
-ghost use Rattle.stepping.specs.Row.{lowest, closing, memoryAfter};
-ghost use Rattle.stepping.specs.Reach.{Reachable};
-ghost use Rattle.steps.specs.Ready.{Small, Ready, Planned};
-ghost use Rattle.steps.specs.Code.{closedBy};
-ghost use Rattle.running.specs.Code.{idling, canBy, canIn, listedIn, called, Leaves, Given, Ordered, Rowed};
+ghost use Rattle.reader.specs.Store.{tableIn};
+ghost use Rattle.iterations.specs.Memory.{total};
+ghost use Rattle.turns.specs.Turn.{Work};
+ghost use Rattle.turns.specs.Row.{noneDone, closing, memoryAfter};
+ghost use Rattle.turns.specs.Reach.{Reachable};
+ghost use Rattle.plans.specs.Plans.{Settings, settings, planned};
+ghost use Rattle.plans.specs.Code.{Laid, plannedIn};
+ghost use Rattle.running.specs.Code.{Step, Idles, called, Readies, Given, Left, Ordered, Rowed};
 ghost use Rattle.running.specs.Runs.{Runs};
+
+// Ground 12.
+const MEMORY: usize = 12;
 
 // What a run answers: the refusal, 0 without one, with its place and the read that 9 names; and how many calls were idle.
 pub struct Ran {
@@ -28,15 +33,9 @@ pub struct Ran {
     pub idle: usize,
 }
 
-// The counts after some calls, and how many of those were idle.
-struct Called {
-    counts: Counts,
-    idle: usize,
-}
-
 // 1 for a call that waits, is finished or is refused.
 fn idle_of(report: Report) -> usize
-    ensures { λ r. ⌜ r ≡ idling report ⌝ }
+    ensures { λ r. ⌜ Idles r report ⌝ }
 {
     match report {
         Report::Refused {
@@ -52,188 +51,101 @@ fn idle_of(report: Report) -> usize
     }
 }
 
-// One call, which names any number: it is idle if that is not below P.
+// One call, which names any number: it is idle if that is not below P. Answers 1 where it is idle, else 0.
 fn call(
-    counts: Counts,
+    counts: &mut [u32; 64],
     number: u8,
-    p: Plan,
-    l: Lengths,
     processors: u32,
-    firsts: &[u32; 16],
-    lasts: &[u32; 16],
-    starts: &[usize; 17],
-    kinds: &[u8; 528],
-    arrays: &[u32; 528],
-    values: &[u32; 528],
+    ends: &Ends,
+    lists: &[u32],
+    store: &Store,
     bases: &[u32; 17],
     memory: &mut [f64],
-) -> Called
-    requires { ⌜ ((t : Table) × Ready t processors p l (now firsts) (now lasts) (now starts) (now kinds) (now arrays) (now values) (now bases) × (length (now memory) ≡ memories.total t)) ⌝ }
-    ensures { λ r. ⌜ ((t : Table) → Ready t processors p l (now (firsts .entry)) (now (lasts .entry)) (now (starts .entry)) (now (kinds .entry)) (now (arrays .entry)) (now (values .entry)) (now (bases .entry)) → Leaves (called t processors number (counts .done) (now (memory .entry))) (r .counts .done) (now (memory .exit)) (r .idle)) ⌝ }
+) -> usize
+    requires { ⌜ ((w : Work Iteration) × Readies w processors (now ends) (now lists) (now store) (now bases)) × (processors ≤ 64) × (length (now counts) ≡ 64) × (length (now memory) ≡ total (tableIn (now store))) ⌝ }
+    ensures { λ r. ⌜ ((w : Work Iteration) → Readies w processors (now (ends .entry)) (now (lists .entry)) (now (store .entry)) (now (bases .entry)) → Left (called w processors (now (store .entry)) number (now (counts .entry)) (now (memory .entry))) (now (counts .exit)) (now (memory .exit)) r) ⌝ }
 {
     let b = number as u32;
     if processors <= b {
-        return Called { counts, idle: 1 };
+        return 1;
     }
-    let r = counts.turn(
-        p,
-        l,
-        processors,
+    let report = steps::turn(
+        counts,
         b,
-        firsts,
-        lasts,
-        starts,
-        kinds,
-        arrays,
-        values,
+        processors,
+        ends,
+        lists,
+        LISTS * wide(b),
+        store,
         bases,
         memory,
     );
-    let report = r.report;
-    let next = r.counts;
-    Called {
-        counts: next,
-        idle: idle_of(report),
-    }
+    idle_of(report)
 }
 
-// A call for each byte of the order, from counts of 0.
+// A call for each byte of the order, from counts of 0; answers how many were idle.
 fn take_order(
+    counts: &mut [u32; 64],
     order: &[u8],
-    p: Plan,
-    l: Lengths,
     processors: u32,
-    firsts: &[u32; 16],
-    lasts: &[u32; 16],
-    starts: &[usize; 17],
-    kinds: &[u8; 528],
-    arrays: &[u32; 528],
-    values: &[u32; 528],
+    ends: &Ends,
+    lists: &[u32],
+    store: &Store,
     bases: &[u32; 17],
     memory: &mut [f64],
-) -> Called
-    requires { ⌜ ((s : List ℕ) × ((t : Table) × Given s t processors p l (now firsts) (now lasts) (now starts) (now kinds) (now arrays) (now values) (now bases) (now memory))) ⌝ }
-    ensures { λ r. ⌜ ((s : List ℕ) (t : Table) → Given s t processors p l (now (firsts .entry)) (now (lasts .entry)) (now (starts .entry)) (now (kinds .entry)) (now (arrays .entry)) (now (values .entry)) (now (bases .entry)) (now (memory .entry)) → Ordered s t processors (now (order .entry)) (now (memory .entry)) (r .counts .done) (now (memory .exit)) (r .idle)) ⌝ }
+) -> usize
+    requires { ⌜ ((w : Work Iteration) × ((step : Step) × Given w step processors (now ends) (now lists) (now store) (now bases))) × (now counts ≡ noneDone) × (length (now memory) ≡ total (tableIn (now store))) ⌝ }
+    ensures { λ r. ⌜ ((w : Work Iteration) (step : Step) → Given w step processors (now (ends .entry)) (now (lists .entry)) (now (store .entry)) (now (bases .entry)) → Ordered w step (now (store .entry)) (now (order .entry)) (now (memory .entry)) (now (counts .exit)) (now (memory .exit)) r) ⌝ }
 {
-    let mut counts = Counts { done: [0u32; 64] };
     let mut idle: usize = 0;
     let mut k: usize = 0;
     while k < order.len() {
-        let c = call(
+        idle += call(
             counts,
             order[k],
-            p,
-            l,
             processors,
-            firsts,
-            lasts,
-            starts,
-            kinds,
-            arrays,
-            values,
+            ends,
+            lists,
+            store,
             bases,
             memory,
         );
-        let next = c.counts;
-        counts = next;
-        idle += c.idle;
         k += 1;
     }
-    Called { counts, idle }
-}
-
-// Whether a processor's next call would report an iteration: its lists have so many, and n are done; `shut` if the barrier is closed.
-fn can_step(shut: bool, fused: u32, peeled: u32, n: u32) -> bool
-    requires { ⌜ fused + peeled < 2 ^ 32 ⌝ }
-    ensures { λ r. ⌜ r ≡ canBy shut fused peeled n ⌝ }
-{
-    if n < fused {
-        return true;
-    }
-    if shut {
-        return false;
-    }
-    n < fused + peeled
-}
-
-// The lowest-numbered processor that can step, P if there is none.
-fn lowest_ready(c: Counts, l: Lengths, processors: u32) -> u32
-    requires { ⌜ (processors ≤ 64) × Small l ⌝ }
-    ensures { λ r. ⌜ r ≡ lowest processors (canIn l (closedBy processors (l .fused) (c .done)) (c .done)) ⌝ }
-{
-    let shut = steps::is_closed(c, l, processors);
-    let done = c.done;
-    let fused = l.fused;
-    let peeled = l.peeled;
-    let mut b: u32 = 0;
-    while b < processors {
-        let at = b as usize;
-        if can_step(shut, fused[at], peeled[at], done[at]) {
-            return b;
-        }
-        b += 1;
-    }
-    b
-}
-
-// How many iterations all lists have together.
-fn listed(l: Lengths, processors: u32) -> u32
-    requires { ⌜ (processors ≤ 64) × Small l ⌝ }
-    ensures { λ r. ⌜ r ≡ listedIn l processors ⌝ }
-{
-    let fused = l.fused;
-    let peeled = l.peeled;
-    let mut sum: u32 = 0;
-    let mut b: usize = 0;
-    while b < processors as usize {
-        sum += fused[b] + peeled[b];
-        b += 1;
-    }
-    sum
+    idle
 }
 
 // Calls for the lowest-numbered processor that can step, until there is none, and no more than `most`.
 fn close(
-    from: Counts,
+    counts: &mut [u32; 64],
     most: u32,
-    p: Plan,
-    l: Lengths,
     processors: u32,
-    firsts: &[u32; 16],
-    lasts: &[u32; 16],
-    starts: &[usize; 17],
-    kinds: &[u8; 528],
-    arrays: &[u32; 528],
-    values: &[u32; 528],
+    ends: &Ends,
+    lists: &[u32],
+    store: &Store,
     bases: &[u32; 17],
     memory: &mut [f64],
 )
-    requires { ⌜ ((s : List ℕ) × ((t : Table) × Given s t processors p l (now firsts) (now lasts) (now starts) (now kinds) (now arrays) (now values) (now bases) (now memory) × Reachable t processors (from .done))) ⌝ }
-    ensures { λ _. ⌜ ((s : List ℕ) (t : Table) → Given s t processors p l (now (firsts .entry)) (now (lasts .entry)) (now (starts .entry)) (now (kinds .entry)) (now (arrays .entry)) (now (values .entry)) (now (bases .entry)) (now (memory .entry)) → Reachable t processors (from .done) → now (memory .exit) ≡ memoryAfter s processors (closing s processors most (from .done) (now (memory .entry))) (from .done) (now (memory .entry))) ⌝ }
+    requires { ⌜ ((w : Work Iteration) × ((step : Step) × Given w step processors (now ends) (now lists) (now store) (now bases) × Reachable w (now counts))) × (length (now memory) ≡ total (tableIn (now store))) ⌝ }
+    ensures { λ _. ⌜ ((w : Work Iteration) (step : Step) → Given w step processors (now (ends .entry)) (now (lists .entry)) (now (store .entry)) (now (bases .entry)) → Reachable w (now (counts .entry)) → now (memory .exit) ≡ memoryAfter step (closing step processors most (now (counts .entry)) (now (memory .entry))) (now (counts .entry)) (now (memory .entry))) ⌝ }
 {
-    let mut counts = from;
     let mut left = most;
     while 0 < left {
-        let b = lowest_ready(counts, l, processors);
+        let b = barriers::lowest_ready(counts, ends, processors, PHASES);
         if processors <= b {
             return;
         }
-        let r = counts.turn(
-            p,
-            l,
-            processors,
+        steps::turn(
+            counts,
             b,
-            firsts,
-            lasts,
-            starts,
-            kinds,
-            arrays,
-            values,
+            processors,
+            ends,
+            lists,
+            LISTS * wide(b),
+            store,
             bases,
             memory,
         );
-        let next = r.counts;
-        counts = next;
         left -= 1;
     }
 }
@@ -241,98 +153,60 @@ fn close(
 // The calls of the order, then those that use up the lists; answers how many were idle.
 fn run_row(
     order: &[u8],
-    p: Plan,
-    l: Lengths,
     processors: u32,
-    firsts: &[u32; 16],
-    lasts: &[u32; 16],
-    starts: &[usize; 17],
-    kinds: &[u8; 528],
-    arrays: &[u32; 528],
-    values: &[u32; 528],
+    ends: &Ends,
+    lists: &[u32],
+    store: &Store,
     bases: &[u32; 17],
     memory: &mut [f64],
 ) -> usize
-    requires { ⌜ ((s : List ℕ) × ((t : Table) × Given s t processors p l (now firsts) (now lasts) (now starts) (now kinds) (now arrays) (now values) (now bases) (now memory))) ⌝ }
-    ensures { λ r. ⌜ ((s : List ℕ) (t : Table) → Given s t processors p l (now (firsts .entry)) (now (lasts .entry)) (now (starts .entry)) (now (kinds .entry)) (now (arrays .entry)) (now (values .entry)) (now (bases .entry)) (now (memory .entry)) → Rowed s t processors (now (order .entry)) (now (memory .entry)) (now (memory .exit)) r) ⌝ }
+    requires { ⌜ ((w : Work Iteration) × ((step : Step) × Given w step processors (now ends) (now lists) (now store) (now bases))) × (length (now memory) ≡ total (tableIn (now store))) ⌝ }
+    ensures { λ r. ⌜ ((w : Work Iteration) (step : Step) → Given w step processors (now (ends .entry)) (now (lists .entry)) (now (store .entry)) (now (bases .entry)) → Rowed w step processors (now (order .entry)) (now (memory .entry)) (now (memory .exit)) r) ⌝ }
 {
-    let c = take_order(
+    let mut counts = [0u32; 64];
+    let idle = take_order(
+        &mut counts,
         order,
-        p,
-        l,
         processors,
-        firsts,
-        lasts,
-        starts,
-        kinds,
-        arrays,
-        values,
+        ends,
+        lists,
+        store,
         bases,
         memory,
     );
-    let counts = c.counts;
-    let left = listed(l, processors);
+    let most = barriers::listed(ends, processors, PHASES);
     close(
-        counts,
-        left,
-        p,
-        l,
+        &mut counts,
+        most,
         processors,
-        firsts,
-        lasts,
-        starts,
-        kinds,
-        arrays,
-        values,
+        ends,
+        lists,
+        store,
         bases,
         memory,
     );
-    c.idle
+    idle
 }
 
-// The run of a planned table: 12, then the calls.
-fn run_planned(
-    p: Plan,
-    processors: u32,
-    order: &[u8],
-    lens: &[u32; 16],
-    firsts: &[u32; 16],
-    lasts: &[u32; 16],
-    starts: &[usize; 17],
-    kinds: &[u8; 528],
-    arrays: &[u32; 528],
-    values: &[u32; 528],
-    memory: &mut [f64],
-) -> Ran
-    requires { ⌜ Planned processors p (columns (now lens) (now firsts) (now lasts) (now starts) (now kinds) (now arrays) (now values)) ⌝ }
-    ensures { λ r. ⌜ ((s : List ℕ) → planned s processors ≡ accepted (tableAt (columns (now (lens .entry)) (now (firsts .entry)) (now (lasts .entry)) (now (starts .entry)) (now (kinds .entry)) (now (arrays .entry)) (now (values .entry))) (p .arrays) (p .loops)) → Runs s processors (now (order .entry)) (now (memory .entry)) r (now (memory .exit))) ⌝ }
+// The run of an accepted plan: 12, then the calls.
+fn run_planned(a: Axis, order: &[u8], store: &Store, memory: &mut [f64]) -> Ran
+    requires { ⌜ Laid a (now store) ⌝ }
+    ensures { λ r. ⌜ ((s : List ℕ) (w : Settings) → planned s w ≡ accepted (plannedIn a (now (store .entry))) → Runs s w (now (order .entry)) (now (memory .entry)) r (now (memory .exit))) ⌝ }
 {
-    let a = p.arrays;
-    let bases = iterations::bases_of(lens, a);
-    let bs = bases.firsts;
-    if memory.len() != bs[a] as usize {
+    let b = iterations::bases_of(store);
+    let bases = b.firsts;
+    if memory.len() != wide(bases[16]) {
         return Ran {
-            number: 12,
+            number: MEMORY,
             place: 0,
             read: 0,
             idle: 0,
         };
     }
-    let l = ranges::lengths_of(p, processors, firsts, lasts);
-    let idle = run_row(
-        order,
-        p,
-        l,
-        processors,
-        firsts,
-        lasts,
-        starts,
-        kinds,
-        arrays,
-        values,
-        &bs,
-        memory,
-    );
+    let mut ends = [0u32; 192];
+    let mut lists = [0u32; 6144];
+    layouts::lay_out(a, store, LISTS, &mut lists[..], &mut ends);
+    let idle = run_row(order, a.blocks, &ends, &lists[..], store, &bases, memory);
     Ran {
         number: 0,
         place: 0,
@@ -343,26 +217,10 @@ fn run_planned(
 
 // The run of a table in a caller's order, whose bytes name processors.
 pub fn run(s: &[u8], processors: u32, order: &[u8], memory: &mut [f64]) -> Ran
-    ensures { λ r. ⌜ Runs (now (s .entry)) processors (now (order .entry)) (now (memory .entry)) r (now (memory .exit)) ⌝ }
+    ensures { λ r. ⌜ Runs (now (s .entry)) (settings processors) (now (order .entry)) (now (memory .entry)) r (now (memory .exit)) ⌝ }
 {
-    let mut lens = [0u32; 16];
-    let mut firsts = [0u32; 16];
-    let mut lasts = [0u32; 16];
-    let mut starts = [0usize; 17];
-    let mut kinds = [0u8; 528];
-    let mut arrays = [0u32; 528];
-    let mut values = [0u32; 528];
-    let p = plans::plan_table(
-        s,
-        processors,
-        &mut lens,
-        &mut firsts,
-        &mut lasts,
-        &mut starts,
-        &mut kinds,
-        &mut arrays,
-        &mut values,
-    );
+    let mut store = [0u32; 1651];
+    let p = plans::plan_table(s, processors, &mut store);
     if p.number != 0 {
         return Ran {
             number: p.number,
@@ -371,17 +229,6 @@ pub fn run(s: &[u8], processors: u32, order: &[u8], memory: &mut [f64]) -> Ran
             idle: 0,
         };
     }
-    run_planned(
-        p,
-        processors,
-        order,
-        &lens,
-        &firsts,
-        &lasts,
-        &starts,
-        &kinds,
-        &arrays,
-        &values,
-        memory,
-    )
+    let a = p.axis;
+    run_planned(a, order, &store, memory)
 }

@@ -1,2 +1,0 @@
--- calls one after the other, and what they leave
-pub mod Laws
