@@ -44,6 +44,9 @@ module _ (text out none : List ℕ) (most size : ℕ) (short : most ≤ 212900) 
         fits = omega (arith, ap length (w .bytes), length-written out 0 text);
       }
 
+pub prints-same : {a b out left : List ℕ} {o : Outcome} → a ≡ b → Prints a out left o → Prints b out left o
+prints-same {out = out} {left} {o} e p = subst (λ (x : List ℕ). Prints x out left o) e p
+
 -- the text of what the plan's code answered
 module _ (s : List ℕ) (w : Settings) (p : Plan) (c : List ℕ) where
   pub refused-text : Plans s (planned s w) p c → (p .number ≡ 0 → ⊥) → refusal (p .number) (p .place) ≡ text s w

@@ -1,7 +1,7 @@
 use denote.Ref.{now}
 use Rattle.plans.specs.Plans.{settings}
 use Rattle.plans.specs.Code.{made-laid}
-use Rattle.printing.proofs.Laws.{refused-text, made-text}
+use Rattle.printing.proofs.Laws.{prints-same, refused-text, made-text}
 use borrow.Author.Needs.{needs}
 use Rattle.printing.proofs.print_plan.Statement.{statement}
 use Rattle.printing.proofs.print_plan.Tie as tie
@@ -19,7 +19,7 @@ returns : tie.Need-returns
 returns c = let a = c .before .before .before .before .before .before .before .before .before .before .args in
     let n = c .before .before .before .before .if1 .taken in
     let e = refused-text (now (a .s)) (settings (a .processors)) _ _ (c .before .before .before .before .before .before .plan-table .ensures) n in
-    rw e at (c .before .before .print-refusal .ensures)
+    prints-same e (c .before .before .print-refusal .ensures)
 
 sweeps-of-requires : tie.Need-sweeps-of-requires
 sweeps-of-requires c κs = c .before .before .before .plan-table .ensures .made (c .before .if1 .left) .held
@@ -36,7 +36,7 @@ returns-2 : tie.Need-returns-2
 returns-2 c = let a = c .before .before .before .before .before .before .before .before .before .before .before .before .before .args in
     let m = c .before .before .before .before .before .before .before .before .before .plan-table .ensures .made (c .before .before .before .before .before .before .before .if1 .left) in
     let e = made-text (now (a .s)) (settings (a .processors)) _ _ m _ (c .before .before .before .before .before .sweeps-of .ensures) in
-    rw e at (c .before .before .print-lines .ensures)
+    prints-same e (c .before .before .print-lines .ensures)
 
 pub print-plan-spec : {M : Type 1} → statement M
 print-plan-spec =
