@@ -1,39 +1,39 @@
+use native.Mathlib.Omega.{arith}
+use mathlib.Core.Path.{_≡_, ap, subst}
+use Prim.Native.Nat.{ℕ, _*_, _<_}
+use denote.Ref.{now}
+use Rattle.steps.specs.Ready.{Ready}
+use Rattle.running.proofs.Calls.{left-past, left-turn, ready-at}
 use borrow.Author.Needs.{needs}
 use Rattle.running.proofs.call.Statement.{statement}
 use Rattle.running.proofs.call.Tie as tie
-use Rattle.running.proofs.call.Reads as reads
-use Rattle.running.proofs.call.Lts as lts
-use Rattle.arithmetic.proofs.wide.Reads as wide-reads
-use Rattle.running.proofs.idle_of.Reads as idle-of-reads
-use Rattle.steps.proofs.turn.Reads as turn-reads
 
--- src/lib.rt:70:9
 returns : tie.Need-returns
-returns c = ?
+returns c = let a = c .before .before .before .args in
+    λ w h. left-past w (a .processors) (now (a .store)) (a .number) (now (a .counts)) (now (a .memory)) (c .if1 .taken)
 
--- src/lib.rt:78:17
 wide-requires : tie.Need-wide-requires
 wide-requires c κs = search needs
 
--- src/lib.rt:78:9
 mul-turn : tie.Need-mul-turn
 mul-turn c = search needs
 
--- src/lib.rt:72:9
 turn-requires : tie.Need-turn-requires
-turn-requires c κs = ?
+turn-requires c κs = let a = c .before .before .before .before .before .before .args in
+    let p = c .before .before .before .before .before .before .pre in
+    ((p .0 .0, ready-at (p .0 .1) (a .number) (c .before .wide .result) (c .before .wide .ensures .0) (c .before .before .before .if1 .left)), p .2, p .3)
 
--- src/lib.rt:83:5
 idle-of-requires : tie.Need-idle-of-requires
 idle-of-requires c κs = search needs
 
--- src/lib.rt:55:1
 same-length : tie.Need-same-length
 same-length c = search needs
 
--- src/lib.rt:55:1
 returns-2 : tie.Need-returns-2
-returns-2 c = ?
+returns-2 c = let a = c .before .before .before .before .before .before .before .before .before .before .args in
+    let x = c .before .before .before .turn in
+    λ w h. left-turn w (a .processors) (now (a .store)) (a .number) (now (a .counts)) (now (a .memory)) (c .before .before .before .before .before .before .before .if1 .left) _ _ (x .result) (c .idle-of .result)
+    (x .ensures w (ready-at h (a .number) (c .before .before .before .before .before .wide .result) (c .before .before .before .before .before .wide .ensures .0) (c .before .before .before .before .before .before .before .if1 .left))) (c .idle-of .ensures)
 
 pub call-spec : {M : Type 1} → statement M
 call-spec =

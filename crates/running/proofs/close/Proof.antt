@@ -1,64 +1,92 @@
+use native.Mathlib.Omega.{arith}
+use mathlib.Core.Path.{_≡_, sym, _∙_}
+use denote.Ref.{now}
+use Rattle.model.specs.declared.Iteration.{Iteration}
+use Rattle.turns.specs.Turn.{Work}
+use Rattle.turns.specs.Reach.{Reachable}
+use Rattle.running.specs.Code.{Step, Given}
+use Rattle.running.proofs.Calls.{Closing, closing-start, closing-next, closing-stop, closing-end, ready-at}
 use Rattle.running.proofs.close.Statement.{statement}
 use Rattle.running.proofs.close.Tie as tie
-use Rattle.running.proofs.close.Reads as reads
-use Rattle.running.proofs.close.Lts as lts
-use Rattle.arithmetic.proofs.wide.Reads as wide-reads
-use Rattle.barriers.proofs.lowest_ready.Reads as lowest-ready-reads
-use Rattle.steps.proofs.turn.Reads as turn-reads
 
 abbrev Inv-loop : tie.InvT-loop
-Inv-loop counts₀ most processors ends lists store bases memory₀ left₀ counts memory left = ?
+Inv-loop counts₀ most processors ends lists store bases memory₀ left₀ counts memory left =
+    (w : Work Iteration) (step : Step) (g : Given w step processors ends lists store bases) → Reachable w counts₀
+    → Closing w step processors ends lists store bases g most counts₀ memory₀ counts memory left
 
 abbrev μ-loop : tie.MeasureT-loop
-μ-loop counts₀ most processors ends lists store bases memory₀ left₀ counts memory left = ?
+μ-loop counts₀ most processors ends lists store bases memory₀ left₀ counts memory left = left
 
--- src/lib.rt:133:5
 loop-holds : tie.Need-loop-holds Inv-loop μ-loop
-loop-holds c = ?
+loop-holds c = let a = c .before .before .args in
+    let p = c .before .before .pre in
+    λ w step g r. closing-start w step (a .processors) (now (a .ends)) (now (a .lists)) (now (a .store)) (now (a .bases)) g (a .most) (now (a .counts)) (now (a .memory)) (p .1) r
 
--- src/lib.rt:134:13
 lowest-ready-requires : tie.Need-lowest-ready-requires Inv-loop μ-loop
-lowest-ready-requires c κs = ?
+lowest-ready-requires c κs = let a = c .before .before .before .before .before .args in
+    let p = c .before .before .before .before .before .pre in
+    let g = p .0 .1 .1 in
+    let l = c .before .before .loop in
+    let i = l .inv (p .0 .0) (p .0 .1 .0) g (p .0 .1 .2) in
+    record { many = g .few; some-phase = omega arith; few = omega arith; counts-long = i .reachable .size; ends-long = g .ends-long }
 
--- src/lib.rt:136:13
 same-length : tie.Need-same-length Inv-loop μ-loop
-same-length c = ?
+same-length c = let a = c .before .before .before .before .before .before .before .args in
+    let p = c .before .before .before .before .before .before .before .pre in
+    let g = p .0 .1 .1 in
+    let l = c .before .before .before .before .loop in
+    let i = l .inv (p .0 .0) (p .0 .1 .0) g (p .0 .1 .2) in
+    i .long ∙ sym (p .1)
 
--- src/lib.rt:136:13
 returns : tie.Need-returns Inv-loop μ-loop
-returns c = ?
+returns c = let a = c .before .before .before .before .before .before .before .args in
+    let l = c .before .before .before .before .loop in
+    λ w step g r. closing-stop w step (a .processors) (now (a .ends)) (now (a .lists)) (now (a .store)) (now (a .bases)) g (a .most) (now (a .counts)) (now (a .memory)) (l .counts) (l .memory) (l .left) (l .inv w step g r) (c .before .before .before .loop-test .taken) (c .before .lowest-ready .result) (c .before .lowest-ready .ensures) (c .if1 .taken)
 
--- src/lib.rt:144:21
 wide-requires : tie.Need-wide-requires Inv-loop μ-loop
-wide-requires c κs = ?
+wide-requires c κs = tt
 
--- src/lib.rt:144:13
 mul-turn : tie.Need-mul-turn Inv-loop μ-loop
-mul-turn c = ?
+mul-turn c = let a = c .before .before .before .before .before .before .before .before .before .args in
+    let p = c .before .before .before .before .before .before .before .before .before .pre in
+    let g = p .0 .1 .1 in
+    let l = c .before .before .before .before .before .before .loop in
+    let i = l .inv (p .0 .0) (p .0 .1 .0) g (p .0 .1 .2) in
+    omega (arith, g .few, c .wide .ensures .0, c .before .before .if1 .left)
 
--- src/lib.rt:138:9
 turn-requires : tie.Need-turn-requires Inv-loop μ-loop
-turn-requires c κs = ?
+turn-requires c κs = let a = c .before .before .before .before .before .before .before .before .before .before .args in
+    let p = c .before .before .before .before .before .before .before .before .before .before .pre in
+    let g = p .0 .1 .1 in
+    let l = c .before .before .before .before .before .before .before .loop in
+    let i = l .inv (p .0 .0) (p .0 .1 .0) g (p .0 .1 .2) in
+    ((p .0 .0, ready-at (g .ready) (c .before .before .before .before .lowest-ready .result) (c .before .wide .result) (c .before .wide .ensures .0) (c .before .before .before .if1 .left)), i .reachable .size, i .long)
 
--- src/lib.rt:149:9
 sub-left : tie.Need-sub-left Inv-loop μ-loop
-sub-left c = ?
+sub-left c = omega (arith, c .before .before .before .before .before .before .before .before .before .loop-test .taken)
 
--- src/lib.rt:133:5
 loop-less : tie.Need-loop-less Inv-loop μ-loop
-loop-less c = ?
+loop-less c = omega (arith, c .before .before .before .before .before .before .before .before .before .loop-test .taken)
 
--- src/lib.rt:133:5
 loop-again : tie.Need-loop-again Inv-loop μ-loop
-loop-again c = ?
+loop-again c = let a = c .before .before .before .before .before .before .before .before .before .before .before .before .before .args in
+    let l = c .before .before .before .before .before .before .before .before .before .before .loop in
+    let b = c .before .before .before .before .before .before .before .lowest-ready in
+    λ w step g r. closing-next w step (a .processors) (now (a .ends)) (now (a .lists)) (now (a .store)) (now (a .bases)) g (a .most) (now (a .counts)) (now (a .memory)) (l .counts) (l .memory) (l .left) (l .inv w step g r) (c .before .before .before .before .before .before .before .before .before .loop-test .taken) (b .result) (b .ensures) (c .before .before .before .before .before .before .if1 .left) _ _ (c .before .before .turn .result)
+    (c .before .before .turn .ensures w (ready-at (g .ready) (b .result) (c .before .before .before .before .wide .result) (c .before .before .before .before .wide .ensures .0) (c .before .before .before .before .before .before .if1 .left)))
 
--- src/lib.rt:119:1
 same-length-2 : tie.Need-same-length-2 Inv-loop μ-loop
-same-length-2 c = ?
+same-length-2 c = let a = c .before .before .before .before .args in
+    let p = c .before .before .before .before .pre in
+    let g = p .0 .1 .1 in
+    let l = c .before .loop in
+    let i = l .inv (p .0 .0) (p .0 .1 .0) g (p .0 .1 .2) in
+    i .long ∙ sym (p .1)
 
--- src/lib.rt:119:1
 returns-2 : tie.Need-returns-2 Inv-loop μ-loop
-returns-2 c = ?
+returns-2 c = let a = c .before .before .before .before .args in
+    let l = c .before .loop in
+    λ w step g r. closing-end w step (a .processors) (now (a .ends)) (now (a .lists)) (now (a .store)) (now (a .bases)) g (a .most) (now (a .counts)) (now (a .memory)) (l .counts) (l .memory) (l .left) (l .inv w step g r) (omega (arith, c .loop-test .left))
 
 pub close-spec : {M : Type 1} → statement M
 close-spec =

@@ -1,0 +1,136 @@
+-- What a run of an accepted plan leaves, and what a refused one does.
+use Prim.Native.Nat.{ℕ, zero, suc, _*_, _≤_, _<_}
+use native.Mathlib.Omega.{arith}
+use mathlib.Core.Path.{_≡_, refl, sym, ap, _∙_}
+use mathlib.Core.List.{List}
+use lib.ListN.{length, getD, replicate}
+use lib.Ieee.{Float}
+use borrow.Author.Tests.{lt-ltb, le-ltb}
+use Rattle.reader.specs.Reading.{AnswerOf, accepted, refused}
+use Rattle.reader.specs.Store.{tableIn}
+use Rattle.blocks.specs.declared.Axis.{Axis}
+use Rattle.tables.specs.Verdict.{numberOf, placeOf, Tells}
+use Rattle.bodies.specs.Workable.{Based}
+use Rattle.iterations.specs.Memory.{total, remembered, remembered-as-long, remembered-unlike}
+use Rattle.iterations.specs.Loaded.{based-total}
+use Rattle.model.specs.declared.Iteration.{Iteration}
+use Rattle.model.specs.Table.{iteration}
+use Rattle.model.specs.Bodies.{run}
+use Rattle.turns.specs.Turn.{Work, refuses, stays, turn}
+use Rattle.turns.specs.Reach.{Reachable}
+use Rattle.barriers.specs.Code.{Small, Ended}
+use Rattle.plans.specs.Plans.{Settings, Planned, planned}
+use Rattle.plans.specs.Code.{plannedIn, Laid}
+use Rattle.ranges.specs.Listed.{few-blocks}
+use Rattle.layouts.specs.Layout.{workIn, Stands}
+use Rattle.stepping.specs.Step.{workOf, elements, step}
+use Rattle.stepping.specs.Run.{runAnswer, runMemory, runIdle}
+use Rattle.stepping.specs.Reach.{step-turn, step-past}
+use Rattle.steps.specs.Ready.{ready-in}
+use Rattle.running.specs.Code.{Step, called, Given, Rowed}
+use Rattle.running.specs.Runs.{Runs}
+
+-- WHAT THE CODE IS LENT, where the plan is laid out
+module _ (a : Axis) (c : List ℕ) (h : Laid a c) (es xs bs : List ℕ) (based : Based bs (tableIn c .lengths)) (ended : Ended (workIn a c) es)
+    (long : length es ≡ 192) (room : 6144 ≤ length xs) (stands : (b : ℕ) → b < a .blocks → Stands a c xs (96 * b) b) where
+  given-by : (step : Step)
+      → ((b : ℕ) (cs : List ℕ) (m : List Float) → length m ≡ total (tableIn c) → Reachable (workIn a c) cs → b < a .blocks
+      → step b cs m ≡ turn (iteration 0 0) (workIn a c) (run (tableIn c)) b cs m)
+      → ((b : ℕ) (cs : List ℕ) (m : List Float) → a .blocks ≤ b → step b cs m ≡ stays cs m (refuses 10 0))
+      → Given (workIn a c) step (a .blocks) es xs c bs
+  given-by step turns past = record {
+    counted = refl;
+    few = few-blocks a c h;
+    two = refl;
+    ended = ended;
+    ends-long = long;
+    ready = λ b l.
+        ready-in a b es xs (96 * b) c bs h l ended long (omega (arith, few-blocks a c h)) (stands b l)
+        (record { holds = h .held; valid = h .fit .valid; based = based });
+    turns = turns;
+    past = past;
+  }
+
+  -- for the bytes of an accepted table
+  pub given-in : (s : List ℕ) (w : Settings) → planned s w ≡ accepted (plannedIn a c) → Given (workIn a c) (step s w) (a .blocks) es xs c bs
+  given-in s w e = given-by (step s w) (step-turn s w (plannedIn a c) e) (step-past s w (plannedIn a c) e)
+
+  -- and where no bytes are at hand
+  pub given-some : (w : Work Iteration) × ((step : Step) × Given w step (a .blocks) es xs c bs)
+  given-some = (
+    workIn a c,
+    (
+      called (workIn a c) (a .blocks) c,
+      given-by (called (workIn a c) (a .blocks) c) (λ b cs m l r i. rw (lt-ltb b (a .blocks) i)) (λ b cs m l. rw (le-ltb b (a .blocks) l)),
+    ),
+  )
+
+pub bases-total : (a : Axis) (c : List ℕ) → Laid a c → (bs : List ℕ) → Based bs (tableIn c .lengths) → (n : ℕ) → n ≡ getD bs 16 0 → n ≡ total (tableIn c)
+bases-total a c h bs based n e = e ∙ based-total bs (tableIn c .lengths) 16 based (h .fit .valid .few-arrays) (omega arith)
+
+pub zeros-small : (n : ℕ) → Small (replicate n 0)
+zeros-small zero k = omega arith
+zeros-small (suc n) zero = omega arith
+zeros-small (suc n) (suc k) = zeros-small n k
+
+-- THE RUN
+module _ (s : List ℕ) (w : Settings) (order : List ℕ) (m : List Float) where
+  run-refused : (number place : ℕ) → runAnswer s w (length m) ≡ refused number place → (m ≡ runMemory s w order m) × (0 ≡ runIdle s w order m)
+  unfolding runMemory runIdle
+  run-refused number place e = rw e (refl, refl)
+
+  -- 1 to 11
+  pub runs-refused : (number place read : ℕ) → Tells s (planned s w) number place read → (number ≡ 0 → ⊥)
+      → Runs s w order m (record { number = number; place = place; read = read; idle = 0 }) m
+  unfolding remembered
+  runs-refused number place read h n = go (planned s w) refl
+    where
+      go : (a : AnswerOf Planned) → planned s w ≡ a → Runs s w order m (record { number = number; place = place; read = read; idle = 0 }) m
+      go (accepted t) e = absurd (n (h .number-is ∙ ap numberOf e))
+      go (refused g q) e =
+          let f : runAnswer s w (length m) ≡ refused g q = ap (remembered elements (length m)) e in
+          let (o, i) = run-refused g q f in
+          record {
+            tells = record {
+              number-is = h .number-is ∙ ap numberOf e ∙ sym (ap numberOf f);
+              place-is = h .place-is ∙ ap placeOf e ∙ sym (ap placeOf f);
+              named = h .named;
+              unnamed = h .unnamed;
+            };
+            memory-is = o;
+            idle-is = i;
+          }
+
+  module _ (q : Planned) (planned-is : planned s w ≡ accepted q) where
+    -- 12
+    pub runs-unlike : (length m ≡ total (q .table) → ⊥) → Runs s w order m (record { number = 12; place = 0; read = 0; idle = 0 }) m
+    runs-unlike n =
+        let f : runAnswer s w (length m) ≡ refused 12 0 = ap (remembered elements (length m)) planned-is ∙ remembered-unlike elements (length m) q n in
+        let (o, i) = run-refused 12 0 f in
+        record {
+          tells = record {
+            number-is = sym (ap numberOf f);
+            place-is = sym (ap placeOf f);
+            named = λ u e z. absurd (omega (arith, z));
+            unnamed = λ z. refl;
+          };
+          memory-is = o;
+          idle-is = i;
+        }
+
+    pub runs-made : length m ≡ total (q .table) → (left : List Float) (n : ℕ) → Rowed (workOf q) (step s w) (q .plan .processors) order m left n
+        → Runs s w order m (record { number = 0; place = 0; read = 0; idle = n }) left
+    unfolding runMemory runIdle
+    runs-made long left n h = record {
+      tells = record {
+        number-is = sym (ap numberOf f);
+        place-is = sym (ap placeOf f);
+        named = λ u g z. absurd (omega (arith, z));
+        unnamed = λ z. refl;
+      };
+      memory-is = rw f (h .memory-is);
+      idle-is = rw f (h .idle-is);
+    }
+      where
+        f : runAnswer s w (length m) ≡ accepted q
+        f = ap (remembered elements (length m)) planned-is ∙ remembered-as-long elements (length m) q long

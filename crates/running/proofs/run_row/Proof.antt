@@ -1,0 +1,31 @@
+use mathlib.Core.Path.{_≡_}
+use Rattle.running.proofs.Calls.{rowed}
+use borrow.Author.Needs.{needs}
+use Rattle.running.proofs.run_row.Statement.{statement}
+use Rattle.running.proofs.run_row.Tie as tie
+
+take-order-requires : tie.Need-take-order-requires
+take-order-requires c κs = search needs
+
+listed-requires : tie.Need-listed-requires
+listed-requires c κs = search needs
+
+close-requires : tie.Need-close-requires
+close-requires c κs = let p = c .before .before .before .before .before .before .before .before .before .before .before .pre in
+    let w = p .0 .0 in
+    let step = p .0 .1 .0 in
+    let g = p .0 .1 .1 in
+    let o = c .before .before .before .before .before .take-order .ensures w step g in
+    ((w, (step, g, o .reachable)), o .long)
+
+same-length : tie.Need-same-length
+same-length c = search needs
+
+returns : tie.Need-returns
+returns c = λ w step g.
+    let o = c .before .before .before .before .before .before .before .before .take-order .ensures w step g in
+    rowed g o (c .before .before .before .before .before .listed .result) (c .before .before .before .before .before .listed .ensures) (c .before .before .close .ensures w step g (o .reachable))
+
+pub run-row-spec : {M : Type 1} → statement M
+run-row-spec =
+    tie.close (tie.spec take-order-requires listed-requires close-requires same-length returns)
