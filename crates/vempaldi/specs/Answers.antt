@@ -5,11 +5,12 @@ use mathlib.Core.List.{List}
 use lib.ListN.{set}
 use lib.Ieee.{Float}
 use Rattle.model.specs.Table.{Table}
-use Rattle.reader.specs.Reading.{Answer, accepted, reading}
+use Rattle.reader.specs.Reading.{AnswerOf, accepted, reading}
 use Rattle.serial.specs.Meeting.{Collides}
 use Rattle.stepping.specs.declared.Report.{Report}
 use Rattle.stepping.specs.declared.Report.the-variants.{Refused, Performed, Waiting, Finished}
-use Rattle.stepping.specs.Step.{step}
+use Rattle.plans.specs.Plans.{Settings}
+use Rattle.stepping.specs.Step.{reportOf, step}
 use Rattle.tables.specs.declared.Verdict.{Verdict}
 use Rattle.tables.specs.Verdict.{Told}
 use Rattle.outputs.specs.declared.Outcome.{Outcome}
@@ -22,7 +23,7 @@ abbrev pub answered : ℕ → ℕ → ℕ → List ℕ → List ℕ
 answered number place read w = set (set (set w 0 number) 1 place) 2 read
 
 -- the answer of a call on a table's bytes s that a decides: `found` is what was lent, `left` what it then holds
-pub record AnswerTold (s : List ℕ) (a : Answer) (found left : List ℕ) : Type 0 where
+pub record AnswerTold {T : Type 0} (s : List ℕ) (a : AnswerOf T) (found left : List ℕ) : Type 0 where
   pub verdict : Verdict
   pub told : Told s a verdict
   pub is : left ≡ answered (verdict .number) (verdict .place) (verdict .read) found
@@ -71,12 +72,16 @@ Small (Performed number index) = (number < 16) × (index ≤ 65790)
 Small Waiting = Unit {0}
 Small Finished = Unit {0}
 
--- a step of processor b of P: what was lent before, and after
-pub record StepTold (s : List ℕ) (P b : ℕ) (counts : List ℕ) (m : List Float) (report answer counts′ : List ℕ) (m′ : List Float) (report′ answer′ : List ℕ) : Type 0 where
-  pub counts-are : counts′ ≡ step s P b counts m .counts
-  pub memory-is : m′ ≡ step s P b counts m .memory
-  pub report-is : report′ ≡ reported (step s P b counts m .report) report
+-- what a step reports
+abbrev pub reportAt : List ℕ → Settings → ℕ → List ℕ → List Float → Report
+reportAt s w b counts m = reportOf (step s w b counts m .said)
+
+-- a step of processor b: what was lent before, and after
+pub record StepTold (s : List ℕ) (w : Settings) (b : ℕ) (counts : List ℕ) (m : List Float) (report answer counts′ : List ℕ) (m′ : List Float) (report′ answer′ : List ℕ) : Type 0 where
+  pub counts-are : counts′ ≡ step s w b counts m .counts
+  pub memory-is : m′ ≡ step s w b counts m .memory
+  pub report-is : report′ ≡ reported (reportAt s w b counts m) report
   pub read : ℕ
-  pub answer-is : answer′ ≡ refusal (step s P b counts m .report) read answer
-  pub named : (t : Table) → reading s ≡ accepted t → (place : ℕ) → step s P b counts m .report ≡ Refused 9 place → Collides t place read
-  pub unnamed : ((place : ℕ) → step s P b counts m .report ≡ Refused 9 place → ⊥) → read ≡ 0
+  pub answer-is : answer′ ≡ refusal (reportAt s w b counts m) read answer
+  pub named : (t : Table) → reading s ≡ accepted t → (place : ℕ) → reportAt s w b counts m ≡ Refused 9 place → Collides t place read
+  pub unnamed : ((place : ℕ) → reportAt s w b counts m ≡ Refused 9 place → ⊥) → read ≡ 0

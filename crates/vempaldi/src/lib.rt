@@ -9,7 +9,8 @@ ghost use Rattle.printing.specs.Printing.{text};
 use stepping::Report;
 use steps::Counts;
 ghost use Rattle.plain.specs.Plain.{plainAnswer, plainMemory};
-ghost use Rattle.stepping.specs.Row.{runAnswer, runMemory, runIdle};
+ghost use Rattle.plans.specs.Plans.{settings};
+ghost use Rattle.stepping.specs.Run.{runAnswer, runMemory, runIdle};
 ghost use Rattle.vempaldi.specs.Answers.{AnswerTold, written, reported, refusal, Small, StepTold, answered, JoinTold, EntryTold, ListingTold};
 
 fn write_answer(answer: &mut [u64; 3], number: usize, place: usize, read: usize)
@@ -68,7 +69,7 @@ pub extern "C" fn vempaldi_listing(
     out: &mut [u8],
     answer: &mut [u64; 3],
 ) -> u64
-    ensures { λ r. ⌜ ListingTold (text (now (table .entry)) processors) (now (out .entry)) (now (out .exit)) (now (answer .entry)) (now (answer .exit)) r ⌝ }
+    ensures { λ r. ⌜ ListingTold (text (now (table .entry)) (settings processors)) (now (out .entry)) (now (out .exit)) (now (answer .entry)) (now (answer .exit)) r ⌝ }
 {
     let o = printing::print_plan(table, processors, out);
     write_answer(answer, o.number, o.place, o.read);
@@ -105,8 +106,8 @@ pub extern "C" fn vempaldi_blocks(
     out: &mut [u8],
     answer: &mut [u64; 3],
 ) -> u64
-    ensures { λ r. ⌜ EntryTold (now (table .entry)) (blocksGiven (now (table .entry)) processors (length (now (out .entry)))) (now (answer .entry)) (now (answer .exit)) r ⌝ }
-    ensures { λ r. ⌜ now (out .exit) ≡ final (blocksGiven (now (table .entry)) processors (length (now (out .entry)))) (now (out .entry)) ⌝ }
+    ensures { λ r. ⌜ EntryTold (now (table .entry)) (blocksGiven (now (table .entry)) (settings processors) (length (now (out .entry)))) (now (answer .entry)) (now (answer .exit)) r ⌝ }
+    ensures { λ r. ⌜ now (out .exit) ≡ final (blocksGiven (now (table .entry)) (settings processors) (length (now (out .entry)))) (now (out .entry)) ⌝ }
 {
     let o = entries::blocks(table, processors, out);
     write_answer(answer, o.number, o.place, o.read);
@@ -122,10 +123,10 @@ pub extern "C" fn vempaldi_fused_list(
     out: &mut [u8],
     answer: &mut [u64; 3],
 ) -> u64
-    ensures { λ r. ⌜ EntryTold (now (table .entry)) (fusedGiven (now (table .entry)) processors processor (length (now (out .entry)))) (now (answer .entry)) (now (answer .exit)) r ⌝ }
-    ensures { λ r. ⌜ now (out .exit) ≡ final (fusedGiven (now (table .entry)) processors processor (length (now (out .entry)))) (now (out .entry)) ⌝ }
+    ensures { λ r. ⌜ EntryTold (now (table .entry)) (fusedGiven (now (table .entry)) (settings processors) processor (length (now (out .entry)))) (now (answer .entry)) (now (answer .exit)) r ⌝ }
+    ensures { λ r. ⌜ now (out .exit) ≡ final (fusedGiven (now (table .entry)) (settings processors) processor (length (now (out .entry)))) (now (out .entry)) ⌝ }
 {
-    let o = entries::fused_list(table, processors, processor, out);
+    let o = entries::list(table, 0, processors, processor, out);
     write_answer(answer, o.number, o.place, o.read);
     o.written as u64
 }
@@ -139,10 +140,10 @@ pub extern "C" fn vempaldi_peeled_list(
     out: &mut [u8],
     answer: &mut [u64; 3],
 ) -> u64
-    ensures { λ r. ⌜ EntryTold (now (table .entry)) (peeledGiven (now (table .entry)) processors processor (length (now (out .entry)))) (now (answer .entry)) (now (answer .exit)) r ⌝ }
-    ensures { λ r. ⌜ now (out .exit) ≡ final (peeledGiven (now (table .entry)) processors processor (length (now (out .entry)))) (now (out .entry)) ⌝ }
+    ensures { λ r. ⌜ EntryTold (now (table .entry)) (peeledGiven (now (table .entry)) (settings processors) processor (length (now (out .entry)))) (now (answer .entry)) (now (answer .exit)) r ⌝ }
+    ensures { λ r. ⌜ now (out .exit) ≡ final (peeledGiven (now (table .entry)) (settings processors) processor (length (now (out .entry)))) (now (out .entry)) ⌝ }
 {
-    let o = entries::peeled_list(table, processors, processor, out);
+    let o = entries::list(table, 1, processors, processor, out);
     write_answer(answer, o.number, o.place, o.read);
     o.written as u64
 }
@@ -202,7 +203,7 @@ pub extern "C" fn vempaldi_step(
     report: &mut [u32; 3],
     answer: &mut [u64; 3],
 )
-    ensures { λ _. ⌜ StepTold (now (table .entry)) processors processor (now (counts .entry)) (now (memory .entry)) (now (report .entry)) (now (answer .entry)) (now (counts .exit)) (now (memory .exit)) (now (report .exit)) (now (answer .exit)) ⌝ }
+    ensures { λ _. ⌜ StepTold (now (table .entry)) (settings processors) processor (now (counts .entry)) (now (memory .entry)) (now (report .entry)) (now (answer .entry)) (now (counts .exit)) (now (memory .exit)) (now (report .exit)) (now (answer .exit)) ⌝ }
 {
     let done = *counts;
     let state = Counts { done };
@@ -224,9 +225,9 @@ pub extern "C" fn vempaldi_run(
     memory: &mut [f64],
     answer: &mut [u64; 3],
 ) -> u64
-    ensures { λ r. ⌜ AnswerTold (now (table .entry)) (runAnswer (now (table .entry)) processors (length (now (memory .entry)))) (now (answer .entry)) (now (answer .exit)) ⌝ }
-    ensures { λ r. ⌜ now (memory .exit) ≡ runMemory (now (table .entry)) processors (now (order .entry)) (now (memory .entry)) ⌝ }
-    ensures { λ r. ⌜ r ≡ runIdle (now (table .entry)) processors (now (order .entry)) (now (memory .entry)) ⌝ }
+    ensures { λ r. ⌜ AnswerTold (now (table .entry)) (runAnswer (now (table .entry)) (settings processors) (length (now (memory .entry)))) (now (answer .entry)) (now (answer .exit)) ⌝ }
+    ensures { λ r. ⌜ now (memory .exit) ≡ runMemory (now (table .entry)) (settings processors) (now (order .entry)) (now (memory .entry)) ⌝ }
+    ensures { λ r. ⌜ r ≡ runIdle (now (table .entry)) (settings processors) (now (order .entry)) (now (memory .entry)) ⌝ }
 {
     let v = running::run(table, processors, order, memory);
     write_answer(answer, v.number, v.place, v.read);

@@ -1,4 +1,5 @@
 use denote.Ref.{now}
+use Rattle.plans.specs.Plans.{settings}
 use Rattle.vempaldi.proofs.Laws.{report-small, step-told}
 use borrow.Author.Needs.{needs}
 use Rattle.vempaldi.proofs.vempaldi_step.Statement.{statement}
@@ -8,7 +9,10 @@ step-requires : tie.Need-step-requires
 step-requires c κs = search needs
 
 tell-report-requires : tie.Need-tell-report-requires
-tell-report-requires c κs = report-small (now (c .before .before .before .before .before .before .before .before .before .before .args .table)) (c .before .before .before .before .before .before .before .before .before .before .args .processors) (c .before .before .before .before .before .before .before .before .before .before .args .processor) (now (c .before .before .before .before .before .before .before .before .before .before .args .counts)) (now (c .before .before .before .before .before .before .before .before .before .before .args .memory)) (c .before .before .before .before .before .step .result) (c .before .before .before .before .before .step .last .1 .1 .1 .1 .0) (c .before .before .before .before .before .step .ensures)
+tell-report-requires c κs =
+    let a = c .before .before .before .before .before .before .before .before .before .before .args in
+    let x = c .before .before .before .before .before .step in
+    report-small (now (a .table)) (settings (a .processors)) (a .processor) (now (a .counts)) (now (a .memory)) (x .result) (x .last .1 .1 .1 .1 .0) (x .ensures)
 
 tell-answer-requires : tie.Need-tell-answer-requires
 tell-answer-requires c κs = search needs
@@ -17,7 +21,12 @@ same-length : tie.Need-same-length
 same-length c = search needs
 
 returns : tie.Need-returns
-returns c = step-told (now (c .before .before .before .before .before .before .before .before .before .before .before .before .before .args .table)) (c .before .before .before .before .before .before .before .before .before .before .before .before .before .args .processors) (c .before .before .before .before .before .before .before .before .before .before .before .before .before .args .processor) (now (c .before .before .before .before .before .before .before .before .before .before .before .before .before .args .counts)) (now (c .before .before .before .before .before .before .before .before .before .before .before .before .before .args .memory)) (c .before .before .before .before .before .before .before .before .step .result) (c .before .before .before .before .before .before .before .before .step .last .1 .1 .1 .1 .0) (c .before .before .before .before .before .before .before .before .step .ensures) (now (c .before .before .before .before .before .before .before .before .before .before .before .before .before .args .report)) (now (c .before .before .before .before .before .before .before .before .before .before .before .before .before .args .answer)) (c .before .before .tell-report .last .0) (c .tell-answer .last .0) (c .before .before .tell-report .ensures) (c .tell-answer .ensures)
+returns c =
+    let a = c .before .before .before .before .before .before .before .before .before .before .before .before .before .args in
+    let x = c .before .before .before .before .before .before .before .before .step in
+    let t = c .before .before .tell-report in
+    let u = c .tell-answer in
+    step-told (now (a .table)) (settings (a .processors)) (a .processor) (now (a .counts)) (now (a .memory)) (x .result) (x .last .1 .1 .1 .1 .0) (x .ensures) (now (a .report)) (now (a .answer)) (t .last .0) (u .last .0) (t .ensures) (u .ensures)
 
 pub vempaldi-step-spec : {M : Type 1} → statement M
 vempaldi-step-spec =
