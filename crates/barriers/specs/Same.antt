@@ -6,17 +6,24 @@ use mathlib.Core.Path.{_≡_, refl, sym, ap, subst, _∙_}
 use mathlib.Core.Bool.{Bool, true, false, cond, _&&_, _||_, and-false, false≢true}
 use mathlib.Core.List.{List}
 use lib.Dec.{ltb}
+use lib.ListN.{replicate}
 use borrow.Author.Tests.{lt-ltb, le-ltb}
 use Rattle.blocks.specs.Sums.{column, some, total-same, some-here, some-none, some-same}
 use Rattle.turns.specs.Turn.{Work, Said, before, closed, comeTo, phaseOf, wrongCount, wrongState, next}
 use Rattle.turns.specs.TwoPhases.{closed-first}
 use Rattle.turns.specs.Row.{performing, listed}
 use Rattle.turns.specs.Reach.{Opened, before-up, closed-opened, opened-closed, Turn, does, halts, stops, turn-is}
-use Rattle.barriers.specs.Code.{beforeBy, comeBy, phaseBy, closedBy, openBy, lastOpenBy, beyondBy, wrongBy, readyBy, listedBy, Ended}
+use Rattle.barriers.specs.Code.{beforeBy, comeBy, phaseBy, closedBy, openBy, lastOpenBy, beyondBy, wrongBy, readyBy, listedBy, Small, Ended}
 
 or-right : (x y : Bool) → y ≡ true → (x || y) ≡ true
 or-right true y e = refl
 or-right false y e = e
+
+-- where nothing is written yet
+pub zeros-small : (n : ℕ) → Small (replicate n 0)
+zeros-small zero k = omega arith
+zeros-small (suc n) zero = omega arith
+zeros-small (suc n) (suc k) = zeros-small n k
 
 -- m is the last of the phases up to n whose barrier is open
 pub record Last {A : Type 0} (w : Work A) (counts : List ℕ) (n m : ℕ) : Type 0 where

@@ -10,6 +10,7 @@ use Rattle.reader.specs.Stored.{Holds}
 use Rattle.grounds.specs.Statements.{sum}
 use Rattle.grounds.specs.Accepted.{Valid}
 use Rattle.bodies.specs.Workable.{Based}
+use Rattle.iterations.specs.Memory.{total}
 
 -- the store holds the table t, and bs is where its arrays begin
 pub record Loaded (t : Table) (cs bs : List ℕ) : Type 0 where
@@ -26,3 +27,7 @@ begins-past (n ∷ ns) (suc a) h = ap (λ (x : ℕ). n + x) (begins-past ns a (o
 
 pub based-total : (bs ns : List ℕ) (a : ℕ) → Based bs ns → length ns ≤ a → a ≤ 16 → getD bs a 0 ≡ sum ns
 based-total bs ns a b l h = b a h ∙ begins-past ns a l
+
+-- so where the last array ends is how long the memory is
+pub loaded-total : {t : Table} {cs bs : List ℕ} → Loaded t cs bs → (n : ℕ) → n ≡ getD bs 16 0 → n ≡ total t
+loaded-total {t} {cs} {bs} h n e = e ∙ based-total bs (t .lengths) 16 (h .based) (h .valid .few-arrays) (omega arith)

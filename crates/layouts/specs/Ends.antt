@@ -11,9 +11,7 @@ use Rattle.blocks.specs.declared.Axis.{Axis}
 use Rattle.blocks.specs.Sums.{column}
 use Rattle.lists.specs.Fusion.{fusionIn, work}
 use Rattle.turns.specs.Turn.{before}
-use Rattle.barriers.specs.Code.{Ended, Small}
-use Rattle.plans.specs.Code.{Laid}
-use Rattle.ranges.specs.Listed.{few-blocks, list-short}
+use Rattle.barriers.specs.Code.{Small}
 use Rattle.layouts.specs.Layout.{workIn, withEnds}
 
 module _ (a : Axis) (c : List ℕ) (b : ℕ) where
@@ -42,23 +40,3 @@ module _ (a : Axis) (c : List ℕ) (b : ℕ) where
         go (yes e) d = let z : i ≡ 64 * 0 + b = omega arith in omega (arith, ap (column (withEnds a c b xs)) z, ends-here 0 (omega arith))
         go (no e) (yes d) = let z : i ≡ 64 * 1 + b = omega arith in omega (arith, ap (column (withEnds a c b xs)) z, ends-here 1 (omega arith))
         go (no e) (no d) = omega (arith, ends-other i e d, s i)
-
-pub ends-size : (a : Axis) (c : List ℕ) (b : ℕ) (xs ys : List ℕ) → length xs ≡ 192 → ys ≡ withEnds a c b xs → length ys ≡ 192
-ends-size a c b xs ys size e = ap length e ∙ simp length-set size
-
--- written once more, they are the same
-pub ended-again : (a : Axis) (c : List ℕ) → Laid a c → (b : ℕ) → b < a .blocks → (xs ys : List ℕ) → length xs ≡ 192 → Ended (workIn a c) xs
-    → ys ≡ withEnds a c b xs → Ended (workIn a c) ys
-ended-again a c h b l xs ys size e q = rw q (record {
-  small = ends-small a c b xs size few (e .small) (list-short a c h 0 b) (list-short a c h 1 b);
-  is = λ n d i j. at n d i j (ℕ-discrete d b);
-  some-phase = e .some-phase;
-  few = e .few;
-})
-  where
-    few : b < 64
-    few = omega (arith, few-blocks a c h)
-
-    at : (n d : ℕ) → n < 2 → d < a .blocks → Dec (d ≡ b) → column (withEnds a c b xs) (64 * n + d) ≡ before (workIn a c) (suc n) d
-    at n d i j (yes z) = rw z (ends-here a c b xs size few n i)
-    at n d i j (no z) = ends-other a c b xs size few (64 * n + d) (λ y. omega (arith, few-blocks a c h)) (λ y. omega (arith, few-blocks a c h)) ∙ e .is n d i j

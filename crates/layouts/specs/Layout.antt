@@ -16,20 +16,22 @@ use Rattle.turns.specs.Turn.{Work, before}
 use Rattle.barriers.specs.Code.{Ended}
 use Rattle.plans.specs.Code.{Laid}
 use Rattle.ranges.specs.Code.{rangeOf, listOf, Kept, Apart}
-use Rattle.ranges.specs.Listed.{few-loops, list-in, kept-apart}
+use Rattle.ranges.specs.Listed.{few-loops, list-in, kept-apart, apart-twice}
 
 -- the work of the plan in an axis, of the table in a store
 abbrev pub workIn : Axis → List ℕ → Work Iteration
 workIn a c = record { processors = a .blocks; phases = phases (tableIn c) (fusionIn a); list = work (tableIn c) (fusionIn a) }
 
 module _ (a : Axis) (c : List ℕ) where
-  abbrev ranges : List ℕ → ℕ → ℕ → ℕ → Type 0
-  ranges xs at n b = Kept xs at (loopsIn c) (rangeOf n a c b) (column (a .shifts))
-
   -- processor b's lists stand from `at` on, phase after phase
   pub record Stands (xs : List ℕ) (at b : ℕ) : Type 0 where
     pub fused : Kept xs at (loopsIn c) (rangeOf 0 a c b) (column (a .shifts))
     pub peeled : Kept xs (at + 48) (loopsIn c) (rangeOf 1 a c b) (column (a .shifts))
+
+  -- so do those of the first n processors, each from its own place on, in numbers that were `old`
+  pub record Standing (old xs : List ℕ) (n : ℕ) : Type 0 where
+    pub long : length xs ≡ length old
+    pub each : (b : ℕ) → b < n → Stands xs (96 * b) b
 
   -- the numbers with where processor b's phases end
   abbrev pub withEnds : ℕ → List ℕ → List ℕ
@@ -57,6 +59,16 @@ module _ (a : Axis) (c : List ℕ) where
         two : (at + 96 ≤ from) ⊎ (past ≤ at) → (at + 48 + 48 ≤ from) ⊎ (past ≤ at + 48)
         two (inl l) = inl (omega arith)
         two (inr l) = inr (omega arith)
+
+    -- one list after the other: the second leaves the first
+    pub stands-both : (b : ℕ) (xs ys zs : List ℕ) (at later : ℕ) → later ≡ at + 48
+        → Kept ys at (loopsIn c) (rangeOf 0 a c b) (column (a .shifts)) → Apart xs ys at (at + 48)
+        → Kept zs later (loopsIn c) (rangeOf 1 a c b) (column (a .shifts)) → Apart ys zs later (later + 48)
+        → Stands zs at b × Apart xs zs at (at + 96)
+    stands-both b xs ys zs at later e k p l q = (
+      record { fused = kept-apart ys zs at (loopsIn c) later (later + 48) (few-loops a c h) k q (inl (omega arith)); peeled = rw e at l },
+      apart-twice xs ys zs at (at + 48) later (later + 48) at (at + 96) p q (omega arith) (omega arith) (omega arith) (omega arith),
+    )
 
     -- what stands in the lists are iterations of the table
     pub work-inside : (n b : ℕ) (x : Iteration) → b < a .blocks → Mem x (work (tableIn c) (fusionIn a) n b) → Inside (tableIn c) x

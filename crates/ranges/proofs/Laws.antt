@@ -1,5 +1,5 @@
 -- The walk over the loops that keeps their ranges, and the parts that the n-th iteration is found in.
-use Prim.Native.Nat.{ℕ, zero, suc, _+_, _-_, _*_, _≤_, _<_}
+use Prim.Native.Nat.{ℕ, zero, suc, _+_, _-_, _*_, _≤_, _<_, _^_}
 use native.Mathlib.Omega.{arith}
 use native.Mathlib.Decide.{ℕ-discrete}
 use mathlib.Core.Path.{_≡_, refl, sym, ap, _∙_}
@@ -12,12 +12,15 @@ use Rattle.blocks.specs.declared.Axis.{Axis}
 use Rattle.blocks.specs.declared.Part.{Part}
 use Rattle.blocks.specs.declared.Range.{Range}
 use Rattle.blocks.specs.Blocks.{block}
+use Rattle.blocks.specs.Code.{partOf}
+use Rattle.reader.specs.Store.{firstAt, lastAt, loopsIn}
+use Rattle.plans.specs.Code.{Laid}
 use Rattle.blocks.specs.Sums.{total-next}
 use Rattle.lists.specs.Below.{lengths}
 use Rattle.lists.specs.Lists.{fusedColumns, peeledColumns}
 use Rattle.positions.specs.Search.{Aligned}
-use Rattle.ranges.specs.Code.{partIn, partAt, rangeOf, cut, listOf, Kept, Apart}
-use Rattle.ranges.specs.Listed.{kept-aligned}
+use Rattle.ranges.specs.Code.{partIn, partAt, rangeOf, Along, cut, listOf, Kept, Apart}
+use Rattle.ranges.specs.Listed.{part-asks, range-small, kept-aligned}
 
 -- what the code found for loop k is its range
 pub range-found : (n : ℕ) (a : Axis) (c : List ℕ) (b k : ℕ) (part : Part) (blk r : Range) → part ≡ partIn n
@@ -92,6 +95,33 @@ module _ (old xs : List ℕ) (at k : ℕ) (f : ℕ → Range) (s : ℕ → ℕ) 
             → (j < k → getD three (place j) 0 ≡ value j) → getD three (place j) 0 ≡ value j
         now j l (yes y) place value here before = ap (λ (n : ℕ). getD three (place n) 0) y ∙ here ∙ ap value (sym y)
         now j l (no y) place value here before = before (omega arith)
+
+-- THE SUM of the first k loops' indices, the plan taken apart
+pub record Summed (a : Axis) (c : List ℕ) (n b k sum : ℕ) : Type 0 where
+  pub sum-is : sum ≡ lengths k (rangeOf n a c b)
+  pub small : sum ≤ k * 65791
+
+module _ (a : Axis) (c : List ℕ) (h : Laid a c) (blk : Range) (blocks b : ℕ) (ss ps : List ℕ) (y : Along a blk blocks b ss ps) where
+  -- what a part's code asks
+  pub along-asks : b < a .blocks → (k last : ℕ) → k < loopsIn c → last ≡ lastAt c k
+      → (b < blocks) × (last < 2 ^ 31) × (blk .from + getD ps k 0 < 2 ^ 32) × (blk .past + getD ps k 0 < 2 ^ 32)
+  along-asks l k last i e =
+      let (z, p, q, r, t) = part-asks a c h b k blk l i (y .block-is) in
+      (omega (arith, y .blocks-are), omega (arith, e, q), rw (y .peels-are) r, rw (y .peels-are) t)
+
+  -- and what it finds is the loop's range
+  pub along-range : (n k first last : ℕ) (part : Part) (r : Range) → part ≡ partIn n → first ≡ firstAt c k → last ≡ lastAt c k
+      → r ≡ partOf part (record { from = first; past = suc last }) blk blocks b (getD ss k 0) (getD ps k 0) → r ≡ rangeOf n a c b k
+  along-range n k first last part r e f g z = rw (e, f, g, y .blocks-are, y .block-is, y .shifts-are, y .peels-are) at z
+
+  pub summed-next : (n k sum x : ℕ) (r : Range) → k < loopsIn c → Summed a c n b k sum → r ≡ rangeOf n a c b k → x ≡ r .past - r .from
+      → Summed a c n b (k + 1) (sum + x)
+  summed-next n k sum x r l s e f =
+      let w : x ≡ rangeOf n a c b k .past - rangeOf n a c b k .from = f ∙ ap (λ (z : Range). z .past - z .from) e in
+      record {
+        sum-is = total-next k (λ j. rangeOf n a c b j .past - rangeOf n a c b j .from) sum x (s .sum-is) w;
+        small = omega (arith, s .small, range-small a c h n b k l);
+      }
 
 -- THE PARTS
 module _ (xs : List ℕ) (at l n : ℕ) (few : l ≤ 16) (room : at + 48 ≤ length xs) where

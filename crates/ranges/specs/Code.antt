@@ -29,6 +29,13 @@ partAt part a c blk b k =
 abbrev pub rangeOf : ℕ → Axis → List ℕ → ℕ → ℕ → Range
 rangeOf n a c b k = partAt (partIn n) a c (block (a .first) (a .count) (a .blocks) b) b k
 
+-- the numbers that a block's ranges depend on, taken apart, are those of the plan in a: block b, its shifts and its peels
+pub record Along (a : Axis) (blk : Range) (blocks b : ℕ) (shifts peels : List ℕ) : Type 0 where
+  pub blocks-are : blocks ≡ a .blocks
+  pub block-is : blk ≡ block (a .first) (a .count) (a .blocks) b
+  pub shifts-are : shifts ≡ a .shifts
+  pub peels-are : peels ≡ a .peels
+
 -- RANGES KEPT IN NUMBERS: from a place on the loops' first indices, then the indices past their last ones, then their shifts, sixteen of each
 module _ (xs : List ℕ) (at : ℕ) where
   abbrev pub cut : ℕ → List ℕ

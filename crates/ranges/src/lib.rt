@@ -1,5 +1,6 @@
 // The ranges of a plan's loops in a block, kept in a lent run of numbers, and the lists that they give: how long, and their n-th iteration.
 use arithmetic::length_of;
+use arithmetic::minus;
 use blocks::Axis;
 use blocks::Part;
 use blocks::Range;
@@ -13,7 +14,7 @@ ghost use Rattle.reader.specs.Store.{lastAt, loopsIn, tableIn};
 ghost use Rattle.blocks.specs.Sums.{column};
 ghost use Rattle.lists.specs.Fusion.{fusionIn, work};
 ghost use Rattle.plans.specs.Code.{Laid};
-ghost use Rattle.ranges.specs.Code.{partIn, partAt, rangeOf, listOf, Kept, Apart};
+ghost use Rattle.ranges.specs.Code.{partIn, partAt, rangeOf, Along, listOf, Kept, Apart};
 
 // Past a phase's first indices stand the indices past its last ones, then the shifts.
 const PASTS: usize = 16;
@@ -53,6 +54,35 @@ fn put_range(lists: &mut [u32], at: usize, from: u32, past: u32, shift: u32)
     lists[at] = from;
     lists[at + PASTS] = past;
     lists[at + SHIFTS] = shift;
+}
+
+// How many iterations the list of a phase has in block b, whose indices are `blk`. The plan is taken apart, since this is asked of every block
+// in every step.
+pub fn list_length(
+    phase: u32,
+    blk: Range,
+    blocks: u32,
+    b: u32,
+    shifts: &[u32; 16],
+    peels: &[u32; 16],
+    store: &Store,
+) -> u32
+    requires { ⌜ ((a : Axis) × Laid a (now store) × (b < a .blocks) × Along a blk blocks b (now shifts) (now peels)) ⌝ }
+    ensures { λ r. ⌜ r ≤ 1052656 ⌝ }
+    ensures { λ r. ⌜ ((a : Axis) → Laid a (now (store .entry)) → Along a blk blocks b (now (shifts .entry)) (now (peels .entry)) → r ≡ length (work (tableIn (now (store .entry))) (fusionIn a) phase b)) ⌝ }
+{
+    let part = part_in(phase);
+    let loops = reader::loops_in(store);
+    let mut sum: u32 = 0;
+    let mut k: usize = 0;
+    while k < loops {
+        let first = reader::first_at(store, k);
+        let last = reader::last_at(store, k);
+        let r = blocks::part_between(part, first, last, blk, blocks, b, shifts[k], peels[k]);
+        sum += minus(r.past, r.from);
+        k += 1;
+    }
+    sum
 }
 
 // The ranges of a phase in block b, kept from `at` on; answers how many iterations the list has that they give.

@@ -1,24 +1,23 @@
 -- What a run of an accepted plan leaves, and what a refused one does.
-use Prim.Native.Nat.{ℕ, zero, suc, _*_, _≤_, _<_}
+use Prim.Native.Nat.{ℕ, _*_, _≤_, _<_}
 use native.Mathlib.Omega.{arith}
 use mathlib.Core.Path.{_≡_, refl, sym, ap, _∙_}
 use mathlib.Core.List.{List}
-use lib.ListN.{length, getD, replicate}
+use lib.ListN.{length}
 use lib.Ieee.{Float}
 use borrow.Author.Tests.{lt-ltb, le-ltb}
 use Rattle.reader.specs.Reading.{AnswerOf, accepted, refused}
 use Rattle.reader.specs.Store.{tableIn}
 use Rattle.blocks.specs.declared.Axis.{Axis}
 use Rattle.tables.specs.Verdict.{numberOf, placeOf, Tells}
-use Rattle.bodies.specs.Workable.{Based}
 use Rattle.iterations.specs.Memory.{total, remembered, remembered-as-long, remembered-unlike}
-use Rattle.iterations.specs.Loaded.{based-total}
+use Rattle.iterations.specs.Loaded.{Loaded}
 use Rattle.model.specs.declared.Iteration.{Iteration}
 use Rattle.model.specs.Table.{iteration}
 use Rattle.model.specs.Bodies.{run}
 use Rattle.turns.specs.Turn.{Work, refuses, stays, turn}
 use Rattle.turns.specs.Reach.{Reachable}
-use Rattle.barriers.specs.Code.{Small, Ended}
+use Rattle.barriers.specs.Code.{Ended}
 use Rattle.plans.specs.Plans.{Settings, Planned, planned}
 use Rattle.plans.specs.Code.{plannedIn, Laid}
 use Rattle.ranges.specs.Listed.{few-blocks}
@@ -31,7 +30,7 @@ use Rattle.running.specs.Code.{Step, called, Given, Rowed}
 use Rattle.running.specs.Runs.{Runs}
 
 -- WHAT THE CODE IS LENT, where the plan is laid out
-module _ (a : Axis) (c : List ℕ) (h : Laid a c) (es xs bs : List ℕ) (based : Based bs (tableIn c .lengths)) (ended : Ended (workIn a c) es)
+module _ (a : Axis) (c : List ℕ) (h : Laid a c) (es xs bs : List ℕ) (loaded : Loaded (tableIn c) c bs) (ended : Ended (workIn a c) es)
     (long : length es ≡ 192) (room : 6144 ≤ length xs) (stands : (b : ℕ) → b < a .blocks → Stands a c xs (96 * b) b) where
   given-by : (step : Step)
       → ((b : ℕ) (cs : List ℕ) (m : List Float) → length m ≡ total (tableIn c) → Reachable (workIn a c) cs → b < a .blocks
@@ -45,8 +44,7 @@ module _ (a : Axis) (c : List ℕ) (h : Laid a c) (es xs bs : List ℕ) (based :
     ended = ended;
     ends-long = long;
     ready = λ b l.
-        ready-in a b es xs (96 * b) c bs h l ended long (omega (arith, few-blocks a c h)) (stands b l)
-        (record { holds = h .held; valid = h .fit .valid; based = based });
+        ready-in a b es xs (96 * b) c bs h l ended long (omega (arith, few-blocks a c h)) (stands b l) loaded;
     turns = turns;
     past = past;
   }
@@ -64,14 +62,6 @@ module _ (a : Axis) (c : List ℕ) (h : Laid a c) (es xs bs : List ℕ) (based :
       given-by (called (workIn a c) (a .blocks) c) (λ b cs m l r i. rw (lt-ltb b (a .blocks) i)) (λ b cs m l. rw (le-ltb b (a .blocks) l)),
     ),
   )
-
-pub bases-total : (a : Axis) (c : List ℕ) → Laid a c → (bs : List ℕ) → Based bs (tableIn c .lengths) → (n : ℕ) → n ≡ getD bs 16 0 → n ≡ total (tableIn c)
-bases-total a c h bs based n e = e ∙ based-total bs (tableIn c .lengths) 16 based (h .fit .valid .few-arrays) (omega arith)
-
-pub zeros-small : (n : ℕ) → Small (replicate n 0)
-zeros-small zero k = omega arith
-zeros-small (suc n) zero = omega arith
-zeros-small (suc n) (suc k) = zeros-small n k
 
 -- THE RUN
 module _ (s : List ℕ) (w : Settings) (order : List ℕ) (m : List Float) where

@@ -205,7 +205,8 @@ fn run_planned(a: Axis, order: &[u8], store: &Store, memory: &mut [f64]) -> Ran
     }
     let mut ends = [0u32; 192];
     let mut lists = [0u32; 6144];
-    layouts::lay_out(a, store, LISTS, &mut lists[..], &mut ends);
+    layouts::put_ends(a, store, &mut ends);
+    layouts::put_all_lists(a, store, &mut lists[..]);
     let idle = run_row(order, a.blocks, &ends, &lists[..], store, &bases, memory);
     Ran {
         number: 0,

@@ -1,11 +1,11 @@
 -- A step of an accepted plan: 12, 15, or the turn.
-use Prim.Native.Nat.{ℕ, zero, suc, _+_, _≤_, _<_}
+use Prim.Native.Nat.{ℕ, _≤_, _<_}
 use native.Mathlib.Omega.{arith}
 use mathlib.Core.Path.{_≡_, refl, sym, ap, _∙_}
 use mathlib.Core.Bool.{Bool, true, false}
 use mathlib.Core.List.{List}
 use lib.Dec.{eqb}
-use lib.ListN.{length, getD, replicate}
+use lib.ListN.{length}
 use lib.Ieee.{Float}
 use Rattle.model.specs.declared.Iteration.{Iteration}
 use Rattle.model.specs.Table.{Table, iteration}
@@ -16,11 +16,11 @@ use Rattle.blocks.specs.declared.Axis.{Axis}
 use Rattle.blocks.specs.Sums.{column}
 use Rattle.bodies.specs.Workable.{Based}
 use Rattle.iterations.specs.Memory.{total, remembered, remembered-as-long, remembered-unlike}
-use Rattle.iterations.specs.Loaded.{Loaded, based-total}
+use Rattle.iterations.specs.Loaded.{Loaded}
 use Rattle.tables.specs.Verdict.{numberOf, placeOf}
 use Rattle.turns.specs.Turn.{Work, Said, After, after, next, turn, stepped, wrongState}
 use Rattle.turns.specs.Reach.{Turn, does, halts, stops, turn-is}
-use Rattle.barriers.specs.Code.{Small, Ended, wrongBy}
+use Rattle.barriers.specs.Code.{Ended, wrongBy}
 use Rattle.barriers.specs.Same.{wrong-is}
 use Rattle.plans.specs.declared.Plan.{Plan}
 use Rattle.plans.specs.Plans.{Settings, Planned, plannedFor}
@@ -35,21 +35,12 @@ use Rattle.steps.specs.declared.Stepped.{Stepped}
 use Rattle.steps.specs.Ready.{Leaves}
 use Rattle.steps.specs.Steps.{Steps, refusing}
 
-pub zeros-small : (n : ℕ) → Small (replicate n 0)
-zeros-small zero k = omega arith
-zeros-small (suc n) zero = omega arith
-zeros-small (suc n) (suc k) = zeros-small n k
-
 module _ (a : Axis) (c : List ℕ) (h : Laid a c) where
   pub few-elements : total (tableIn c) ≤ 262144
   few-elements = h .fit .valid .total
 
-  module _ (bs : List ℕ) (based : Based bs (tableIn c .lengths)) where
-    pub loaded-in : Loaded (tableIn c) c bs
-    loaded-in = record { holds = h .held; valid = h .fit .valid; based = based }
-
-    pub bases-total : (n : ℕ) → n ≡ getD bs 16 0 → n ≡ total (tableIn c)
-    bases-total n e = e ∙ based-total bs (tableIn c .lengths) 16 based (h .fit .valid .few-arrays) (omega arith)
+  pub loaded-in : (bs : List ℕ) → Based bs (tableIn c .lengths) → Loaded (tableIn c) c bs
+  loaded-in bs based = record { holds = h .held; valid = h .fit .valid; based = based }
 
 -- A STEP OF A PLAN
 module _ (a : Axis) (c : List ℕ) (b : ℕ) (cs : List ℕ) (m : List Float) where

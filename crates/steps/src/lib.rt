@@ -118,13 +118,13 @@ impl Counts {
             return self.refused(MEMORY, 0, 0);
         }
         let mut ends = [0u32; 192];
-        let mut lists = [0u32; 96];
-        layouts::lay_out(a, store, 0, &mut lists[..], &mut ends);
+        layouts::put_ends(a, store, &mut ends);
         let mut done = self.done;
         if barriers::wrong_state(&done, &ends, a.blocks, PHASES) {
             return self.refused(STATE, 0, 0);
         }
-        layouts::put_lists(a, b, store, &mut lists[..], 0, &mut ends);
+        let mut lists = [0u32; 96];
+        layouts::put_lists(a, b, store, &mut lists[..], 0);
         let report = turn(
             &mut done,
             b,
