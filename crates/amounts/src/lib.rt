@@ -13,6 +13,9 @@ use arithmetic::above;
 use arithmetic::larger;
 use model::Reference;
 
+// How many references all loops have at most.
+const MOST_ROWS: usize = 528;
+
 // The amounts of shifting and peeling, for each loop a shift and a peel; 0 past the last loop.
 pub struct Amounts {
     pub shifts: [u32; 16],
@@ -86,11 +89,11 @@ fn take_up(
 }
 
 // For each place the first from it on that stores. Where none does it is the last place of all, so that the walk can look at it.
-fn next_stores(stores: &[u8]) -> [u16; 528]
+fn next_stores(stores: &[u8]) -> [u16; MOST_ROWS]
     requires { ⌜ length (now stores) ≤ 528 ⌝ }
     ensures { λ r. ⌜ NextStores (now (stores .entry)) r ⌝ }
 {
-    let mut nexts = [0u16; 528];
+    let mut nexts = [0u16; MOST_ROWS];
     let mut next = above(stores.len(), 1);
     let mut j = stores.len();
     while 0 < j {
@@ -110,7 +113,7 @@ fn wide(x: u16) -> usize
 }
 
 // Where the walk of a reference looks from place j on. Two reads make no dependence, so the walk of a read goes from store to store.
-fn next_place(store: bool, nexts: &[u16; 528], j: usize) -> usize
+fn next_place(store: bool, nexts: &[u16; MOST_ROWS], j: usize) -> usize
     requires { ⌜ j < 528 ⌝ }
     ensures { λ r. ⌜ r ≡ nextPlace store (now (nexts .entry)) j ⌝ }
 {
@@ -124,7 +127,7 @@ fn required_at(
     offsets: &[u16],
     stores: &[u8],
     i: usize,
-    nexts: &[u16; 528],
+    nexts: &[u16; MOST_ROWS],
     shifts: &[u32; 16],
     peels: &[u32; 16],
 ) -> Requirement

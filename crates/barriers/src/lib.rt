@@ -8,7 +8,9 @@ ghost use Rattle.turns.specs.Row.{lowest};
 ghost use Rattle.barriers.specs.Code.{beforeBy, leftBy, closedBy, phaseBy, lastOpenBy, mostBy, wrongBy, readyBy, listedBy, Small, Sized};
 
 // For each phase and processor how many iterations it has up to the end of that phase: processor b's at 64 * phase + b.
-pub type Ends = [u32; 192];
+pub const ENDS: usize = 192;
+
+pub type Ends = [u32; ENDS];
 
 // How many iterations processor b has in the phases before phase n.
 pub fn before_of(ends: &Ends, n: u32, b: u32) -> u32

@@ -12,6 +12,32 @@ ghost use Rattle.records.specs.Bytes.{byte, two, four, offset, kindOf, bodyLeng
 ghost use Rattle.records.specs.Grounds.{early, edge, fields, passed, tested};
 ghost use Rattle.records.specs.Clear.{spanOf};
 
+// The grounds that a record can meet, by the paper's words for them.
+const TORN: u32 = 1;
+
+const KIND: u32 = 2;
+
+const FIELD: u32 = 3;
+
+const CROWD: u32 = 4;
+
+const ARRAY: u32 = 5;
+
+const BODY: u32 = 6;
+
+const EDGE: u32 = 7;
+
+// The largest length of an array, count of elements in all, last index, offset (kept with 255 added) and count of a body's items.
+const MOST_LENGTH: u32 = 65536;
+
+const MOST_ELEMENTS: usize = 262144;
+
+const MOST_LAST: u32 = 131071;
+
+const MOST_OFFSET: u32 = 510;
+
+const MOST_ITEMS: u32 = 32;
+
 fn one_at(s: &[u8], at: usize) -> u32
     requires { ⌜ at < length (now s) ⌝ }
     ensures { λ r. ⌜ (r ≡ byte (now (s .entry)) at) × (r < 256) ⌝ }
@@ -68,7 +94,7 @@ fn early_ground(k: Kind, t: Summary) -> u32
     ensures { λ r. ⌜ r ≡ early k t ⌝ }
 {
     match k {
-        Kind::Unknown => 2,
+        Kind::Unknown => KIND,
         Kind::Array => array_early(t),
         Kind::Loop => loop_early(t),
         Kind::Read => item_early(t),
@@ -82,36 +108,36 @@ fn array_early(t: Summary) -> u32
     ensures { λ r. ⌜ r ≡ early Kind.Array t ⌝ }
 {
     if 0 < t.loops {
-        return 2;
+        return KIND;
     }
-    if 16 <= t.arrays { 4 } else { 0 }
+    if 16 <= t.arrays { CROWD } else { 0 }
 }
 
 fn loop_early(t: Summary) -> u32
     ensures { λ r. ⌜ r ≡ early Kind.Loop t ⌝ }
 {
     if t.waiting != 1 {
-        return 6;
+        return BODY;
     }
-    if 16 <= t.loops { 4 } else { 0 }
+    if 16 <= t.loops { CROWD } else { 0 }
 }
 
 fn end_early(t: Summary) -> u32
     ensures { λ r. ⌜ r ≡ early Kind.End t ⌝ }
 {
     if t.loops == 0 {
-        return 2;
+        return KIND;
     }
-    if t.waiting != 1 { 6 } else { 0 }
+    if t.waiting != 1 { BODY } else { 0 }
 }
 
 fn item_early(t: Summary) -> u32
     ensures { λ r. ⌜ r ≡ early Kind.Read t ⌝ }
 {
     if t.loops == 0 {
-        return 2;
+        return KIND;
     }
-    if 32 <= t.items { 4 } else { 0 }
+    if MOST_ITEMS <= t.items { CROWD } else { 0 }
 }
 
 // The record of a kind whose body is the n bytes from b.
@@ -143,7 +169,7 @@ fn edge_ground(first: u32, last: u32, o: u32, n: u32) -> u32
     ensures { λ r. ⌜ r ≡ edge first last o n ⌝ }
 {
     if wide(first) + wide(o) < 255 {
-        return 7;
+        return EDGE;
     }
     if wide(n) + 255 <= wide(last) + wide(o) {
         7
@@ -156,12 +182,12 @@ fn array_tests(n: u32, t: Summary, lens: &Store) -> u32
     ensures { λ r. ⌜ r ≡ fields (Record.Array n) t (now (lens .entry)) ⌝ }
 {
     if n == 0 {
-        return 3;
+        return FIELD;
     }
-    if 65536 < n {
-        return 3;
+    if MOST_LENGTH < n {
+        return FIELD;
     }
-    if 262144 < wide(t.elements) + wide(n) {
+    if MOST_ELEMENTS < wide(t.elements) + wide(n) {
         4
     } else {
         0
@@ -172,17 +198,17 @@ fn loop_tests(first: u32, last: u32, q: u32, o: u32, t: Summary, lens: &Store) -
     requires { ⌜ t .arrays ≤ 16 ⌝ }
     ensures { λ r. ⌜ r ≡ fields (Record.Loop first last q o) t (now (lens .entry)) ⌝ }
 {
-    if 131071 < last {
-        return 3;
+    if MOST_LAST < last {
+        return FIELD;
     }
     if last < first {
-        return 3;
+        return FIELD;
     }
     if t.arrays <= q {
-        return 5;
+        return ARRAY;
     }
-    if 510 < o {
-        return 3;
+    if MOST_OFFSET < o {
+        return FIELD;
     }
     let at = wide(q);
     edge_ground(first, last, o, lens[at])
@@ -193,13 +219,13 @@ fn read_tests(q: u32, o: u32, t: Summary, lens: &Store) -> u32
     ensures { λ r. ⌜ r ≡ fields (Record.Read q o) t (now (lens .entry)) ⌝ }
 {
     if t.arrays <= q {
-        return 5;
+        return ARRAY;
     }
-    if 510 < o {
-        return 3;
+    if MOST_OFFSET < o {
+        return FIELD;
     }
     if 8 <= t.waiting {
-        return 6;
+        return BODY;
     }
     let at = wide(q);
     edge_ground(t.first, t.last, o, lens[at])
@@ -208,20 +234,20 @@ fn read_tests(q: u32, o: u32, t: Summary, lens: &Store) -> u32
 fn constant_tests(n: u32, t: Summary, lens: &Store) -> u32
     ensures { λ r. ⌜ r ≡ fields (Record.Constant n) t (now (lens .entry)) ⌝ }
 {
-    if 8 <= t.waiting { 6 } else { 0 }
+    if 8 <= t.waiting { BODY } else { 0 }
 }
 
 fn operation_tests(o: u32, t: Summary, lens: &Store) -> u32
     ensures { λ r. ⌜ r ≡ fields (Record.Operation o) t (now (lens .entry)) ⌝ }
 {
     if o == 0 {
-        return 3;
+        return FIELD;
     }
     if 5 < o {
-        return 3;
+        return FIELD;
     }
     let n = records::operands_of(o);
-    if t.waiting < n { 6 } else { 0 }
+    if t.waiting < n { BODY } else { 0 }
 }
 
 // The tests on a record's fields.
@@ -274,7 +300,7 @@ pub fn read_record(s: &[u8], at: usize, t: Summary, lens: &Store) -> Tested
     ensures { λ r. ⌜ r ≡ tested (now (s .entry)) at t (now (lens .entry)) ⌝ }
 {
     if s.len() <= at {
-        return Tested::Refused(1);
+        return Tested::Refused(TORN);
     }
     let b = one_at(s, at);
     let k = kind_of(b);
@@ -284,7 +310,7 @@ pub fn read_record(s: &[u8], at: usize, t: Summary, lens: &Store) -> Tested
     }
     let n = body_length(b);
     if s.len() < at + 1 + n {
-        return Tested::Refused(1);
+        return Tested::Refused(TORN);
     }
     let r = record_of(k, s, at + 1, n);
     let f = fields_ground(r, t, lens);

@@ -1,8 +1,10 @@
 // Joins two loop tables: left's arrays, left's loops, right's loops and one end.
 use arithmetic::wide;
+use outputs::BUFFER;
 use outputs::Outcome;
 use outputs::refusal;
 use outputs::written;
+use records::STORE;
 use records::Store;
 use serial::Checked;
 ghost use mathlib.Core.Path.{_≡_};
@@ -15,6 +17,15 @@ ghost use Rattle.joining.specs.Joining.{alike, bytes, joining};
 ghost use Rattle.reader.specs.Store.{Sized, tableIn};
 ghost use Rattle.reader.specs.Held.{Held};
 ghost use Rattle.joining.specs.Told.{Told, Accepts, Known};
+
+// Grounds 4, 9 and 14.
+const CROWD: usize = 4;
+
+const SERIAL: usize = 9;
+
+const UNLIKE: usize = 14;
+
+const MOST_LOOPS: usize = 16;
 
 // One of the two tables: refused, or held by its store.
 enum Side {
@@ -30,7 +41,7 @@ fn read_side(s: &[u8], store: &mut Store) -> Side
     let r = serial::check_table(s, store);
     match r {
         Checked::Refused { number, place } => Side::Refused(refusal(wide(number), place, 0)),
-        Checked::Serial { number, read } => Side::Refused(refusal(9, number, read)),
+        Checked::Serial { number, read } => Side::Refused(refusal(SERIAL, number, read)),
         Checked::Accepted => Side::Accepted,
     }
 }
@@ -75,7 +86,7 @@ fn write(left: &[u8], right: &[u8], arrays: usize, out: &mut [u8]) -> Outcome
     let skipped = 5 * arrays;
     let count = kept + (right.len() - skipped);
     if out.len() < count {
-        return refusal(13, 0, 0);
+        return refusal(BUFFER, 0, 0);
     }
     copy(&left[..kept], out, 0);
     copy(&right[skipped..], out, kept);
@@ -88,7 +99,7 @@ fn join_right(left: &[u8], right: &[u8], out: &mut [u8], ours: &Store) -> Outcom
     ensures { λ r. ⌜ Told (now (left .entry)) (now (right .entry)) (length (now (out .entry))) r ⌝ }
     ensures { λ r. ⌜ now (out .exit) ≡ final (joining (now (left .entry)) (now (right .entry)) (length (now (out .entry)))) (now (out .entry)) ⌝ }
 {
-    let mut theirs = [0u32; 1651];
+    let mut theirs = [0u32; STORE];
     let r = read_side(right, &mut theirs);
     match r {
         Side::Refused(o) => o,
@@ -96,10 +107,10 @@ fn join_right(left: &[u8], right: &[u8], out: &mut [u8], ours: &Store) -> Outcom
             let like = same_lengths(ours, &theirs);
             let total = reader::loops_in(ours) + reader::loops_in(&theirs);
             if !like {
-                return refusal(14, 0, 0);
+                return refusal(UNLIKE, 0, 0);
             }
-            if 16 < total {
-                return refusal(4, 0, 0);
+            if MOST_LOOPS < total {
+                return refusal(CROWD, 0, 0);
             }
             write(left, right, reader::arrays_in(ours), out)
         }
@@ -111,7 +122,7 @@ pub fn join(left: &[u8], right: &[u8], out: &mut [u8]) -> Outcome
     ensures { λ r. ⌜ Told (now (left .entry)) (now (right .entry)) (length (now (out .entry))) r ⌝ }
     ensures { λ r. ⌜ now (out .exit) ≡ final (joining (now (left .entry)) (now (right .entry)) (length (now (out .entry)))) (now (out .entry)) ⌝ }
 {
-    let mut ours = [0u32; 1651];
+    let mut ours = [0u32; STORE];
     let r = read_side(left, &mut ours);
     match r {
         Side::Refused(o) => o,

@@ -1,4 +1,5 @@
 // The plain run: the loops in table order, each from first to last, every iteration once. It knows nothing of a plan.
+use records::STORE;
 use records::Store;
 use tables::Verdict;
 ghost use mathlib.Core.Path.{_≡_};
@@ -14,6 +15,9 @@ ghost use Rattle.tables.specs.Verdict.{numberOf, Told};
 ghost use Rattle.iterations.specs.Memory.{total, remembered};
 ghost use Rattle.plain.specs.Plain.{plainAnswer, after, plainMemory};
 ghost use Rattle.plain.specs.Running.{Running};
+
+// Ground 12.
+const MEMORY: usize = 12;
 
 // One loop, from first to last.
 fn run_loop(number: usize, store: &Store, bases: &[u32; 17], memory: &mut [f64])
@@ -50,7 +54,7 @@ fn run_table(store: &Store, memory: &mut [f64]) -> usize
     let b = iterations::bases_of(store);
     let bases = b.firsts;
     if memory.len() != bases[16] as usize {
-        return 12;
+        return MEMORY;
     }
     run_loops(store, &bases, memory);
     0
@@ -61,7 +65,7 @@ pub fn plain_run(s: &[u8], memory: &mut [f64]) -> Verdict
     ensures { λ r. ⌜ Told (now (s .entry)) (plainAnswer (now (s .entry)) (length (now (memory .entry)))) r ⌝ }
     ensures { λ r. ⌜ now (memory .exit) ≡ plainMemory (now (s .entry)) (now (memory .entry)) ⌝ }
 {
-    let mut store = [0u32; 1651];
+    let mut store = [0u32; STORE];
     let r = tables::read_through(s, &mut store);
     if r.number != 0 {
         return r;

@@ -18,6 +18,9 @@ pub enum Reading {
     Accepted,
 }
 
+// Ground 8.
+const TAIL: u32 = 8;
+
 // The places of a store's parts.
 const FIRSTS_AT: usize = 16;
 
@@ -174,7 +177,7 @@ pub fn read_table(s: &[u8], store: &mut Store) -> Reading
             Tested::Ended(n) => {
                 if n < s.len() {
                     return Reading::Refused {
-                        number: 8,
+                        number: TAIL,
                         place: n,
                     };
                 }

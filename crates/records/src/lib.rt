@@ -4,6 +4,9 @@ ghost use Prim.Native.Nat.{_+_, _<_, _≤_};
 ghost use Rattle.records.specs.History.{operands, withArray, withLoop, withItem, advanced, blank};
 ghost use Rattle.records.specs.Clear.{Room};
 
+// How many rows all loops have: sixteen destinations, each with 32 items.
+pub const MOST_ROWS: usize = 528;
+
 // A table as it is kept (reader/specs/Store.antt), in so many numbers: the lengths of the arrays come first.
 pub const STORE: usize = 1651;
 

@@ -1,5 +1,6 @@
 // The references of a table: from the store of its reading to the columns that the chains are found in.
 use amounts::Amounts;
+use records::MOST_ROWS;
 use records::Store;
 ghost use mathlib.Core.Path.{_≡_};
 ghost use mathlib.Core.Bool.{true};
@@ -21,10 +22,10 @@ fn put_reference(
     q: u8,
     o: u16,
     w: u8,
-    loops: &mut [u8; 528],
-    names: &mut [u8; 528],
-    offsets: &mut [u16; 528],
-    stores: &mut [u8; 528],
+    loops: &mut [u8; MOST_ROWS],
+    names: &mut [u8; MOST_ROWS],
+    offsets: &mut [u16; MOST_ROWS],
+    stores: &mut [u8; MOST_ROWS],
 ) -> usize
     requires { ⌜ n < 528 ⌝ }
     ensures { λ r. ⌜ r ≡ n + 1 ⌝ }
@@ -43,10 +44,10 @@ fn collect_row(
     row: usize,
     n: usize,
     store: &Store,
-    loops: &mut [u8; 528],
-    names: &mut [u8; 528],
-    offsets: &mut [u16; 528],
-    stores: &mut [u8; 528],
+    loops: &mut [u8; MOST_ROWS],
+    names: &mut [u8; MOST_ROWS],
+    offsets: &mut [u16; MOST_ROWS],
+    stores: &mut [u8; MOST_ROWS],
 ) -> usize
     requires { ⌜ (row < 528) × (n < 528) × Row (now store) row ⌝ }
     requires { ⌜ Long (columns (now loops) (now names) (now offsets) (now stores)) ⌝ }
@@ -67,10 +68,10 @@ fn collect_reads(
     past: usize,
     start: usize,
     store: &Store,
-    loops: &mut [u8; 528],
-    names: &mut [u8; 528],
-    offsets: &mut [u16; 528],
-    stores: &mut [u8; 528],
+    loops: &mut [u8; MOST_ROWS],
+    names: &mut [u8; MOST_ROWS],
+    offsets: &mut [u16; MOST_ROWS],
+    stores: &mut [u8; MOST_ROWS],
 ) -> usize
     requires { ⌜ (past ≤ 528) × (start ≤ from) × ((r : ℕ) → r < past → Row (now store) r) ⌝ }
     requires { ⌜ Long (columns (now loops) (now names) (now offsets) (now stores)) ⌝ }
@@ -92,10 +93,10 @@ fn collect_loop(
     past: usize,
     n: usize,
     store: &Store,
-    loops: &mut [u8; 528],
-    names: &mut [u8; 528],
-    offsets: &mut [u16; 528],
-    stores: &mut [u8; 528],
+    loops: &mut [u8; MOST_ROWS],
+    names: &mut [u8; MOST_ROWS],
+    offsets: &mut [u16; MOST_ROWS],
+    stores: &mut [u8; MOST_ROWS],
 ) -> usize
     requires { ⌜ (k < 16) × (from < past) × (past ≤ 528) × (n ≤ from) × ((r : ℕ) → r < past → Row (now store) r) ⌝ }
     requires { ⌜ (kindAt (now store) from ≡ 2) × Long (columns (now loops) (now names) (now offsets) (now stores)) ⌝ }
@@ -121,10 +122,10 @@ fn collect_loop(
 // The references of all loops, in byte order; answers how many.
 fn collect(
     store: &Store,
-    loops: &mut [u8; 528],
-    names: &mut [u8; 528],
-    offsets: &mut [u16; 528],
-    stores: &mut [u8; 528],
+    loops: &mut [u8; MOST_ROWS],
+    names: &mut [u8; MOST_ROWS],
+    offsets: &mut [u16; MOST_ROWS],
+    stores: &mut [u8; MOST_ROWS],
 ) -> usize
     requires { ⌜ Held (now store) ⌝ }
     requires { ⌜ Long (columns (now loops) (now names) (now offsets) (now stores)) ⌝ }
@@ -148,10 +149,10 @@ pub fn amounts_of(store: &Store) -> Amounts
     ensures { λ r. ⌜ r .shifts ≡ shifts (allRefs (tableIn (now (store .entry)))) ⌝ }
     ensures { λ r. ⌜ r .peels ≡ peels (allRefs (tableIn (now (store .entry)))) ⌝ }
 {
-    let mut loops = [0u8; 528];
-    let mut names = [0u8; 528];
-    let mut offsets = [0u16; 528];
-    let mut stores = [0u8; 528];
+    let mut loops = [0u8; MOST_ROWS];
+    let mut names = [0u8; MOST_ROWS];
+    let mut offsets = [0u16; MOST_ROWS];
+    let mut stores = [0u8; MOST_ROWS];
     let n = collect(store, &mut loops, &mut names, &mut offsets, &mut stores);
     amounts::shifts_and_peels(&loops[..n], &names[..n], &offsets[..n], &stores[..n])
 }

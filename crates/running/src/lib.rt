@@ -1,9 +1,12 @@
 // The run in a caller's order: a call for each byte, then calls for the lowest-numbered processor that can step, each made by the step.
 use arithmetic::wide;
+use barriers::ENDS;
 use barriers::Ends;
 use blocks::Axis;
+use layouts::ALL_LISTS;
 use layouts::LISTS;
 use ranges::PHASES;
+use records::STORE;
 use records::Store;
 use stepping::Report;
 ghost use mathlib.Core.Path.{_≡_};
@@ -203,8 +206,8 @@ fn run_planned(a: Axis, order: &[u8], store: &Store, memory: &mut [f64]) -> Ran
             idle: 0,
         };
     }
-    let mut ends = [0u32; 192];
-    let mut lists = [0u32; 6144];
+    let mut ends = [0u32; ENDS];
+    let mut lists = [0u32; ALL_LISTS];
     layouts::put_ends(a, store, &mut ends);
     layouts::put_all_lists(a, store, &mut lists[..]);
     let idle = run_row(order, a.blocks, &ends, &lists[..], store, &bases, memory);
@@ -220,7 +223,7 @@ fn run_planned(a: Axis, order: &[u8], store: &Store, memory: &mut [f64]) -> Ran
 pub fn run(s: &[u8], processors: u32, order: &[u8], memory: &mut [f64]) -> Ran
     ensures { λ r. ⌜ Runs (now (s .entry)) (settings processors) (now (order .entry)) (now (memory .entry)) r (now (memory .exit)) ⌝ }
 {
-    let mut store = [0u32; 1651];
+    let mut store = [0u32; STORE];
     let p = plans::plan_table(s, processors, &mut store);
     if p.number != 0 {
         return Ran {

@@ -1,9 +1,12 @@
 // One step of a processor, from a table's bytes, the counts of iterations done and a memory.
 use arithmetic::wide;
+use barriers::ENDS;
 use barriers::Ends;
 use blocks::Axis;
+use layouts::LISTS;
 use ranges::PHASE;
 use ranges::PHASES;
+use records::STORE;
 use records::Store;
 use stepping::Report;
 ghost use mathlib.Core.Path.{_≡_};
@@ -117,13 +120,13 @@ impl Counts {
         if memory.len() != wide(firsts[16]) {
             return self.refused(MEMORY, 0, 0);
         }
-        let mut ends = [0u32; 192];
+        let mut ends = [0u32; ENDS];
         layouts::put_ends(a, store, &mut ends);
         let mut done = self.done;
         if barriers::wrong_state(&done, &ends, a.blocks, PHASES) {
             return self.refused(STATE, 0, 0);
         }
-        let mut lists = [0u32; 96];
+        let mut lists = [0u32; LISTS];
         layouts::put_lists(a, b, store, &mut lists[..], 0);
         let report = turn(
             &mut done,
@@ -147,7 +150,7 @@ impl Counts {
     pub fn step(self, s: &[u8], processors: u32, processor: u32, memory: &mut [f64]) -> Stepped
         ensures { λ r. ⌜ Steps (now (s .entry)) (settings processors) processor (self .done) (now (memory .entry)) r (now (memory .exit)) ⌝ }
     {
-        let mut store = [0u32; 1651];
+        let mut store = [0u32; STORE];
         let p = plans::plan_for(s, processors, processor, &mut store);
         if p.number != 0 {
             return self.refused(p.number, p.place, p.read);

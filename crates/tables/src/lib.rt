@@ -1,11 +1,15 @@
 // A table's bytes, accepted or refused.
 use arithmetic::wide;
+use records::STORE;
 use records::Store;
 use serial::Checked;
 ghost use mathlib.Core.Path.{_≡_};
 ghost use Rattle.reader.specs.Store.{Sized};
 ghost use Rattle.serial.specs.Serial.{table};
 ghost use Rattle.tables.specs.Verdict.{Told, verdict, ReadThrough};
+
+// Ground 9.
+const SERIAL: usize = 9;
 
 // The number of the refusal, 0 where there is none; its place; and the read that 9 names, else 0.
 pub struct Verdict {
@@ -32,7 +36,7 @@ pub fn read_through(s: &[u8], store: &mut Store) -> Verdict
     let r = serial::check_table(s, store);
     match r {
         Checked::Refused { number, place } => refusal(wide(number), place, 0),
-        Checked::Serial { number, read } => refusal(9, number, read),
+        Checked::Serial { number, read } => refusal(SERIAL, number, read),
         Checked::Accepted => Verdict {
             number: 0,
             place: 0,
@@ -44,6 +48,6 @@ pub fn read_through(s: &[u8], store: &mut Store) -> Verdict
 pub fn check(s: &[u8]) -> Verdict
     ensures { λ r. ⌜ Told (now (s .entry)) (table (now (s .entry))) r ⌝ }
 {
-    let mut store = [0u32; 1651];
+    let mut store = [0u32; STORE];
     read_through(s, &mut store)
 }
