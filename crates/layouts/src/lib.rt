@@ -5,7 +5,7 @@ use blocks::Axis;
 use blocks::Range;
 use records::Store;
 ghost use mathlib.Core.Path.{_≡_};
-ghost use Prim.Native.Nat.{_+_, _≤_, _<_};
+ghost use Prim.Native.Nat.{_+_, _^_, _≤_, _<_};
 ghost use lib.ListN.{length};
 ghost use Rattle.barriers.specs.Code.{Ended, Small};
 ghost use Rattle.plans.specs.Code.{Laid};
@@ -30,11 +30,10 @@ fn put_end(
     requires { ⌜ ((a : Axis) × Laid a (now store) × (b < a .blocks) × Along a blk blocks b (now shifts) (now peels)) × (length (now ends) ≡ 192) ⌝ }
     ensures { λ _. ⌜ ((a : Axis) → Laid a (now (store .entry)) → Along a blk blocks b (now (shifts .entry)) (now (peels .entry)) → now (ends .exit) ≡ withEnds a (now (store .entry)) b (now (ends .entry))) ⌝ }
 {
-    let fused = ranges::list_length(0, blk, blocks, b, shifts, peels, store);
-    let peeled = ranges::list_length(1, blk, blocks, b, shifts, peels, store);
+    let l = ranges::lengths_of(blk, blocks, b, shifts, peels, store);
     let own = wide(b);
-    ends[own] = fused;
-    ends[64 + own] = fused + peeled;
+    ends[own] = l.fused;
+    ends[64 + own] = l.fused + l.peeled;
 }
 
 // Where all phases end.
@@ -54,7 +53,7 @@ pub fn put_ends(a: Axis, store: &Store, ends: &mut Ends)
 
 // Processor b's lists, kept from `at` on.
 pub fn put_lists(a: Axis, b: u32, store: &Store, lists: &mut [u32], at: usize)
-    requires { ⌜ Laid a (now store) × (b < a .blocks) × (at + 96 ≤ length (now lists)) ⌝ }
+    requires { ⌜ Laid a (now store) × (b < a .blocks) × (at + 96 ≤ length (now lists)) × (at < 2 ^ 31) ⌝ }
     ensures { λ _. ⌜ Stands a (now (store .entry)) (now (lists .exit)) at b × Apart (now (lists .entry)) (now (lists .exit)) at (at + 96) ⌝ }
 {
     let later = at + ranges::PHASE;

@@ -101,6 +101,12 @@ pub record Summed (a : Axis) (c : List ℕ) (n b k sum : ℕ) : Type 0 where
   pub sum-is : sum ≡ lengths k (rangeOf n a c b)
   pub small : sum ≤ k * 65791
 
+-- what a part's code finds is the loop's range
+pub along-range : {a : Axis} {blk : Range} {blocks b : ℕ} {ss ps : List ℕ} → Along a blk blocks b ss ps → (c : List ℕ) (n k first last : ℕ) (part : Part) (r : Range)
+    → part ≡ partIn n → first ≡ firstAt c k → last ≡ lastAt c k
+    → r ≡ partOf part (record { from = first; past = suc last }) blk blocks b (getD ss k 0) (getD ps k 0) → r ≡ rangeOf n a c b k
+along-range y c n k first last part r e f g z = rw (e, f, g, y .blocks-are, y .block-is, y .shifts-are, y .peels-are) at z
+
 module _ (a : Axis) (c : List ℕ) (h : Laid a c) (blk : Range) (blocks b : ℕ) (ss ps : List ℕ) (y : Along a blk blocks b ss ps) where
   -- what a part's code asks
   pub along-asks : b < a .blocks → (k last : ℕ) → k < loopsIn c → last ≡ lastAt c k
@@ -108,11 +114,6 @@ module _ (a : Axis) (c : List ℕ) (h : Laid a c) (blk : Range) (blocks b : ℕ)
   along-asks l k last i e =
       let (z, p, q, r, t) = part-asks a c h b k blk l i (y .block-is) in
       (omega (arith, y .blocks-are), omega (arith, e, q), rw (y .peels-are) r, rw (y .peels-are) t)
-
-  -- and what it finds is the loop's range
-  pub along-range : (n k first last : ℕ) (part : Part) (r : Range) → part ≡ partIn n → first ≡ firstAt c k → last ≡ lastAt c k
-      → r ≡ partOf part (record { from = first; past = suc last }) blk blocks b (getD ss k 0) (getD ps k 0) → r ≡ rangeOf n a c b k
-  along-range n k first last part r e f g z = rw (e, f, g, y .blocks-are, y .block-is, y .shifts-are, y .peels-are) at z
 
   pub summed-next : (n k sum x : ℕ) (r : Range) → k < loopsIn c → Summed a c n b k sum → r ≡ rangeOf n a c b k → x ≡ r .past - r .from
       → Summed a c n b (k + 1) (sum + x)

@@ -5,7 +5,7 @@ use mathlib.Core.Path.{_≡_}
 use mathlib.Core.List.{List}
 use lib.ListN.{length, getD, take, drop}
 use Rattle.model.specs.declared.Iteration.{Iteration}
-use Rattle.reader.specs.Store.{firstAt, lastAt}
+use Rattle.reader.specs.Store.{firstAt, lastAt, tableIn}
 use Rattle.blocks.specs.declared.Axis.{Axis}
 use Rattle.blocks.specs.declared.Part.{Part}
 use Rattle.blocks.specs.declared.Part.the-variants.{Fused, Peeled}
@@ -14,6 +14,8 @@ use Rattle.blocks.specs.Sums.{column}
 use Rattle.blocks.specs.Blocks.{block}
 use Rattle.blocks.specs.Code.{partOf}
 use Rattle.lists.specs.Lists.{fusedColumns, peeledColumns}
+use Rattle.lists.specs.Fusion.{fusionIn, work}
+use Rattle.ranges.specs.declared.Lengths.{Lengths}
 
 -- phase 0 runs the fused parts, phase 1 the peeled ones
 abbrev pub partIn : ℕ → Part
@@ -35,6 +37,11 @@ pub record Along (a : Axis) (blk : Range) (blocks b : ℕ) (shifts peels : List 
   pub block-is : blk ≡ block (a .first) (a .count) (a .blocks) b
   pub shifts-are : shifts ≡ a .shifts
   pub peels-are : peels ≡ a .peels
+
+-- block b's two lists have so many iterations
+pub record Measures (a : Axis) (c : List ℕ) (b : ℕ) (l : Lengths) : Type 0 where
+  pub fused-is : l .fused ≡ length (work (tableIn c) (fusionIn a) 0 b)
+  pub peeled-is : l .peeled ≡ length (work (tableIn c) (fusionIn a) 1 b)
 
 -- RANGES KEPT IN NUMBERS: from a place on the loops' first indices, then the indices past their last ones, then their shifts, sixteen of each
 module _ (xs : List ℕ) (at : ℕ) where

@@ -30,7 +30,7 @@ put-lists-requires : tie.Need-put-lists-requires Inv-loop μ-loop
 put-lists-requires c κs = let a = c .before .before .before .before .before .before .args in
     let p = c .before .before .before .before .before .before .pre in
     let st = now (a .store) in
-    (p .0, c .before .before .if1 .taken, omega (arith, few-blocks (a .a) st (p .0), c .wide .ensures .0, c .before .before .if1 .taken, c .before .before .before .before .loop .inv .1 .long))
+    (p .0, c .before .before .if1 .taken, omega (arith, few-blocks (a .a) st (p .0), c .wide .ensures .0, c .before .before .if1 .taken, c .before .before .before .before .loop .inv .1 .long), omega (arith, few-blocks (a .a) st (p .0), c .wide .ensures .0, c .before .before .if1 .taken))
 
 add-b : tie.Need-add-b Inv-loop μ-loop
 add-b c = let a = c .before .before .before .before .before .before .before .before .before .args in

@@ -5,11 +5,8 @@ use borrow.Author.Needs.{needs}
 use Rattle.layouts.proofs.put_end.Statement.{statement}
 use Rattle.layouts.proofs.put_end.Tie as tie
 
-list-length-requires : tie.Need-list-length-requires
-list-length-requires c κs = search needs
-
-list-length-requires-2 : tie.Need-list-length-requires-2
-list-length-requires-2 c κs = search needs
+lengths-of-requires : tie.Need-lengths-of-requires
+lengths-of-requires c κs = search needs
 
 wide-requires : tie.Need-wide-requires
 wide-requires c κs = search needs
@@ -34,14 +31,15 @@ element-write-ends-2 c = search needs
 
 returns : tie.Need-returns
 returns c = let a = c .before .before .before .args in
-    λ x h y. ends-put x (now (a .store)) (a .b) (now (a .ends)) _ _ _ _ (c .wide .ensures .0) (c .before .before .list-length .ensures .1 x h y) (c .before .list-length2 .ensures .1 x h y) refl
+    λ x h y.
+    let m = c .before .before .lengths-of .ensures .1 x h y in
+    ends-put x (now (a .store)) (a .b) (now (a .ends)) _ _ _ _ (c .before .wide .ensures .0) (m .fused-is) (m .peeled-is) refl
 
 pub put-end-spec : {M : Type 1} → statement M
 put-end-spec =
     tie.close
     (tie.spec
-    list-length-requires
-    list-length-requires-2
+    lengths-of-requires
     wide-requires
     mul-ends
     element-write-ends
