@@ -1,4 +1,5 @@
 // One record of a loop table, from bytes: its kind, its fields, and the tests on it.
+use arithmetic::wide;
 use records::Kind;
 use records::Record;
 use records::Store;
@@ -10,12 +11,6 @@ ghost use lib.ListN.{length};
 ghost use Rattle.records.specs.Bytes.{byte, two, four, offset, kindOf, bodyLength, recordOf};
 ghost use Rattle.records.specs.Grounds.{early, edge, fields, passed, tested};
 ghost use Rattle.records.specs.Clear.{spanOf};
-
-fn wide(x: u32) -> usize
-    ensures { λ r. ⌜ (r ≡ x) × (r < 4294967296) ⌝ }
-{
-    x as usize
-}
 
 fn one_at(s: &[u8], at: usize) -> u32
     requires { ⌜ at < length (now s) ⌝ }

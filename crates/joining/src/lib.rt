@@ -1,4 +1,5 @@
 // Joins two loop tables: left's arrays, left's loops, right's loops and one end.
+use arithmetic::wide;
 use outputs::Outcome;
 use outputs::refusal;
 use outputs::written;
@@ -19,12 +20,6 @@ ghost use Rattle.joining.specs.Told.{Told, Accepts, Known};
 enum Side {
     Refused(Outcome),
     Accepted,
-}
-
-fn wide(x: u32) -> usize
-    ensures { λ r. ⌜ r ≡ x ⌝ }
-{
-    x as usize
 }
 
 // Reads a table through 9 into the lent store.

@@ -1,4 +1,6 @@
 // Reads a loop table into a store that the caller lends.
+use arithmetic::narrow;
+use arithmetic::wide;
 use records::Record;
 use records::Store;
 use records::Summary;
@@ -14,19 +16,6 @@ ghost use Rattle.reader.specs.Stored.{Filled};
 pub enum Reading {
     Refused { number: u32, place: usize },
     Accepted,
-}
-
-fn wide(x: u32) -> usize
-    ensures { λ r. ⌜ (r ≡ x) × (r < 4294967296) ⌝ }
-{
-    x as usize
-}
-
-fn narrow(x: usize) -> u32
-    requires { ⌜ x < 4294967296 ⌝ }
-    ensures { λ r. ⌜ r ≡ x ⌝ }
-{
-    x as u32
 }
 
 // The places of a store's parts.

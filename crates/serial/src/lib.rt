@@ -1,4 +1,5 @@
 // Ground 9: two different iterations of one loop meet at an element, one of them storing.
+use arithmetic::wide;
 use reader::Reading;
 use records::Store;
 ghost use mathlib.Core.Path.{_≡_};
@@ -18,12 +19,6 @@ pub enum Checked {
     Refused { number: u32, place: usize },
     Serial { number: usize, read: usize },
     Accepted,
-}
-
-fn wide(x: u32) -> usize
-    ensures { λ r. ⌜ (r ≡ x) × (r < 4294967296) ⌝ }
-{
-    x as usize
 }
 
 // A read of array b at offset o, and a destination in array a at offset c, where last - first is the span.

@@ -1,4 +1,5 @@
 // The arrays that the loops of a table touch and those that they write, counted before and after fusion.
+use arithmetic::wide;
 use records::Store;
 ghost use mathlib.Core.Path.{_≡_};
 ghost use mathlib.Core.Bool.{_&&_, _||_};
@@ -22,12 +23,6 @@ struct Totals {
     before: u32,
     touched: u16,
     written: u16,
-}
-
-fn wide(x: u32) -> usize
-    ensures { λ r. ⌜ r ≡ x ⌝ }
-{
-    x as usize
 }
 
 // The set m, with the array of a row that is a read.

@@ -1,4 +1,5 @@
 // A table's bytes, accepted or refused.
+use arithmetic::wide;
 use records::Store;
 use serial::Checked;
 ghost use mathlib.Core.Path.{_≡_};
@@ -11,12 +12,6 @@ pub struct Verdict {
     pub number: usize,
     pub place: usize,
     pub read: usize,
-}
-
-fn wide(x: u32) -> usize
-    ensures { λ r. ⌜ r ≡ x ⌝ }
-{
-    x as usize
 }
 
 fn refusal(number: usize, place: usize, read: usize) -> Verdict

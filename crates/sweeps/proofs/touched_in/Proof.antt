@@ -22,7 +22,7 @@ wide-requires c κs = search needs
 with-mark-requires : tie.Need-with-mark-requires Inv-loop μ-loop
 with-mark-requires c κs =
     let b = c .before .before in
-    omega (arith, c .wide .ensures, c .before .array-at .ensures, b .pre .2 (b .args .from) (b .pre .0) .array)
+    omega (arith, c .wide .ensures .0, c .before .array-at .ensures, b .pre .2 (b .args .from) (b .pre .0) .array)
 
 add-row : tie.Need-add-row Inv-loop μ-loop
 add-row c = omega (arith, c .before .before .before .pre .0, c .before .before .before .pre .1)
@@ -31,7 +31,7 @@ loop-holds : tie.Need-loop-holds Inv-loop μ-loop
 loop-holds c =
     let w = c .before in
     let a = w .before .before .args in
-    start (now (a .store)) (a .from) (a .past) (c .with-mark .result) (w .wide .result) (w .wide .ensures ∙ w .before .array-at .ensures) (c .with-mark .ensures)
+    start (now (a .store)) (a .from) (a .past) (c .with-mark .result) (w .wide .result) (w .wide .ensures .0 ∙ w .before .array-at .ensures) (c .with-mark .ensures)
 
 kind-at-requires : tie.Need-kind-at-requires Inv-loop μ-loop
 kind-at-requires c κs = omega (arith, c .before .before .before .before .before .pre .1)

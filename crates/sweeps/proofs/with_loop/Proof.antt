@@ -18,7 +18,7 @@ wide-requires c κs = search needs
 with-mark-requires : tie.Need-with-mark-requires
 with-mark-requires c κs =
     let b = c .before .before .before in
-    omega (arith, c .wide .ensures, c .before .array-at .ensures, b .pre .3 (b .args .from) (b .pre .1) .array)
+    omega (arith, c .wide .ensures .0, c .before .array-at .ensures, b .pre .3 (b .args .from) (b .pre .1) .array)
 
 size-of-requires : tie.Need-size-of-requires
 size-of-requires c κs = search needs
@@ -46,7 +46,7 @@ returns c =
     let w = m .before in
     let t = w .before .before in
     let a = t .before .args in
-    let one = alone (m .with-mark .result) (w .wide .result) (w .wide .ensures ∙ w .before .array-at .ensures) (m .with-mark .ensures) in
+    let one = alone (m .with-mark .result) (w .wide .result) (w .wide .ensures .0 ∙ w .before .array-at .ensures) (m .with-mark .ensures) in
     added (now (a .store)) (a .from) (a .past) (a .s) (t .touched-in .result) (m .with-mark .result) (x .size-of .result) (y .size-of2 .result)
     (c .before .union .result) (c .union2 .result) (t .touched-in .ensures) one (x .size-of .ensures .0) (y .size-of2 .ensures .0)
     (c .before .union .ensures) (c .union2 .ensures)

@@ -13,7 +13,7 @@ with-mark-requires : tie.Need-with-mark-requires
 with-mark-requires c κs = search needs
 
 returns : tie.Need-returns
-returns c = λ q. rw (eq-eqb _ _ (c .before .before .if1 .taken), ← (c .before .wide .ensures)) (c .with-mark .ensures q)
+returns c = λ q. rw (eq-eqb _ _ (c .before .before .if1 .taken), ← (c .before .wide .ensures .0)) (c .with-mark .ensures q)
 
 returns-2 : tie.Need-returns-2
 returns-2 c = λ q. rw (ne-eqb _ _ (c .if1 .left)) (sym (or-false (marked (c .before .args .m) q)))

@@ -31,7 +31,7 @@ returns c =
     let b = d .before .before in
     let s = now (b .before .before .before .args .s) in
     rw (c .refusal .ensures)
-    (through-refused s (b .check-table .last .1 .0) (b .check-table .result) (b .check-table .ensures) _ _ _ (d .r .given .1) (c .before .wide .ensures))
+    (through-refused s (b .check-table .last .1 .0) (b .check-table .result) (b .check-table .ensures) _ _ _ (d .r .given .1) (c .before .wide .ensures .0))
 
 returns-2 : tie.Need-returns-2
 returns-2 c =
