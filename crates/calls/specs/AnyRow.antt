@@ -2,9 +2,10 @@
 -- numbers they name: once every iteration has been reported, the memory is what the plain run leaves from the same start.
 use Prim.Native.Nat.{ℕ, _<_}
 use native.Mathlib.Omega.{arith}
-use mathlib.Core.Path.{_≡_, sym, _∙_}
-use mathlib.Core.List.{List, _++_}
-use mathlib.Core.List.{List·Memᴰ as Mem}
+use mathlib.Core.Path.{_≡_, sym, ap, _∙_}
+use mathlib.Core.Logic.{⊎-elim}
+use mathlib.Core.List.{List, [], _∷_, _++_, map, List·Memᴰ·cases-cons, List·Memᴰ·not-nil}
+use mathlib.Core.List.{List·Memᴰ as Mem, List·Memᴰ·head as mhere, List·Memᴰ·tail as mthere}
 use lib.ListN.{drop}
 use lib.Ieee.{Float}
 use Rattle.order.specs.Lists.{Before, NoDup}
@@ -18,7 +19,7 @@ use Rattle.chains.specs.Tables.{meet-dependence}
 use Rattle.blocks.specs.Sums.{column}
 use Rattle.lists.specs.Fusion.{Once, once as in-one-list, owner, phase}
 use Rattle.rows.specs.Theorem.{any-schedule}
-use Rattle.turns.specs.Turn.{performs}
+use Rattle.turns.specs.Turn.{Said, performs}
 use Rattle.turns.specs.Row.{noneDone, reports, countsAfter, memoryAfter, reportsTo}
 use Rattle.turns.specs.Reach.{Reachable}
 use Rattle.turns.specs.Follows.{performed, started}
@@ -28,12 +29,26 @@ use Rattle.turns.specs.Reached as reach
 use Rattle.plans.specs.Plans.{Settings, Planned, planned}
 use Rattle.plans.specs.Accepted.{planned-accepts}
 use Rattle.plain.specs.Plain.{plainMemory, plain-memory}
-use Rattle.stepping.specs.Step.{workOf, fused, peeled, step}
+use Rattle.stepping.specs.declared.Report.the-variants.{Performed}
+use Rattle.stepping.specs.Step.{workOf, reportOf, fused, peeled, step}
+use Rattle.stepping.specs.Meaning.{said-performs}
 use Rattle.calls.specs.Calls.{Fits, fit, lists, calls}
 
 -- the row has reported every iteration of every loop
 abbrev pub Complete : List ℕ → Settings → Planned → List ℕ → List Float → Type 0
-Complete s w q bs m = (x : Iteration) → Inside (q .table) x → Mem (performs x) (reports (step s w) bs noneDone m)
+Complete s w q bs m = (x : Iteration) → Inside (q .table) x → Mem (Performed (x .number) (x .index)) (map reportOf (reports (step s w) bs noneDone m))
+
+-- a report names an iteration exactly if its call performed it
+reported-performs : (x : Iteration) (ss : List (Said Iteration)) → Mem (Performed (x .number) (x .index)) (map reportOf ss) → Mem (performs x) ss
+reported-performs x [] m = absurd (List·Memᴰ·not-nil m)
+reported-performs x (a ∷ ss) m =
+    ⊎-elim (λ (e : Performed (x .number) (x .index) ≡ reportOf a). mhere (sym (said-performs a (x .number) (x .index) (sym e))))
+    (λ h. mthere (reported-performs x ss h)) (List·Memᴰ·cases-cons m)
+
+performs-reported : (x : Iteration) (ss : List (Said Iteration)) → Mem (performs x) ss → Mem (Performed (x .number) (x .index)) (map reportOf ss)
+performs-reported x [] m = absurd (List·Memᴰ·not-nil m)
+performs-reported x (a ∷ ss) m =
+    ⊎-elim (λ (e : performs x ≡ a). mhere (ap reportOf e)) (λ h. mthere (performs-reported x ss h)) (List·Memᴰ·cases-cons m)
 
 module _ (s : List ℕ) (w : Settings) (q : Planned) (planned-is : planned s w ≡ accepted q) where
   -- the iterations of the table are those of the lists
@@ -42,10 +57,12 @@ module _ (s : List ℕ) (w : Settings) (q : Planned) (planned-is : planned s w �
 
   module _ (bs : List ℕ) (m : List Float) where
     listed : Complete s w q bs m → turns.Complete (lists s w q planned-is) (step s w) bs m
-    listed all n b x l i h = all x (home .alone n b x l i h .0)
+    listed all n b x l i h = reported-performs x (reports (step s w) bs noneDone m) (all x (home .alone n b x l i h .0))
 
     pub unlisted : turns.Complete (lists s w q planned-is) (step s w) bs m → Complete s w q bs m
-    unlisted all x i = let (l, j, h) = home .listed x i in all (phase (q .table) (q .plan) x) (owner (q .table) (q .plan) x) x j l h
+    unlisted all x i =
+        let (l, j, h) = home .listed x i in
+        performs-reported x (reports (step s w) bs noneDone m) (all (phase (q .table) (q .plan) x) (owner (q .table) (q .plan) x) x j l h)
 
   module _ (bs : List ℕ) (m : List Float) (fits : Fits q m) where
     pub any-row : Complete s w q bs m → memoryAfter (step s w) bs noneDone m ≡ plainMemory s m

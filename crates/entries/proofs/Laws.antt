@@ -27,7 +27,7 @@ use Rattle.tables.specs.Verdict.{Tells}
 use Rattle.tables.specs.Verdict as Verdict
 use Rattle.plans.specs.declared.Plan.{Plan}
 use Rattle.plans.specs.Plans.{Settings, thresholdOf, plannedFor}
-use Rattle.plans.specs.Accepted.{threshold-small, named-accepts, planned-accepts}
+use Rattle.plans.specs.Accepted.{threshold-small, named-accepts}
 use Rattle.plans.specs.Code.{plannedIn, Made, Laid, made-laid, named-made}
 use Rattle.ranges.specs.Listed.{few-blocks, span-fits, listed-small}
 use Rattle.entries.specs.Entries.{numbers, amountsOf, blocksOf, pairsOf, Told}
@@ -201,5 +201,4 @@ module _ (s : List ℕ) (w : Settings) (b : ℕ) (r : Plan) (c : List ℕ) (m : 
   pub named-laid : Laid (r .axis) c × (b < r .axis .blocks)
   named-laid =
       let (e, l) = named-accepts s w b (plannedIn (r .axis) c) (m .is) in
-      let x = planned-accepts s w (plannedIn (r .axis) c) e .counted in
-      (made-laid s w r c (named-made s w b r c m), omega arith)
+      (made-laid s w r c (named-made s w b r c m), l)

@@ -34,14 +34,16 @@ pub record Fit (t : Table) (c : Fusion) : Type 0 where
   pub wide : Wide t c
   pub rising : (b : ℕ) → b < c .processors → c .edge b < c .edge (suc b)
   pub few : c .processors ≤ 64
-  pub small-shift : (k : ℕ) → c .shift k ≤ 10000
   pub small-peel : (k : ℕ) → c .peel k ≤ 10000
   pub small-edge : (b : ℕ) → b ≤ c .processors → c .edge b ≤ 65791
 
--- THE LAW of an accepted plan: its table was read through 9, and it fits
+-- THE LAW of an accepted plan: its table was read through 9; none of 10 and 11 holds; the plan is the one of the largest chains; and it fits,
+-- which is all that is asked above this crate
 pub record Accepts (s : List ℕ) (w : Settings) (q : Planned) : Type 0 where
   pub read : table s ≡ accepted (q .table)
-  pub counted : q .plan .processors ≡ w .processors
+  pub not-ten : badProcessors w ≡ false
+  pub not-eleven : shortFor (q .table) w ≡ false
+  pub plan-is : q .plan ≡ planOf (q .table) w
   pub fit : Fit (q .table) (q .plan)
 
 pub neither : (a b : Bool) → (a || b) ≡ false → (a ≡ false) × (b ≡ false)
@@ -106,7 +108,6 @@ module _ (t : Table) (v : Valid t) where
           wide = plan-wide pos e;
           rising = λ b l. plan-rises pos e b;
           few = ltb-false 64 (w .processors) m;
-          small-shift = λ k. omega (arith, shift-small k);
           small-peel = λ k. omega (arith, peel-small k);
           small-edge = λ b l.
               omega (arith, start-up (tableSpan t .count) (w .processors) b (w .processors) l, start-last (tableSpan t .count) (w .processors) pos, span-small);
@@ -138,24 +139,36 @@ planned-accepts s w q e =
     let (r, f, b, short) = fitting-accepted (badProcessors w) w (table s) q e in
     record {
       read = r;
-      counted = ap (λ (c : Fusion). c .processors) f;
+      not-ten = b;
+      not-eleven = short;
+      plan-is = f;
       fit = rw f (plan-fits (q .table) (valid s (q .table) r) w (accepted-sound s (q .table) r) b short);
     }
 
--- where a processor is named, it is below P, and nothing else is asked
-pub named-below : (s : List ℕ) (w : Settings) (b : ℕ) → b < w .processors → plannedFor s w b ≡ planned s w
+-- it is for as many processors as were asked for
+counted : (s : List ℕ) (w : Settings) (q : Planned) → planned s w ≡ accepted q → q .plan .processors ≡ w .processors
+counted s w q e = ap (λ (c : Fusion). c .processors) (planned-accepts s w q e .plan-is)
+
+named : (s : List ℕ) (w : Settings) (b : ℕ) → b < w .processors → plannedFor s w b ≡ planned s w
 unfolding planned plannedFor
-named-below s w b l = rw (lt-leb (w .processors) b l, or-false (badProcessors w))
+named s w b l = rw (lt-leb (w .processors) b l, or-false (badProcessors w))
+
+-- where a processor is named, it is below P, and nothing else is asked
+pub named-below : (s : List ℕ) (w : Settings) (b : ℕ) (q : Planned) → planned s w ≡ accepted q → b < q .plan .processors → plannedFor s w b ≡ accepted q
+named-below s w b q e l = named s w b (omega (arith, counted s w q e)) ∙ e
 
 -- a number that is not below P is 10, whatever else there is
-pub named-past : (s : List ℕ) (w : Settings) (b : ℕ) (q : Planned) → planned s w ≡ accepted q → w .processors ≤ b → plannedFor s w b ≡ refused 10 0
+pub named-past : (s : List ℕ) (w : Settings) (b : ℕ) (q : Planned) → planned s w ≡ accepted q → q .plan .processors ≤ b → plannedFor s w b ≡ refused 10 0
 unfolding plannedFor fitting
-named-past s w b q e l = rw (planned-accepts s w q e .read, le-leb (w .processors) b l, or-true (badProcessors w))
+named-past s w b q e l =
+    let past : w .processors ≤ b = omega (arith, counted s w q e) in
+    rw (planned-accepts s w q e .read, le-leb (w .processors) b past, or-true (badProcessors w))
 
-pub named-accepts : (s : List ℕ) (w : Settings) (b : ℕ) (q : Planned) → plannedFor s w b ≡ accepted q → (planned s w ≡ accepted q) × (b < w .processors)
+pub named-accepts : (s : List ℕ) (w : Settings) (b : ℕ) (q : Planned) → plannedFor s w b ≡ accepted q → (planned s w ≡ accepted q) × (b < q .plan .processors)
 unfolding plannedFor
 named-accepts s w b q e =
     let (r, f, z, short) = fitting-accepted (badNumber w b) w (table s) q e in
     let (x, m) = neither (badProcessors w) (leb (w .processors) b) z in
     let l : b < w .processors = leb-false (w .processors) b m in
-    (sym (named-below s w b l) ∙ e, l)
+    let is = sym (named s w b l) ∙ e in
+    (is, omega (arith, counted s w q is))

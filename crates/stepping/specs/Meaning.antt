@@ -25,7 +25,7 @@ use Rattle.stepping.specs.declared.Report.the-variants.{Performed, Waiti
 use Rattle.stepping.specs.Step.{workOf, reportOf, elements, steppedBy, step, fused, peeled}
 
 -- a report says what its call said
-said-performs : (a : Said Iteration) (k i : ℕ) → reportOf a ≡ Performed k i → a ≡ performs (iteration k i)
+pub said-performs : (a : Said Iteration) (k i : ℕ) → reportOf a ≡ Performed k i → a ≡ performs (iteration k i)
 said-performs (refuses n p) k i e = cc
 said-performs (performs x) k i e = let l : x .number ≡ k = cc in let j : x .index ≡ i = cc in rw (← l, ← j)
 said-performs waits k i e = cc
@@ -72,8 +72,7 @@ module _ (s : List ℕ) (w : Settings) (b : ℕ) (cs : List ℕ) (m : List Float
       at q e false f =
           let (a, l) = remembered-accepted elements (length m) (plannedFor s w b) q e in
           let (p, proper) = named-accepts s w b q a in
-          let below : b < q .plan .processors = omega (arith, planned-accepts s w q p .counted) in
-          inr (q, record { plan = p; proper = below; memory = l; state = f; turns = ap (steppedBy b cs m) e ∙ (rw f) })
+          inr (q, record { plan = p; proper = proper; memory = l; state = f; turns = ap (steppedBy b cs m) e ∙ (rw f) })
 
       go : (a : AnswerOf Planned) → remembered elements (length m) (plannedFor s w b) ≡ a → IsRefused ⊎ ((q : Planned) × Turns q)
       go (refused n p) e = inl (n, p, ap (steppedBy b cs m) e)

@@ -1,6 +1,5 @@
 -- A step of an accepted plan, whatever number it names.
 use Prim.Native.Nat.{ℕ, _≤_, _<_}
-use native.Mathlib.Omega.{arith}
 use mathlib.Core.Path.{_≡_}
 use mathlib.Core.List.{List}
 use lib.ListN.{length}
@@ -11,7 +10,7 @@ use Rattle.reader.specs.Reading.{accepted}
 use Rattle.turns.specs.Turn.{refuses, stays, turn}
 use Rattle.turns.specs.Reach.{Reachable, stepped-turn}
 use Rattle.plans.specs.Plans.{Settings, Planned, planned}
-use Rattle.plans.specs.Accepted.{planned-accepts, named-below, named-past}
+use Rattle.plans.specs.Accepted.{named-below, named-past}
 use Rattle.iterations.specs.Memory.{remembered, remembered-as-long}
 use Rattle.stepping.specs.Step.{workOf, elements, steppedBy, step}
 
@@ -21,13 +20,10 @@ module _ (s : List ℕ) (w : Settings) (q : Planned) (planned-is : planned s w �
       → step s w b cs m ≡ turn (iteration 0 0) (workOf q) (run (q .table)) b cs m
   unfolding step steppedBy
   step-turn e r l =
-      let proper : b < w .processors = omega (arith, planned-accepts s w q planned-is .counted) in
-      rw (named-below s w b proper, planned-is, remembered-as-long elements (length m) q e)
+      rw (named-below s w b q planned-is l, remembered-as-long elements (length m) q e)
       (stepped-turn (iteration 0 0) (workOf q) (run (q .table)) b cs m r)
 
   -- a number not below P is refused, by 10
   pub step-past : q .plan .processors ≤ b → step s w b cs m ≡ stays cs m (refuses 10 0)
   unfolding step steppedBy remembered
-  step-past l =
-      let past : w .processors ≤ b = omega (arith, planned-accepts s w q planned-is .counted) in
-      rw (named-past s w b q planned-is past)
+  step-past l = rw (named-past s w b q planned-is l)

@@ -25,7 +25,7 @@ use Rattle.barriers.specs.Same.{wrong-is}
 use Rattle.plans.specs.declared.Plan.{Plan}
 use Rattle.plans.specs.Plans.{Settings, Planned, plannedFor}
 use Rattle.plans.specs.Code.{plannedIn, Laid, Made, Plans, named-made, made-laid}
-use Rattle.plans.specs.Accepted.{named-accepts, planned-accepts}
+use Rattle.plans.specs.Accepted.{named-accepts}
 use Rattle.layouts.specs.Layout.{workIn}
 use Rattle.stepping.specs.declared.Report.{Report}
 use Rattle.stepping.specs.declared.Report.the-variants.{Refused}
@@ -114,7 +114,7 @@ module _ (s : List ℕ) (w : Settings) (b : ℕ) (p : Plan) (c : List ℕ) (h : 
     laid-named =
         let made = h .made zero-number in
         let (e, l) = named-accepts s w b (plannedIn (p .axis) c) (made .is) in
-        (made-laid s w p c (named-made s w b p c made), omega (arith, planned-accepts s w (plannedIn (p .axis) c) e .counted))
+        (made-laid s w p c (named-made s w b p c made), l)
 
     pub steps-made : (r : Stepped) (left : List Float) → r .read ≡ 0 → Leaves (outcome (p .axis) c b (k .done) m) (r .counts .done) left (r .report)
         → Steps s w b (k .done) m r left
