@@ -134,9 +134,9 @@ module _ {A : Type 0} {w : Work A} {ends : List ℕ} (h : Ended w ends) where
         go (yes i) = rw (lt-ltb b processors i, next-is b i) (inside (decLt (before w (suc m) b) c))
         go (no i) = rw (le-ltb b processors (omega arith))
 
-    pub wrong-is : wrongBy processors ends counts phases ≡ wrongState w counts
+    pub wrong-by-open : wrongBy processors ends counts phases ≡ wrongState w counts
     unfolding wrongState
-    wrong-is = some-same 64 _ _ (λ b i. wrong-at b)
+    wrong-by-open = some-same 64 _ _ (λ b i. wrong-at b)
 
     pub ready-is : (none : A) (b : ℕ) → b < processors → readyBy processors ends counts phases b ≡ performing (next none w b counts)
     ready-is none b i = rw (next-is b i) (go (next none w b counts) (turn-is none w (h .some-phase) b counts))

@@ -1,5 +1,5 @@
 -- The sum, the largest and the least of h 0, .., h (n - 1); and whether some of them passes a test. Assumes nothing.
-use mathlib.Core.Path.{_≡_, refl, ap, subst}
+use mathlib.Core.Path.{_≡_, refl, sym, ap, subst}
 use mathlib.Core.Bool.{Bool, true, false, false≢true, _||_}
 use mathlib.Core.List.{List}
 use Prim.Native.Nat.{ℕ, zero, suc, _+_, _≤_, _<_, min, max}
@@ -102,6 +102,11 @@ least-bound (suc n) k h l = go (ℕ-discrete k n) (least-bound n k h)
 
 pub least-next : (k : ℕ) (h : ℕ → ℕ) (low x : ℕ) → low ≡ least k h → x ≡ h k → min low x ≡ least (k + 1) h
 least-next k h low x e q = rw add-one (omega arith)
+
+-- of two, where not either passes
+pub neither : (a b : Bool) → (a || b) ≡ false → (a ≡ false) × (b ≡ false)
+neither true b e = absurd (false≢true (sym e))
+neither false b e = (refl, e)
 
 pub some-here : (n b : ℕ) (f : ℕ → Bool) → b < n → f b ≡ true → some n f ≡ true
 some-here zero b f l e = absurd (omega arith)

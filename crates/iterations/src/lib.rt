@@ -16,7 +16,7 @@ pub struct Bases {
 }
 
 // How many elements array k of so many has: none past the last.
-fn length_of(store: &Store, arrays: usize, k: usize) -> u32
+fn array_length(store: &Store, arrays: usize, k: usize) -> u32
     requires { ⌜ k < 16 ⌝ }
     ensures { λ r. ⌜ r ≡ getD (take arrays (now (store .entry))) k 0 ⌝ }
 {
@@ -33,7 +33,7 @@ pub fn bases_of(store: &Store) -> Bases
     let mut next: u32 = 0;
     let mut k: usize = 0;
     while k < 16 {
-        next += length_of(store, arrays, k);
+        next += array_length(store, arrays, k);
         firsts[k + 1] = next;
         k += 1;
     }

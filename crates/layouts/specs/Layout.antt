@@ -1,7 +1,7 @@
 -- A plan laid out in lent numbers: for each processor where its phases end, and its lists.
 use Prim.Native.Nat.{ℕ, zero, suc, _+_, _*_, _≤_, _<_}
 use native.Mathlib.Omega.{arith}
-use mathlib.Core.Path.{_≡_, refl, sym, ap, _∙_}
+use mathlib.Core.Path.{_≡_, ap, _∙_}
 use mathlib.Core.Logic.{_⊎_, inl, inr}
 use mathlib.Core.List.{List}
 use mathlib.Core.List.{List·Memᴰ as Mem}
@@ -13,7 +13,6 @@ use Rattle.blocks.specs.declared.Axis.{Axis}
 use Rattle.blocks.specs.Sums.{column}
 use Rattle.lists.specs.Fusion.{fusionIn, phases, work, fused-list, peeled-list}
 use Rattle.turns.specs.Turn.{Work, before}
-use Rattle.barriers.specs.Code.{Ended}
 use Rattle.plans.specs.Code.{Laid}
 use Rattle.ranges.specs.Code.{rangeOf, listOf, Kept, Apart}
 use Rattle.ranges.specs.Listed.{few-loops, list-in, kept-apart, apart-twice}

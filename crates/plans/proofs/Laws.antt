@@ -1,13 +1,13 @@
 -- What the code found is the table's plan.
-use Prim.Native.Nat.{ℕ, _+_, _-_, _≤_, _<_, _^_}
+use Prim.Native.Nat.{ℕ, _+_, _-_, _≤_, _<_}
 use native.Mathlib.Omega.{arith}
 use mathlib.Core.Path.{_≡_, refl, sym, ap, _∙_}
 use mathlib.Core.Bool.{Bool, true, false}
 use mathlib.Core.List.{List}
 use lib.ListN.{length}
-use Rattle.model.specs.Table.{Table, count, first, last}
+use Rattle.model.specs.Table.{count, first, last}
 use Rattle.model.specs.References.{allRefs}
-use Rattle.reader.specs.Reading.{Answer, AnswerOf, accepted, refused, choose}
+use Rattle.reader.specs.Reading.{Answer, accepted, refused, choose}
 use Rattle.reader.specs.Store.{firstAt, lastAt, loopsIn, tableIn}
 use Rattle.reader.specs.Held.{Held, count-held, first-held, last-held}
 use Rattle.serial.specs.Serial.{table}
@@ -19,13 +19,13 @@ use Rattle.chains.specs.Dependence.{backward, forward}
 use Rattle.chains.specs.Walk.{shifts, peels, numbers-length}
 use Rattle.chains.specs.Threshold.{threshold}
 use Rattle.blocks.specs.declared.Span.{Span}
-use Rattle.blocks.specs.Sums.{column, least, largest}
+use Rattle.blocks.specs.Sums.{least, largest}
 use Rattle.blocks.specs.Span.{spanOf, tableSpan, span-found, span-same}
 use Rattle.blocks.specs.Blocks.{isShort}
 use Rattle.plans.specs.declared.Plan.{Plan}
-use Rattle.plans.specs.Plans.{settings, Planned, thresholdOf, planOf, shortFor, fits, fitting}
+use Rattle.plans.specs.Plans.{settings, thresholdOf, planOf, shortFor, fits, fitting}
 use Rattle.plans.specs.Accepted.{valid, threshold-small}
-use Rattle.plans.specs.Code.{plannedIn, Made, Plans, Chosen, refusing}
+use Rattle.plans.specs.Code.{Plans, Chosen, refusing}
 
 -- THE SPAN, over the loops of a store
 module _ (c : List ℕ) (h : Held c) (v : Valid (tableIn c)) where

@@ -3,14 +3,14 @@ use Prim.Native.Nat.{ℕ, zero, suc, _+_, _*_, _/_, _%_, _≤_, _<_}
 use native.Mathlib.Nat.{mod-lt, div-add-mod, mul-zero}
 use native.Mathlib.Omega.{arith}
 use mathlib.Core.Path.{_≡_, refl, sym, ap, subst, _∙_}
-use mathlib.Core.Bool.{Bool, true, false, false≢true, _||_, or-false, or-true}
+use mathlib.Core.Bool.{Bool, true, false, or-false, or-true}
 use mathlib.Core.List.{List}
 use lib.Dec.{eqb, ltb, leb}
 use borrow.Author.Tests.{eqb-false, ltb-false, leb-false, lt-leb, le-leb}
 use Rattle.model.specs.Table.{Table, count, first, last}
 use Rattle.model.specs.References.{allRefs}
 use Rattle.model.specs.Sound.{Sound}
-use Rattle.reader.specs.Reading.{Answer, AnswerOf, accepted, refused, choose}
+use Rattle.reader.specs.Reading.{Answer, accepted, refused, choose}
 use Rattle.serial.specs.Serial.{table}
 use Rattle.grounds.specs.Accepted.{Valid, accepted-valid, valid-last}
 use Rattle.tables.specs.Nine.{accepted-read, accepted-sound}
@@ -20,6 +20,7 @@ use Rattle.chains.specs.Tables.{allRefs-refs, allRefs-below, refs-number, plan-
 use Rattle.chains.specs.Bounds.{InRange, shifts-bound, peels-bound, plan-threshold-bound}
 use Rattle.chains.specs.Threshold.{threshold-upper}
 use Rattle.blocks.specs.Span.{tableSpan, span-most}
+use Rattle.blocks.specs.Sums.{neither}
 use Rattle.blocks.specs.Blocks.{start-next, start-up, start-last, size-least, short-not}
 use Rattle.lists.specs.Fusion.{Fusion, Wide, fusion-wide}
 use Rattle.rows.specs.Legal.{Legal}
@@ -39,16 +40,12 @@ pub record Fit (t : Table) (c : Fusion) : Type 0 where
 
 -- THE LAW of an accepted plan: its table was read through 9; none of 10 and 11 holds; the plan is the one of the largest chains; and it fits,
 -- which is all that is asked above this crate
-pub record Accepts (s : List ℕ) (w : Settings) (q : Planned) : Type 0 where
+pub record AcceptedPlan (s : List ℕ) (w : Settings) (q : Planned) : Type 0 where
   pub read : table s ≡ accepted (q .table)
   pub not-ten : badProcessors w ≡ false
   pub not-eleven : shortFor (q .table) w ≡ false
   pub plan-is : q .plan ≡ planOf (q .table) w
   pub fit : Fit (q .table) (q .plan)
-
-pub neither : (a b : Bool) → (a || b) ≡ false → (a ≡ false) × (b ≡ false)
-neither true b e = absurd (false≢true (let z : false ≡ true = cc in z))
-neither false b e = (refl, e)
 
 -- where there are no fewer indices than blocks, each block has one
 some-each : (T P : ℕ) → 0 < P → P ≤ T → 0 < T / P
@@ -133,7 +130,7 @@ fitting-accepted wrong w (accepted t) q e = go wrong (shortFor t w) refl e
         subst (λ (x : Planned). (accepted t ≡ accepted (x .table)) × (x .plan ≡ planOf (x .table) w) × (false ≡ false) × (shortFor (x .table) w ≡ false)) z
         (refl, refl, refl, g)
 
-pub planned-accepts : (s : List ℕ) (w : Settings) (q : Planned) → planned s w ≡ accepted q → Accepts s w q
+pub planned-accepts : (s : List ℕ) (w : Settings) (q : Planned) → planned s w ≡ accepted q → AcceptedPlan s w q
 unfolding planned
 planned-accepts s w q e =
     let (r, f, b, short) = fitting-accepted (badProcessors w) w (table s) q e in

@@ -8,7 +8,7 @@ use Rattle.reader.specs.Store.{tableIn}
 use Rattle.reader.specs.Held.{Held}
 use Rattle.tables.specs.Verdict.{Tells, numberOf, placeOf}
 use Rattle.blocks.specs.declared.Axis.{Axis}
-use Rattle.lists.specs.Fusion.{Fusion, fusionIn}
+use Rattle.lists.specs.Fusion.{fusionIn}
 use Rattle.plans.specs.declared.Plan.{Plan}
 use Rattle.plans.specs.Plans.{Settings, Planned, planned, plannedFor}
 use Rattle.plans.specs.Accepted.{Fit, planned-accepts, named-accepts}

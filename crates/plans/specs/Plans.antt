@@ -1,6 +1,5 @@
 -- The plan of a table: a shift and a peel for each loop, and for P processors the blocks and lists that follow. Grounds 10 and 11.
 use Prim.Native.Nat.{ℕ}
-use mathlib.Core.Path.{_≡_}
 use mathlib.Core.Bool.{Bool, _||_}
 use mathlib.Core.List.{List}
 use lib.Dec.{eqb, ltb, leb}

@@ -1,5 +1,4 @@
 // The plan of a table: read through 9, its shifts and peels; and for a number of processors, grounds 10 and 11.
-use amounts::Amounts;
 use arithmetic::greater;
 use arithmetic::lesser;
 use arithmetic::minus;
@@ -7,9 +6,7 @@ use blocks::Axis;
 use blocks::Span;
 use records::Store;
 ghost use mathlib.Core.Path.{_≡_};
-ghost use mathlib.Core.Bool.{_||_};
-ghost use Prim.Native.Nat.{_≤_, _<_};
-ghost use lib.Dec.{leb};
+ghost use Prim.Native.Nat.{_<_};
 ghost use Rattle.reader.specs.Store.{Sized, tableIn};
 ghost use Rattle.reader.specs.Held.{Held};
 ghost use Rattle.serial.specs.Serial.{table};

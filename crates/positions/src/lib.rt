@@ -2,7 +2,7 @@
 // Loop k has the range from froms[k] up to pasts[k], pasts[k] not in it, and the shift shifts[k].
 
 ghost use mathlib.Core.Path.{_≡_};
-ghost use Prim.Native.Nat.{ℕ, _+_, _-_, _*_, _^_, _≤_, _<_, min, max};
+ghost use Prim.Native.Nat.{ℕ, _+_, _-_, _*_, _^_, _≤_, _<_};
 ghost use lib.ListN.{length, getD};
 ghost use Rattle.model.specs.Table.{iteration};
 ghost use Rattle.blocks.specs.Sums.{column};

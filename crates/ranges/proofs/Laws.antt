@@ -11,7 +11,6 @@ use Rattle.model.specs.declared.Iteration.{Iteration}
 use Rattle.blocks.specs.declared.Axis.{Axis}
 use Rattle.blocks.specs.declared.Part.{Part}
 use Rattle.blocks.specs.declared.Range.{Range}
-use Rattle.blocks.specs.Blocks.{block}
 use Rattle.blocks.specs.Code.{partOf}
 use Rattle.reader.specs.Store.{firstAt, lastAt, loopsIn}
 use Rattle.plans.specs.Code.{Laid}
@@ -19,13 +18,8 @@ use Rattle.blocks.specs.Sums.{total-next}
 use Rattle.lists.specs.Below.{lengths}
 use Rattle.lists.specs.Lists.{fusedColumns, peeledColumns}
 use Rattle.positions.specs.Search.{Aligned}
-use Rattle.ranges.specs.Code.{partIn, partAt, rangeOf, Along, cut, listOf, Kept, Apart}
+use Rattle.ranges.specs.Code.{partIn, rangeOf, Along, cut, listOf, Kept, Apart}
 use Rattle.ranges.specs.Listed.{part-asks, range-small, kept-aligned}
-
--- what the code found for loop k is its range
-pub range-found : (n : ℕ) (a : Axis) (c : List ℕ) (b k : ℕ) (part : Part) (blk r : Range) → part ≡ partIn n
-    → blk ≡ block (a .first) (a .count) (a .blocks) b → r ≡ partAt part a c blk b k → r ≡ rangeOf n a c b k
-range-found n a c b k part blk r e f g = rw (e, f) at g
 
 -- the first k loops' ranges are kept, and `sum` counts their indices
 pub record Filled (old xs : List ℕ) (at k : ℕ) (f : ℕ → Range) (s : ℕ → ℕ) (sum : ℕ) : Type 0 where

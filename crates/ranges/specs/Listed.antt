@@ -1,19 +1,19 @@
 -- What is known of the ranges of an accepted plan: the bounds that the code's sums need, and the lists that they give.
 use Prim.Native.Nat.{ℕ, zero, suc, _+_, _-_, _*_, _≤_, _<_, _^_, min, max}
 use native.Mathlib.Omega.{arith}
-use mathlib.Core.Path.{_≡_, refl, sym, ap, _∙_}
+use mathlib.Core.Path.{_≡_, sym, ap, _∙_}
 use mathlib.Core.Bool.{Bool, true, false, cond}
 use mathlib.Core.Logic.{_⊎_, inl, inr}
 use mathlib.Core.List.{List}
 use mathlib.Core.List.{List·Memᴰ as Mem}
 use lib.Dec.{eqb}
-use lib.ListN.{length, getD, take, drop, length-take, length-drop}
+use lib.ListN.{length, getD, drop, length-take, length-drop}
 use lib.Seq.{getD-take, getD-drop}
 use Rattle.order.specs.Lists.{nth-mem}
-use Rattle.model.specs.Table.{Table, count, first, last, iteration, Inside}
+use Rattle.model.specs.Table.{count, first, last, iteration, Inside}
 use Rattle.model.specs.declared.Iteration.{Iteration}
 use Rattle.reader.specs.Store.{firstAt, lastAt, loopsIn, tableIn}
-use Rattle.reader.specs.Held.{Held, count-held, first-held, last-held}
+use Rattle.reader.specs.Held.{count-held, first-held, last-held}
 use Rattle.reader.specs.Held.{few-loops as few-held}
 use Rattle.grounds.specs.Accepted.{valid-last}
 use Rattle.blocks.specs.declared.Axis.{Axis}
@@ -21,7 +21,7 @@ use Rattle.blocks.specs.declared.Part.{Part}
 use Rattle.blocks.specs.declared.Part.the-variants.{Fused, Peeled}
 use Rattle.blocks.specs.declared.Range.{Range}
 use Rattle.blocks.specs.Sums.{column, total-same}
-use Rattle.blocks.specs.Blocks.{edge, block, blockAt, start-last}
+use Rattle.blocks.specs.Blocks.{block, start-last}
 use Rattle.blocks.specs.Parts.{fusedPart, peeledPart}
 use Rattle.blocks.specs.Code.{partOf}
 use Rattle.lists.specs.Lists.{ranges}
@@ -29,7 +29,7 @@ use Rattle.lists.specs.Below.{lengths, by-sums-length, by-loops-length}
 use Rattle.lists.specs.Fusion.{fusionIn, fusedRange, peeledRange, work, fused-list, peeled-list, fused-columns, peeled-columns}
 use Rattle.positions.specs.Search.{Aligned}
 use Rattle.plans.specs.Code.{Laid}
-use Rattle.ranges.specs.Code.{partIn, partAt, rangeOf, cut, listOf, Kept, Apart}
+use Rattle.ranges.specs.Code.{partIn, rangeOf, cut, listOf, Kept, Apart}
 
 module _ (a : Axis) (c : List ℕ) (h : Laid a c) where
   -- WHAT THE CODE ASKS

@@ -7,7 +7,7 @@ use blocks::Range;
 use model::Iteration;
 use records::Store;
 ghost use mathlib.Core.Path.{_≡_};
-ghost use Prim.Native.Nat.{ℕ, _+_, _*_, _≤_, _<_, _^_};
+ghost use Prim.Native.Nat.{ℕ, _+_, _≤_, _<_, _^_};
 ghost use lib.ListN.{length, getD, set};
 ghost use Rattle.model.specs.Table.{iteration};
 ghost use Rattle.reader.specs.Store.{lastAt, loopsIn, tableIn};

@@ -17,9 +17,6 @@ use Rattle.reader.specs.Reading.{Answer, accepted, refused}
 
 -- THE LAYOUT: the lengths of the arrays from 0 on; loop k has its bounds at k from 16 and from 32 on, and the rows from startAt k up to
 -- startAt (k + 1): its destination, then its items; a row is three numbers; past all rows stand how many arrays and how many loops there are
-abbrev pub mostRows : ℕ
-mostRows = 528
-
 module _ (c : List ℕ) where
   abbrev pub firstAt : ℕ → ℕ
   firstAt k = getD c (16 + k) 0

@@ -11,8 +11,7 @@ use lib.Ieee.{Float}
 use Rattle.order.specs.Lists.{Before, before-left, before-right}
 use Rattle.order.specs.Reorder.{runAll, Commute}
 use Rattle.order.specs.Machine.{Complete, trace, zeros}
-use Rattle.order.specs.Plain.{Covers}
-use Rattle.order.specs.Rows.{Ordered, plan, rows-covers, any-schedule-by-keys}
+use Rattle.order.specs.Rows.{Ordered, plan, any-schedule-by-keys}
 use Rattle.model.specs.declared.Iteration.{Iteration}
 use Rattle.model.specs.declared.Reference.{Reference}
 use Rattle.model.specs.Table.{Table, count, first, last, Inside}
@@ -47,9 +46,6 @@ module _ (t : Table) (c : Fusion) (wide : Wide t c) where
     λ m. once t c wide .listed x (plain-mem t x .0 m),
     λ (l, i, m). plain-mem t x .1 (once t c wide .alone (phase t c x) (owner t c x) x i l m .0),
   )
-
-  pub covers : Covers (plan (rows t c wide)) (plain t)
-  covers = rows-covers (rows t c wide) (plain t) (plain-once t) in-one-list
 
 -- DEMAND 3
 module _ (t : Table) (sound : Sound t) (Counts : Reference → Reference → Type 0) (none-missed : NoneMissed Counts t)

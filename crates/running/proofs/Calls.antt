@@ -16,15 +16,14 @@ use Rattle.model.specs.Table.{iteration}
 use Rattle.model.specs.Bodies.{run}
 use Rattle.reader.specs.Store.{tableIn}
 use Rattle.iterations.specs.Memory.{total, run-length}
-use Rattle.turns.specs.Turn.{Work, Said, refuses, performs, waits, ends, After, stays, after, next, turn}
+use Rattle.turns.specs.Turn.{Work, Said, refuses, performs, waits, ends, After, after, next, turn}
 use Rattle.turns.specs.Row.{noneDone, reports, countsAfter, memoryAfter, performing, idle, lowest, canStep, closing, listed, rowOf, lowest-same, lowest-holds, memory-append, idle-append}
 use Rattle.turns.specs.Reach.{Reachable, none-reachable, turn-reachable}
 use Rattle.turns.specs.Meaning.{turn-said}
-use Rattle.barriers.specs.Code.{Ended, readyBy, listedBy}
+use Rattle.barriers.specs.Code.{readyBy, listedBy}
 use Rattle.barriers.specs.Same.{ready-is, listed-is}
 use Rattle.stepping.specs.declared.Report.{Report}
 use Rattle.stepping.specs.declared.Report.the-variants.{Performed}
-use Rattle.stepping.specs.Step.{reportOf}
 use Rattle.steps.specs.Ready.{Ready, Leaves}
 use Rattle.running.specs.Code.{Step, idling, Idles, called, Readies, Given, Left, Ordered, Rowed}
 

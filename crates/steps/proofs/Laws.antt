@@ -1,5 +1,5 @@
 -- A step of an accepted plan: 12, 15, or the turn.
-use Prim.Native.Nat.{ℕ, _≤_, _<_}
+use Prim.Native.Nat.{ℕ, _<_}
 use native.Mathlib.Omega.{arith}
 use mathlib.Core.Path.{_≡_, refl, sym, ap, _∙_}
 use mathlib.Core.Bool.{Bool, true, false}
@@ -8,12 +8,11 @@ use lib.Dec.{eqb}
 use lib.ListN.{length}
 use lib.Ieee.{Float}
 use Rattle.model.specs.declared.Iteration.{Iteration}
-use Rattle.model.specs.Table.{Table, iteration}
+use Rattle.model.specs.Table.{iteration}
 use Rattle.model.specs.Bodies.{run}
-use Rattle.reader.specs.Reading.{AnswerOf, accepted, refused, choose, reading}
+use Rattle.reader.specs.Reading.{AnswerOf, accepted, refused, choose}
 use Rattle.reader.specs.Store.{tableIn}
 use Rattle.blocks.specs.declared.Axis.{Axis}
-use Rattle.blocks.specs.Sums.{column}
 use Rattle.bodies.specs.Workable.{Based}
 use Rattle.iterations.specs.Memory.{total, remembered, remembered-as-long, remembered-unlike}
 use Rattle.iterations.specs.Loaded.{Loaded}
@@ -21,10 +20,10 @@ use Rattle.tables.specs.Verdict.{numberOf, placeOf}
 use Rattle.turns.specs.Turn.{Work, Said, After, after, next, turn, stepped, wrongState}
 use Rattle.turns.specs.Reach.{Turn, does, halts, stops, turn-is}
 use Rattle.barriers.specs.Code.{Ended, wrongBy}
-use Rattle.barriers.specs.Same.{wrong-is}
+use Rattle.barriers.specs.Same.{wrong-by-open}
 use Rattle.plans.specs.declared.Plan.{Plan}
 use Rattle.plans.specs.Plans.{Settings, Planned, plannedFor}
-use Rattle.plans.specs.Code.{plannedIn, Laid, Made, Plans, named-made, made-laid}
+use Rattle.plans.specs.Code.{plannedIn, Laid, Plans, named-made, made-laid}
 use Rattle.plans.specs.Accepted.{named-accepts}
 use Rattle.layouts.specs.Layout.{workIn}
 use Rattle.stepping.specs.declared.Report.{Report}
@@ -36,9 +35,6 @@ use Rattle.steps.specs.Ready.{Leaves}
 use Rattle.steps.specs.Steps.{Steps, refusing}
 
 module _ (a : Axis) (c : List ℕ) (h : Laid a c) where
-  pub few-elements : total (tableIn c) ≤ 262144
-  few-elements = h .fit .valid .total
-
   pub loaded-in : (bs : List ℕ) → Based bs (tableIn c .lengths) → Loaded (tableIn c) c bs
   loaded-in bs based = record { holds = h .held; valid = h .fit .valid; based = based }
 
@@ -55,7 +51,7 @@ module _ (a : Axis) (c : List ℕ) (b : ℕ) (cs : List ℕ) (m : List Float) wh
   module _ (long : length m ≡ total (tableIn c)) (ends : List ℕ) (ended : Ended (workIn a c) ends) (x : Bool)
       (asked : x ≡ wrongBy (a .blocks) ends cs 2) where
     wrong : wrongState (workIn a c) cs ≡ x
-    wrong = sym (asked ∙ wrong-is ended cs)
+    wrong = sym (asked ∙ wrong-by-open ended cs)
 
     -- 15
     pub leaves-wrong : x ≡ true → Leaves outcome cs m (Refused 15 0)

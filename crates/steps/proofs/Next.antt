@@ -21,7 +21,7 @@ use Rattle.barriers.specs.Code.{beforeBy, comeBy, phaseBy, closedBy}
 use Rattle.barriers.specs.Same.{before-is, phase-is, closed-is}
 use Rattle.ranges.specs.Code.{listOf}
 use Rattle.stepping.specs.declared.Report.{Report}
-use Rattle.stepping.specs.declared.Report.the-variants.{Refused, Performed, Waiting, Finished}
+use Rattle.stepping.specs.declared.Report.the-variants.{Performed, Waiting, Finished}
 use Rattle.stepping.specs.Step.{reportOf}
 use Rattle.steps.specs.Ready.{Listed, Ready, Leaves}
 

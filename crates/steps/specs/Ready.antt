@@ -1,15 +1,13 @@
 -- What the code of a turn is lent: any work in two phases, with processor b's lists and where all phases end in numbers, and the table's
 -- statements in a store; and what it leaves.
-use Prim.Native.Nat.{ℕ, suc, _+_, _-_, _*_, _≤_, _<_}
-use native.Mathlib.Omega.{arith}
-use mathlib.Core.Path.{_≡_, refl, sym, ap, _∙_}
+use Prim.Native.Nat.{ℕ, _+_, _-_, _*_, _≤_, _<_}
+use mathlib.Core.Path.{_≡_, refl}
 use mathlib.Core.List.{List}
 use mathlib.Core.List.{List·Memᴰ as Mem}
-use lib.ListN.{length, getD}
+use lib.ListN.{length}
 use lib.Ieee.{Float}
-use Rattle.order.specs.Lists.{nth-mem}
 use Rattle.model.specs.declared.Iteration.{Iteration}
-use Rattle.model.specs.Table.{iteration, Inside}
+use Rattle.model.specs.Table.{Inside}
 use Rattle.reader.specs.Store.{loopsIn, tableIn}
 use Rattle.blocks.specs.declared.Axis.{Axis}
 use Rattle.turns.specs.Turn.{Work, After}

@@ -64,10 +64,3 @@ module _ {A : Type 0} (none : A) (w : Work A) (some-phase : 0 < w .phases) (b : 
     where
       go : Turn none w b cs ends → (before w phases b ≤ column cs b) × Opened w cs (phases - 1)
       go (stops u o) = (u, o)
-
-  -- it refuses nothing
-  pub never-refuses : (number place : ℕ) → next none w b cs ≡ refuses number place → ⊥
-  never-refuses number place e = go (view e)
-    where
-      go : Turn none w b cs (refuses number place) → ⊥
-      go = elim [ ]

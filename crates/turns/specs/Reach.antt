@@ -2,22 +2,18 @@
 use Prim.Native.Nat.{ℕ, zero, suc, _-_, _≤_, _<_}
 use native.Mathlib.Omega.{arith}
 use native.Mathlib.Decide.{ℕ-discrete, decLt, decLe}
-use mathlib.Core.Path.{_≡_, refl, sym, subst, _∙_}
-use mathlib.Core.Bool.{Bool, true, false, _&&_, _||_, false≢true}
+use mathlib.Core.Path.{_≡_, refl, subst, _∙_}
+use mathlib.Core.Bool.{Bool, true, false, _&&_}
 use mathlib.Core.Logic.{_⊎_, inl, inr, ⊎-elim, _≢_}
 use mathlib.Core.List.{List}
 use lib.Dec.{ltb}
 use borrow.Author.Tests.{ltb-true, ltb-false, lt-ltb, le-ltb, le-leb, lt-leb}
 use lib.ListN.{length, getD, length-set}
 use lib.Seq.{getD-set-same, getD-set-other}
-use Rattle.blocks.specs.Sums.{column, some, total-up, some-none, some-which, some-each}
+use Rattle.blocks.specs.Sums.{column, some, neither, total-up, some-none, some-which, some-each}
 use Rattle.turns.specs.Turn.{Work, Said, performs, waits, ends, before, closed, comeTo, phaseOf, wrongCount, wrongState}
 use Rattle.turns.specs.Turn.{next, counted, after, turn, stepped}
 use Rattle.turns.specs.Row.{noneDone, none-done}
-
-neither : (a b : Bool) → (a || b) ≡ false → (a ≡ false) × (b ≡ false)
-neither true b e = absurd (false≢true (sym e))
-neither false b e = (refl, e)
 
 -- one more of processor b, and of no other
 module _ (cs : List ℕ) (b : ℕ) where

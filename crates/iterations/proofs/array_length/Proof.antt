@@ -3,8 +3,8 @@ use denote.Ref.{now}
 use lib.Seq.{getD-take}
 use Rattle.iterations.proofs.Laws.{untaken}
 use borrow.Author.Needs.{needs}
-use Rattle.iterations.proofs.length_of.Statement.{statement}
-use Rattle.iterations.proofs.length_of.Tie as tie
+use Rattle.iterations.proofs.array_length.Statement.{statement}
+use Rattle.iterations.proofs.array_length.Tie as tie
 
 mul-result : tie.Need-mul-result
 mul-result c = search needs
