@@ -18,5 +18,5 @@ returns c = sym (getD-take (c .before .before .args .arrays) (now (c .before .be
 returns-2 : tie.Need-returns-2
 returns-2 c = untaken (c .before .args .arrays) (now (c .before .args .store)) (c .before .args .k) (c .if1 .left)
 
-pub length-of-spec : {M : Type 1} → statement M
-length-of-spec = tie.close (tie.spec mul-result element-copy-out-result returns returns-2)
+pub array-length-spec : {M : Type 1} → statement M
+array-length-spec = tie.close (tie.spec mul-result element-copy-out-result returns returns-2)

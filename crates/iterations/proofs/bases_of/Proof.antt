@@ -20,15 +20,15 @@ arrays-in-requires c κs = search needs
 loop-holds : tie.Need-loop-holds Inv-loop μ-loop
 loop-holds c = filled-start (tableIn (now (c .before .args .store)) .lengths) _ refl refl
 
-length-of-requires : tie.Need-length-of-requires Inv-loop μ-loop
-length-of-requires c κs = search needs
+array-length-requires : tie.Need-array-length-requires Inv-loop μ-loop
+array-length-requires c κs = search needs
 
 add-next : tie.Need-add-next Inv-loop μ-loop
 add-next c =
     let b = c .before .before .before in
     let l = c .before .before .loop in
-    let e = rw (b .arrays-in .ensures) at (c .length-of .ensures) in
-    let most = filled-most (tableIn (now (b .before .args .store)) .lengths) (l .firsts) (l .next) (l .k) (l .inv) (c .before .loop-test .taken) (c .length-of .result) e in
+    let e = rw (b .arrays-in .ensures) at (c .array-length .ensures) in
+    let most = filled-most (tableIn (now (b .before .args .store)) .lengths) (l .firsts) (l .next) (l .k) (l .inv) (c .before .loop-test .taken) (c .array-length .result) e in
     omega (arith, most, b .before .pre)
 
 add-firsts : tie.Need-add-firsts Inv-loop μ-loop
@@ -50,8 +50,8 @@ loop-again : tie.Need-loop-again Inv-loop μ-loop
 loop-again c =
     let b = c .before .before .before in
     let l = c .before .before .loop in
-    let e = rw (b .arrays-in .ensures) at (c .length-of .ensures) in
-    filled-next (tableIn (now (b .before .args .store)) .lengths) (l .firsts) (l .next) (l .k) (l .inv) (c .before .loop-test .taken) (c .length-of .result) e
+    let e = rw (b .arrays-in .ensures) at (c .array-length .ensures) in
+    filled-next (tableIn (now (b .before .args .store)) .lengths) (l .firsts) (l .next) (l .k) (l .inv) (c .before .loop-test .taken) (c .array-length .result) e
 
 returns : tie.Need-returns Inv-loop μ-loop
 returns c =
@@ -66,7 +66,7 @@ bases-of-spec =
     μ-loop
     arrays-in-requires
     loop-holds
-    length-of-requires
+    array-length-requires
     add-next
     add-firsts
     mul-firsts
