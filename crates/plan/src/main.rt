@@ -16,6 +16,10 @@ fn main() {
     let mut table = io::buffer();
     let n = io::read_full(STDIN_FILENO, &mut table);
     let mut lines = [0u8; LINES];
-    let printed: outputs::Outcome = printing::print_plan(&table[..n], wide(processors[0]), &mut lines);
+    let printed: outputs::Outcome = printing::print_plan(
+        &table[..n],
+        wide(processors[0]),
+        &mut lines,
+    );
     io::write_all(STDOUT_FILENO, &lines[..printed.written]);
 }
