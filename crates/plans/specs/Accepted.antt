@@ -39,7 +39,7 @@ pub record Fit (t : Table) (c : Fusion) : Type 0 where
   pub small-edge : (b : ℕ) → b ≤ c .processors → c .edge b ≤ 65791
 
 -- THE LAW of an accepted plan: its table was read through 9; none of 10 and 11 holds; the plan is the one of the largest chains; and it fits,
--- which is all that is asked above this crate
+-- which is all that is asked of a plan above this crate
 pub record AcceptedPlan (s : List ℕ) (w : Settings) (q : Planned) : Type 0 where
   pub read : table s ≡ accepted (q .table)
   pub not-ten : badProcessors w ≡ false
@@ -146,15 +146,16 @@ planned-accepts s w q e =
 counted : (s : List ℕ) (w : Settings) (q : Planned) → planned s w ≡ accepted q → q .plan .processors ≡ w .processors
 counted s w q e = ap (λ (c : Fusion). c .processors) (planned-accepts s w q e .plan-is)
 
-named : (s : List ℕ) (w : Settings) (b : ℕ) → b < w .processors → plannedFor s w b ≡ planned s w
+-- where a processor below P is named, the answer is the same, a refusal too
+pub named-same : (s : List ℕ) (w : Settings) (b : ℕ) → b < w .processors → plannedFor s w b ≡ planned s w
 unfolding planned plannedFor
-named s w b l = rw (lt-leb (w .processors) b l, or-false (badProcessors w))
+named-same s w b l = rw (lt-leb (w .processors) b l, or-false (badProcessors w))
 
--- where a processor is named, it is below P, and nothing else is asked
+-- the same of an accepted plan, by its own count
 pub named-below : (s : List ℕ) (w : Settings) (b : ℕ) (q : Planned) → planned s w ≡ accepted q → b < q .plan .processors → plannedFor s w b ≡ accepted q
-named-below s w b q e l = named s w b (omega (arith, counted s w q e)) ∙ e
+named-below s w b q e l = named-same s w b (omega (arith, counted s w q e)) ∙ e
 
--- a number that is not below P is 10, whatever else there is
+-- beside a plan that is accepted, a number that is not below P is 10
 pub named-past : (s : List ℕ) (w : Settings) (b : ℕ) (q : Planned) → planned s w ≡ accepted q → q .plan .processors ≤ b → plannedFor s w b ≡ refused 10 0
 unfolding plannedFor fitting
 named-past s w b q e l =
@@ -167,5 +168,5 @@ named-accepts s w b q e =
     let (r, f, z, short) = fitting-accepted (badNumber w b) w (table s) q e in
     let (x, m) = neither (badProcessors w) (leb (w .processors) b) z in
     let l : b < w .processors = leb-false (w .processors) b m in
-    let is = sym (named s w b l) ∙ e in
+    let is = sym (named-same s w b l) ∙ e in
     (is, omega (arith, counted s w q is))
