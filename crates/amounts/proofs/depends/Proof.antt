@@ -5,9 +5,6 @@ use Rattle.chains.specs.Dependence.{dependence}
 use Rattle.amounts.proofs.depends.Statement.{statement}
 use Rattle.amounts.proofs.depends.Tie as tie
 
-either-requires : tie.Need-either-requires
-either-requires c κs = search needs
-
 returns : tie.Need-returns
 unfolding dependence
 returns c = rw (lt-ltb _ _ (c .before .before .before .before .if1 .taken), eq-eqb _ _ (c .before .if2 .taken)) (c .either .ensures)
@@ -21,4 +18,4 @@ unfolding dependence
 returns-3 c = rw (le-ltb _ _ (c .if1 .left))
 
 pub depends-spec : {M : Type 1} → statement M
-depends-spec = tie.close (tie.spec either-requires returns returns-2 returns-3)
+depends-spec = tie.close (tie.spec (λ c κs. search needs) returns returns-2 returns-3)

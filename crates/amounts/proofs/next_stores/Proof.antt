@@ -53,17 +53,6 @@ returns c = filled-end _ _ _ _ (c .loop-test .left) (c .before .loop .inv)
 
 pub next-stores-spec : {M : Type 1} → statement M
 next-stores-spec =
-    tie.close
-    (tie.spec
-    Inv-loop
-    μ-loop
-    above-requires
-    loop-holds
-    sub-j
-    shared-slice-read-if1
-    cast-nexts
-    mul-nexts
-    array-write-nexts
-    loop-less
-    loop-again
-    returns)
+    tie.close (tie.spec
+      Inv-loop μ-loop above-requires loop-holds sub-j shared-slice-read-if1 cast-nexts mul-nexts array-write-nexts
+      loop-less loop-again returns)

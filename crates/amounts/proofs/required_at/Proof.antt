@@ -20,9 +20,6 @@ reference-requires c κs = (c .before .before .before .before .pre .0, c .before
 shared-slice-read-number : tie.Need-shared-slice-read-number Inv-loop μ-loop
 shared-slice-read-number c = c .before .before .before .before .before .before .pre .1
 
-next-place-requires : tie.Need-next-place-requires Inv-loop μ-loop
-next-place-requires c κs = omega arith
-
 loop-holds : tie.Need-loop-holds Inv-loop μ-loop
 loop-holds c = remaining-look _ (c .before .before .before .before .before .before .before .pre .0) _ _ _ (c .before .before .before .before .before .before .before .pre .1) _ (c .before .before .reference .ensures) (now (c .before .before .before .before .before .before .before .args .nexts)) (c .before .before .before .before .before .before .before .pre .2) _ _ _ _ (remaining-start _ (c .before .before .before .before .before .before .before .pre .0) _ _ _ (c .before .before .before .before .before .before .before .pre .1) _ (c .before .before .reference .ensures)) (c .next-place .ensures) .0
 
@@ -52,19 +49,7 @@ returns c = remaining-end _ (c .before .before .before .before .before .before .
 
 pub required-at-spec : {M : Type 1} → statement M
 required-at-spec =
-    tie.close
-    (tie.spec
-    Inv-loop
-    μ-loop
-    reference-requires
-    shared-slice-read-number
-    next-place-requires
-    loop-holds
-    shared-slice-read-if1
-    reference-requires-2
-    take-up-requires
-    add-next-place
-    next-place-requires-2
-    loop-less
-    loop-again
-    returns)
+    tie.close (tie.spec
+      Inv-loop μ-loop reference-requires shared-slice-read-number (λ c κs. omega arith) loop-holds
+      shared-slice-read-if1 reference-requires-2 take-up-requires add-next-place next-place-requires-2 loop-less
+      loop-again returns)

@@ -95,26 +95,7 @@ returns c =
 
 pub shifts-and-peels-spec : {M : Type 1} → statement M
 shifts-and-peels-spec =
-    tie.close
-    (tie.spec
-    Inv-loop
-    μ-loop
-    next-stores-requires
-    loop-holds
-    required-at-requires
-    shared-slice-read-k
-    cast-k
-    mul-updated
-    array-read-updated
-    updated-requires
-    mul-ss
-    array-write-ss
-    mul-updated-2
-    array-read-updated-2
-    updated-requires-2
-    mul-ps
-    array-write-ps
-    add-i
-    loop-less
-    loop-again
-    returns)
+    tie.close (tie.spec
+      Inv-loop μ-loop next-stores-requires loop-holds required-at-requires shared-slice-read-k cast-k mul-updated
+      array-read-updated updated-requires mul-ss array-write-ss mul-updated-2 array-read-updated-2
+      updated-requires-2 mul-ps array-write-ps add-i loop-less loop-again returns)

@@ -6,24 +6,6 @@ use Rattle.amounts.proofs.Laws.{taken-up, passed-over}
 use Rattle.amounts.proofs.take_up.Statement.{statement}
 use Rattle.amounts.proofs.take_up.Tie as tie
 
-depends-requires : tie.Need-depends-requires
-depends-requires c κs = search needs
-
-mul-raise : tie.Need-mul-raise
-mul-raise c = search needs
-
-element-copy-out-raise : tie.Need-element-copy-out-raise
-element-copy-out-raise c = search needs
-
-mul-raise-2 : tie.Need-mul-raise-2
-mul-raise-2 c = search needs
-
-element-copy-out-raise-2 : tie.Need-element-copy-out-raise-2
-element-copy-out-raise-2 c = search needs
-
-raise-requires : tie.Need-raise-requires
-raise-requires c κs = search needs
-
 returns : tie.Need-returns
 returns c =
     let d = sym (c .before .before .before .before .depends .ensures) ∙ c .before .before .before .if1 .taken in
@@ -36,13 +18,6 @@ returns-2 c =
 
 pub take-up-spec : {M : Type 1} → statement M
 take-up-spec =
-    tie.close
-    (tie.spec
-    depends-requires
-    mul-raise
-    element-copy-out-raise
-    mul-raise-2
-    element-copy-out-raise-2
-    raise-requires
-    returns
-    returns-2)
+    tie.close (tie.spec
+      (λ c κs. search needs) (λ c. search needs) (λ c. search needs) (λ c. search needs) (λ c. search needs)
+      (λ c κs. search needs) returns returns-2)

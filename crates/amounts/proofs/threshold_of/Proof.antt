@@ -21,24 +21,6 @@ loop-holds : tie.Need-loop-holds Inv-loop μ-loop
 unfolding maximumBelow
 loop-holds c = (omega arith, refl)
 
-mul-larger : tie.Need-mul-larger Inv-loop μ-loop
-mul-larger c = search needs
-
-element-copy-out-larger : tie.Need-element-copy-out-larger Inv-loop μ-loop
-element-copy-out-larger c = search needs
-
-cast-larger : tie.Need-cast-larger Inv-loop μ-loop
-cast-larger c = search needs
-
-mul-larger-2 : tie.Need-mul-larger-2 Inv-loop μ-loop
-mul-larger-2 c = search needs
-
-element-copy-out-larger-2 : tie.Need-element-copy-out-larger-2 Inv-loop μ-loop
-element-copy-out-larger-2 c = search needs
-
-cast-larger-2 : tie.Need-cast-larger-2 Inv-loop μ-loop
-cast-larger-2 c = search needs
-
 add-larger : tie.Need-add-larger Inv-loop μ-loop
 add-larger c =
     let a = c .before .before .before .before .args .t1 in
@@ -49,12 +31,6 @@ add-larger c =
 
 larger-requires : tie.Need-larger-requires Inv-loop μ-loop
 larger-requires c κs = tt
-
-add-k : tie.Need-add-k Inv-loop μ-loop
-add-k c = search needs
-
-loop-less : tie.Need-loop-less Inv-loop μ-loop
-loop-less c = search needs
 
 loop-again : tie.Need-loop-again Inv-loop μ-loop
 loop-again c = (omega arith, maximumBelow-next _ _ _ _ (c .before .before .before .before .loop .inv .1) (c .larger .ensures))
@@ -67,20 +43,7 @@ returns c =
 
 pub threshold-of-spec : {M : Type 1} → statement M
 threshold-of-spec =
-    tie.close
-    (tie.spec
-    Inv-loop
-    μ-loop
-    loop-holds
-    mul-larger
-    element-copy-out-larger
-    cast-larger
-    mul-larger-2
-    element-copy-out-larger-2
-    cast-larger-2
-    add-larger
-    larger-requires
-    add-k
-    loop-less
-    loop-again
-    returns)
+    tie.close (tie.spec
+      Inv-loop μ-loop loop-holds (λ c. search needs) (λ c. search needs) (λ c. search needs) (λ c. search needs)
+      (λ c. search needs) (λ c. search needs) add-larger larger-requires (λ c. search needs) (λ c. search needs)
+      loop-again returns)

@@ -6,27 +6,6 @@ use borrow.Author.Needs.{needs}
 use Rattle.barriers.proofs.before_of.Statement.{statement}
 use Rattle.barriers.proofs.before_of.Tie as tie
 
-returns : tie.Need-returns
-returns c = search needs
-
-sub-wide : tie.Need-sub-wide
-sub-wide c = search needs
-
-mul-wide : tie.Need-mul-wide
-mul-wide c = search needs
-
-add-wide : tie.Need-add-wide
-add-wide c = search needs
-
-wide-requires : tie.Need-wide-requires
-wide-requires c κs = search needs
-
-mul-result : tie.Need-mul-result
-mul-result c = search needs
-
-element-copy-out-result : tie.Need-element-copy-out-result
-element-copy-out-result c = search needs
-
 returns-2 : tie.Need-returns-2
 returns-2 c =
     let a = c .before .before .before .args in
@@ -34,13 +13,6 @@ returns-2 c =
 
 pub before-of-spec : {M : Type 1} → statement M
 before-of-spec =
-    tie.close
-    (tie.spec
-    returns
-    sub-wide
-    mul-wide
-    add-wide
-    wide-requires
-    mul-result
-    element-copy-out-result
-    returns-2)
+    tie.close (tie.spec
+      (λ c. search needs) (λ c. search needs) (λ c. search needs) (λ c. search needs) (λ c κs. search needs)
+      (λ c. search needs) (λ c. search needs) returns-2)

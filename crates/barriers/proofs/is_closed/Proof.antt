@@ -14,13 +14,10 @@ returns c =
     let a = c .before .args in
     rw (c .if1 .taken) (sym (some-none (a .processors) (leftBy (now (a .ends)) (now (a .counts)) 0) (λ b l. le-ltb (column (now (a .counts)) b) 0 (omega arith))))
 
-lowest-left-requires : tie.Need-lowest-left-requires
-lowest-left-requires c κs = search needs
-
 returns-2 : tie.Need-returns-2
 returns-2 c =
     let a = c .before .before .args in
     rw (c .lowest-left .ensures) (lowest-some (a .processors) (leftBy (now (a .ends)) (now (a .counts)) (a .phase)))
 
 pub is-closed-spec : {M : Type 1} → statement M
-is-closed-spec = tie.close (tie.spec returns lowest-left-requires returns-2)
+is-closed-spec = tie.close (tie.spec returns (λ c κs. search needs) returns-2)

@@ -14,14 +14,8 @@ Inv-loop counts ends processors phases n₀ n = (lastOpenBy processors ends coun
 abbrev μ-loop : tie.MeasureT-loop
 μ-loop counts ends processors phases n₀ n = n
 
-sub-n : tie.Need-sub-n Inv-loop μ-loop
-sub-n c = omega arith
-
 loop-holds : tie.Need-loop-holds Inv-loop μ-loop
 loop-holds c = (refl, omega arith)
-
-is-closed-requires : tie.Need-is-closed-requires Inv-loop μ-loop
-is-closed-requires c κs = search needs
 
 returns : tie.Need-returns Inv-loop μ-loop
 returns c =
@@ -30,12 +24,6 @@ returns c =
     let shut = c .before .is-closed in
     let here = open-here (a .processors) (now (a .ends)) (now (a .counts)) (shut .result) (l .n) (c .before .before .loop-test .taken) (shut .ensures) (c .if1 .taken) in
     (sym (l .inv .0 ∙ here), l .inv .1)
-
-sub-n-2 : tie.Need-sub-n-2 Inv-loop μ-loop
-sub-n-2 c = omega arith
-
-loop-less : tie.Need-loop-less Inv-loop μ-loop
-loop-less c = omega arith
 
 loop-again : tie.Need-loop-again Inv-loop μ-loop
 loop-again c =
@@ -54,15 +42,6 @@ returns-2 c =
 
 pub last-open-spec : {M : Type 1} → statement M
 last-open-spec =
-    tie.close
-    (tie.spec
-    Inv-loop
-    μ-loop
-    sub-n
-    loop-holds
-    is-closed-requires
-    returns
-    sub-n-2
-    loop-less
-    loop-again
-    returns-2)
+    tie.close (tie.spec
+      Inv-loop μ-loop (λ c. omega arith) loop-holds (λ c κs. search needs) returns (λ c. omega arith)
+      (λ c. omega arith) loop-again returns-2)

@@ -20,18 +20,6 @@ abbrev μ-loop : tie.MeasureT-loop
 loop-holds : tie.Need-loop-holds Inv-loop μ-loop
 loop-holds c = (below-none _, omega arith)
 
-wide-requires : tie.Need-wide-requires Inv-loop μ-loop
-wide-requires c κs = search needs
-
-mul-if1 : tie.Need-mul-if1 Inv-loop μ-loop
-mul-if1 c = omega arith
-
-element-copy-out-if1 : tie.Need-element-copy-out-if1 Inv-loop μ-loop
-element-copy-out-if1 c = omega arith
-
-before-of-requires : tie.Need-before-of-requires Inv-loop μ-loop
-before-of-requires c κs = search needs
-
 returns : tie.Need-returns Inv-loop μ-loop
 returns c =
     let at = c .before .before .before in
@@ -39,12 +27,6 @@ returns c =
     let l = at .before .before .loop in
     let here = below-true (now (a .counts)) (l .b) (at .wide .result) (beforeBy (now (a .ends)) (a .n) (l .b)) (c .before .before-of .result) (at .wide .ensures .0) (c .before .before-of .ensures) (c .if1 .taken) in
     sym (lowest-is (a .processors) (l .b) (leftBy (now (a .ends)) (now (a .counts)) (a .n)) (l .inv .1) (l .inv .0) (λ i. here))
-
-add-b : tie.Need-add-b Inv-loop μ-loop
-add-b c = omega arith
-
-loop-less : tie.Need-loop-less Inv-loop μ-loop
-loop-less c = omega arith
 
 loop-again : tie.Need-loop-again Inv-loop μ-loop
 loop-again c =
@@ -62,17 +44,6 @@ returns-2 c =
 
 pub lowest-left-spec : {M : Type 1} → statement M
 lowest-left-spec =
-    tie.close
-    (tie.spec
-    Inv-loop
-    μ-loop
-    loop-holds
-    wide-requires
-    mul-if1
-    element-copy-out-if1
-    before-of-requires
-    returns
-    add-b
-    loop-less
-    loop-again
-    returns-2)
+    tie.close (tie.spec
+      Inv-loop μ-loop loop-holds (λ c κs. search needs) (λ c. omega arith) (λ c. omega arith) (λ c κs. search needs)
+      returns (λ c. omega arith) (λ c. omega arith) loop-again returns-2)

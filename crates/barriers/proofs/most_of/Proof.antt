@@ -8,12 +8,6 @@ use borrow.Author.Needs.{needs}
 use Rattle.barriers.proofs.most_of.Statement.{statement}
 use Rattle.barriers.proofs.most_of.Tie as tie
 
-add-before-of : tie.Need-add-before-of
-add-before-of c = search needs
-
-before-of-requires : tie.Need-before-of-requires
-before-of-requires c κs = search needs
-
 returns : tie.Need-returns
 returns c =
     let a = c .before .before .args in
@@ -23,4 +17,4 @@ returns-2 : tie.Need-returns-2
 returns-2 c = rw (le-ltb _ _ (c .if1 .left))
 
 pub most-of-spec : {M : Type 1} → statement M
-most-of-spec = tie.close (tie.spec add-before-of before-of-requires returns returns-2)
+most-of-spec = tie.close (tie.spec (λ c. search needs) (λ c κs. search needs) returns returns-2)

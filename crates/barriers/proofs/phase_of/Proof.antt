@@ -14,14 +14,8 @@ Inv-loop ends phases b done n₀ n = (phaseBy ends phases b done ≡ comeBy ends
 abbrev μ-loop : tie.MeasureT-loop
 μ-loop ends phases b done n₀ n = n
 
-sub-n : tie.Need-sub-n Inv-loop μ-loop
-sub-n c = omega arith
-
 loop-holds : tie.Need-loop-holds Inv-loop μ-loop
 loop-holds c = (refl, omega arith)
-
-before-of-requires : tie.Need-before-of-requires Inv-loop μ-loop
-before-of-requires c κs = search needs
 
 returns : tie.Need-returns Inv-loop μ-loop
 returns c =
@@ -29,12 +23,6 @@ returns c =
     let l = c .before .before .before .loop in
     let here = come-here (now (a .ends)) (a .b) (a .done) (l .n) (c .before .before .loop-test .taken) (omega (arith, c .before .before-of .ensures, c .if1 .taken)) in
     (sym (l .inv .0 ∙ here), l .inv .1)
-
-sub-n-2 : tie.Need-sub-n-2 Inv-loop μ-loop
-sub-n-2 c = omega arith
-
-loop-less : tie.Need-loop-less Inv-loop μ-loop
-loop-less c = omega arith
 
 loop-again : tie.Need-loop-again Inv-loop μ-loop
 loop-again c =
@@ -52,15 +40,6 @@ returns-2 c =
 
 pub phase-of-spec : {M : Type 1} → statement M
 phase-of-spec =
-    tie.close
-    (tie.spec
-    Inv-loop
-    μ-loop
-    sub-n
-    loop-holds
-    before-of-requires
-    returns
-    sub-n-2
-    loop-less
-    loop-again
-    returns-2)
+    tie.close (tie.spec
+      Inv-loop μ-loop (λ c. omega arith) loop-holds (λ c κs. search needs) returns (λ c. omega arith)
+      (λ c. omega arith) loop-again returns-2)

@@ -16,23 +16,8 @@ Inv-loop counts ends processors phases m b₀ b = (k : ℕ) → k < b → beyond
 abbrev μ-loop : tie.MeasureT-loop
 μ-loop counts ends processors phases m b₀ b = 64 - b
 
-last-open-requires : tie.Need-last-open-requires Inv-loop μ-loop
-last-open-requires c κs = search needs
-
 loop-holds : tie.Need-loop-holds Inv-loop μ-loop
 loop-holds c = below-none _
-
-most-of-requires : tie.Need-most-of-requires Inv-loop μ-loop
-most-of-requires c κs = search needs
-
-wide-requires : tie.Need-wide-requires Inv-loop μ-loop
-wide-requires c κs = search needs
-
-mul-if1 : tie.Need-mul-if1 Inv-loop μ-loop
-mul-if1 c = omega arith
-
-element-copy-out-if1 : tie.Need-element-copy-out-if1 Inv-loop μ-loop
-element-copy-out-if1 c = omega arith
 
 returns : tie.Need-returns Inv-loop μ-loop
 returns c =
@@ -43,12 +28,6 @@ returns c =
     let a = at .before .before .before .before .before .args in
     let here = above-true (now (a .counts)) (l .b) (at .wide .result) (mostBy (a .processors) (now (a .ends)) (m .result) (l .b)) (most .result) (at .wide .ensures .0) (most .ensures) (c .if1 .taken) in
     wrong-here (a .processors) (now (a .ends)) (now (a .counts)) (a .phases) (m .result) (m .ensures .0) (l .b) (at .before .before .loop-test .taken) here
-
-add-b : tie.Need-add-b Inv-loop μ-loop
-add-b c = omega arith
-
-loop-less : tie.Need-loop-less Inv-loop μ-loop
-loop-less c = omega arith
 
 loop-again : tie.Need-loop-again Inv-loop μ-loop
 loop-again c =
@@ -68,18 +47,6 @@ returns-2 c =
 
 pub wrong-state-spec : {M : Type 1} → statement M
 wrong-state-spec =
-    tie.close
-    (tie.spec
-    Inv-loop
-    μ-loop
-    last-open-requires
-    loop-holds
-    most-of-requires
-    wide-requires
-    mul-if1
-    element-copy-out-if1
-    returns
-    add-b
-    loop-less
-    loop-again
-    returns-2)
+    tie.close (tie.spec
+      Inv-loop μ-loop (λ c κs. search needs) loop-holds (λ c κs. search needs) (λ c κs. search needs)
+      (λ c. omega arith) (λ c. omega arith) returns (λ c. omega arith) (λ c. omega arith) loop-again returns-2)

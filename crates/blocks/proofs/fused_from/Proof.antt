@@ -4,12 +4,6 @@ use borrow.Author.Needs.{needs}
 use Rattle.blocks.proofs.fused_from.Statement.{statement}
 use Rattle.blocks.proofs.fused_from.Tie as tie
 
-add-greater : tie.Need-add-greater
-add-greater c = search needs
-
-greater-requires : tie.Need-greater-requires
-greater-requires c κs = search needs
-
 returns : tie.Need-returns
 returns c = simp (eq-eqb _ _ (c .if1 .taken))
 
@@ -17,4 +11,4 @@ returns-2 : tie.Need-returns-2
 returns-2 c = simp (ne-eqb _ _ (c .before .if1 .left)) (c .greater .ensures)
 
 pub fused-from-spec : {M : Type 1} → statement M
-fused-from-spec = tie.close (tie.spec add-greater greater-requires returns returns-2)
+fused-from-spec = tie.close (tie.spec (λ c. search needs) (λ c κs. search needs) returns returns-2)

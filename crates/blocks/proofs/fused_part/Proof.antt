@@ -4,15 +4,9 @@ use borrow.Author.Needs.{needs}
 use Rattle.blocks.proofs.fused_part.Statement.{statement}
 use Rattle.blocks.proofs.fused_part.Tie as tie
 
-fused-from-requires : tie.Need-fused-from-requires
-fused-from-requires c κs = search needs
-
-fused-past-requires : tie.Need-fused-past-requires
-fused-past-requires c κs = search needs
-
 returns : tie.Need-returns
 unfolding fusedPart
 returns c = rw (c .before .fused-from .ensures, c .fused-past .ensures)
 
 pub fused-part-spec : {M : Type 1} → statement M
-fused-part-spec = tie.close (tie.spec fused-from-requires fused-past-requires returns)
+fused-part-spec = tie.close (tie.spec (λ c κs. search needs) (λ c κs. search needs) returns)

@@ -5,15 +5,6 @@ use borrow.Author.Needs.{needs}
 use Rattle.blocks.proofs.fused_past.Statement.{statement}
 use Rattle.blocks.proofs.fused_past.Tie as tie
 
-add-if1 : tie.Need-add-if1
-add-if1 c = search needs
-
-minus-requires : tie.Need-minus-requires
-minus-requires c κs = search needs
-
-lesser-requires : tie.Need-lesser-requires
-lesser-requires c κs = search needs
-
 returns : tie.Need-returns
 returns c = simp (eq-eqb _ _ (c .if1 .taken))
 
@@ -21,4 +12,6 @@ returns-2 : tie.Need-returns-2
 returns-2 c = simp (ne-eqb _ _ (c .before .before .if1 .left)) (omega arith)
 
 pub fused-past-spec : {M : Type 1} → statement M
-fused-past-spec = tie.close (tie.spec add-if1 minus-requires lesser-requires returns returns-2)
+fused-past-spec =
+    tie.close (tie.spec
+      (λ c. search needs) (λ c κs. search needs) (λ c κs. search needs) returns returns-2)

@@ -5,21 +5,6 @@ use borrow.Author.Needs.{needs}
 use Rattle.blocks.proofs.peeled_part.Statement.{statement}
 use Rattle.blocks.proofs.peeled_part.Tie as tie
 
-add-if1 : tie.Need-add-if1
-add-if1 c = search needs
-
-minus-requires : tie.Need-minus-requires
-minus-requires c κs = search needs
-
-greater-requires : tie.Need-greater-requires
-greater-requires c κs = search needs
-
-add-lesser : tie.Need-add-lesser
-add-lesser c = search needs
-
-lesser-requires : tie.Need-lesser-requires
-lesser-requires c κs = search needs
-
 returns : tie.Need-returns
 unfolding peeledPart
 returns c = simp (eq-eqb _ _ (c .if1 .taken))
@@ -32,5 +17,6 @@ returns-2 c =
 
 pub peeled-part-spec : {M : Type 1} → statement M
 peeled-part-spec =
-    tie.close
-    (tie.spec add-if1 minus-requires greater-requires add-lesser lesser-requires returns returns-2)
+    tie.close (tie.spec
+      (λ c. search needs) (λ c κs. search needs) (λ c κs. search needs) (λ c. search needs) (λ c κs. search needs)
+      returns returns-2)

@@ -11,11 +11,8 @@ returns c = rw short-at (simp (lt-ltb _ _ (c .if1 .taken)))
 returns-2 : tie.Need-returns-2
 returns-2 c = rw short-at (simp (le-ltb _ _ (c .before .if1 .left), lt-leb _ _ (c .if2 .taken)))
 
-div-result : tie.Need-div-result
-div-result c = search needs
-
 returns-3 : tie.Need-returns-3
 returns-3 c = rw short-at (simp (le-ltb _ _ (c .before .if1 .left), le-leb _ _ (c .if2 .left)))
 
 pub short-spec : {M : Type 1} → statement M
-short-spec = tie.close (tie.spec returns returns-2 div-result returns-3)
+short-spec = tie.close (tie.spec returns returns-2 (λ c. search needs) returns-3)

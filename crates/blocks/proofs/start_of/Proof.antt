@@ -5,20 +5,11 @@ use borrow.Author.Needs.{needs}
 use Rattle.blocks.proofs.start_of.Statement.{statement}
 use Rattle.blocks.proofs.start_of.Tie as tie
 
-div-result : tie.Need-div-result
-div-result c = search needs
-
 mul-result : tie.Need-mul-result
 mul-result c =
     let a = c .args in
     let p = c .pre in
     omega (arith, start-fits (a .count) (a .blocks) (a .b) (p .1) (p .0))
-
-rem-lesser : tie.Need-rem-lesser
-rem-lesser c = search needs
-
-lesser-requires : tie.Need-lesser-requires
-lesser-requires c κs = search needs
 
 add-result : tie.Need-add-result
 add-result c =
@@ -34,4 +25,5 @@ returns c =
 
 pub start-of-spec : {M : Type 1} → statement M
 start-of-spec =
-    tie.close (tie.spec div-result mul-result rem-lesser lesser-requires add-result returns)
+    tie.close (tie.spec
+      (λ c. search needs) mul-result (λ c. search needs) (λ c κs. search needs) add-result returns)

@@ -17,9 +17,6 @@ returns : tie.Need-returns
 returns c = let a = c .before .before .before .before .before .args in
     read-works (now (a .bases)) (a .i) (now (a .memory)) (a .kind) (a .array) (a .value) (tops (now (a .vs)) (a .n)) (a .n) (c .before .before .before .before .before .pre .1) (c .before .before .before .if1 .taken) _ _ _ (c .before .element .ensures) (c .push .ensures)
 
-constant-requires : tie.Need-constant-requires
-constant-requires c κs = search needs
-
 push-requires-2 : tie.Need-push-requires-2
 push-requires-2 c κs = let a = c .before .before .before .before .before .args in
     (constant-asks (now (a .bases)) (a .i) (now (a .memory)) (a .kind) (a .array) (a .value) (tops (now (a .vs)) (a .n)) (a .n) (c .before .before .before .before .before .pre .1) (c .before .before .if2 .taken), c .before .before .before .before .before .pre .0 .1)
@@ -39,13 +36,6 @@ returns-3 c = let a = c .before .before .before .before .before .args in
 
 pub work-item-spec : {M : Type 1} → statement M
 work-item-spec =
-    tie.close
-    (tie.spec
-    element-requires
-    push-requires
-    returns
-    constant-requires
-    push-requires-2
-    returns-2
-    apply-requires
-    returns-3)
+    tie.close (tie.spec
+      element-requires push-requires returns (λ c κs. search needs) push-requires-2 returns-2 apply-requires
+      returns-3)

@@ -12,15 +12,6 @@ returns-2 : tie.Need-returns-2
 unfolding fields
 returns-2 c = simp (ne-eqb _ _ (c .before .if1 .left), lt-ltb _ _ (c .if2 .taken))
 
-wide-requires : tie.Need-wide-requires
-wide-requires c κs = search needs
-
-wide-requires-2 : tie.Need-wide-requires-2
-wide-requires-2 c κs = search needs
-
-add-if3 : tie.Need-add-if3
-add-if3 c = search needs
-
 returns-3 : tie.Need-returns-3
 unfolding fields
 returns-3 c = simp (ne-eqb _ _ (c .before .before .before .before .if1 .left), le-ltb _ _ (c .before .before .before .if2 .left), ← (c .before .before .wide .ensures .0), ← (c .before .wide2 .ensures .0), lt-ltb _ _ (c .if3 .taken))
@@ -31,5 +22,5 @@ returns-4 c = simp (ne-eqb _ _ (c .before .before .before .before .if1 .left), l
 
 pub array-tests-spec : {M : Type 1} → statement M
 array-tests-spec =
-    tie.close
-    (tie.spec returns returns-2 wide-requires wide-requires-2 add-if3 returns-3 returns-4)
+    tie.close (tie.spec
+      returns returns-2 (λ c κs. search needs) (λ c κs. search needs) (λ c. search needs) returns-3 returns-4)

@@ -8,15 +8,6 @@ use borrow.Author.Needs.{needs}
 use Rattle.decoding.proofs.body_length.Statement.{statement}
 use Rattle.decoding.proofs.body_length.Tie as tie
 
-wide-requires : tie.Need-wide-requires
-wide-requires c κs = search needs
-
-mul-result : tie.Need-mul-result
-mul-result c = search needs
-
-array-read-result : tie.Need-array-read-result
-array-read-result c = search needs
-
 returns : tie.Need-returns
 unfolding bodyLength
 returns c = ap (λ (n : ℕ). getD lengths n 0) (c .wide .ensures .0)
@@ -27,4 +18,5 @@ returns-2 c = sym (List·getD-eq-default lengths 0 (c .if1 .left))
 
 pub body-length-spec : {M : Type 1} → statement M
 body-length-spec =
-    tie.close (tie.spec wide-requires mul-result array-read-result returns returns-2)
+    tie.close (tie.spec
+      (λ c κs. search needs) (λ c. search needs) (λ c. search needs) returns returns-2)

@@ -3,45 +3,6 @@ use borrow.Author.Needs.{needs}
 use Rattle.decoding.proofs.early_ground.Statement.{statement}
 use Rattle.decoding.proofs.early_ground.Tie as tie
 
-enum-told : tie.Need-enum-told
-enum-told c = search needs
-
-enum-told-2 : tie.Need-enum-told-2
-enum-told-2 c = search needs
-
-array-early-requires : tie.Need-array-early-requires
-array-early-requires c κs = search needs
-
-enum-told-3 : tie.Need-enum-told-3
-enum-told-3 c = search needs
-
-loop-early-requires : tie.Need-loop-early-requires
-loop-early-requires c κs = search needs
-
-enum-told-4 : tie.Need-enum-told-4
-enum-told-4 c = search needs
-
-item-early-requires : tie.Need-item-early-requires
-item-early-requires c κs = search needs
-
-enum-told-5 : tie.Need-enum-told-5
-enum-told-5 c = search needs
-
-item-early-requires-2 : tie.Need-item-early-requires-2
-item-early-requires-2 c κs = search needs
-
-enum-told-6 : tie.Need-enum-told-6
-enum-told-6 c = search needs
-
-item-early-requires-3 : tie.Need-item-early-requires-3
-item-early-requires-3 c κs = search needs
-
-enum-told-7 : tie.Need-enum-told-7
-enum-told-7 c = search needs
-
-end-early-requires : tie.Need-end-early-requires
-end-early-requires c κs = search needs
-
 returns : tie.Need-returns
 unfolding early
 returns c = rw (c .enum-told .given .1)
@@ -68,25 +29,8 @@ returns-7 c = rw (c .before .enum-told7 .given .1) (c .end-early .ensures)
 
 pub early-ground-spec : {M : Type 1} → statement M
 early-ground-spec =
-    tie.close
-    (tie.spec
-    enum-told
-    enum-told-2
-    array-early-requires
-    enum-told-3
-    loop-early-requires
-    enum-told-4
-    item-early-requires
-    enum-told-5
-    item-early-requires-2
-    enum-told-6
-    item-early-requires-3
-    enum-told-7
-    end-early-requires
-    returns
-    returns-2
-    returns-3
-    returns-4
-    returns-5
-    returns-6
-    returns-7)
+    tie.close (tie.spec
+      (λ c. search needs) (λ c. search needs) (λ c κs. search needs) (λ c. search needs) (λ c κs. search needs)
+      (λ c. search needs) (λ c κs. search needs) (λ c. search needs) (λ c κs. search needs) (λ c. search needs)
+      (λ c κs. search needs) (λ c. search needs) (λ c κs. search needs) returns returns-2 returns-3 returns-4
+      returns-5 returns-6 returns-7)

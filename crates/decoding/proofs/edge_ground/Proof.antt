@@ -17,33 +17,9 @@ past-in e f g h = omega arith
 past-out : {a b d x y z : ℕ} → a ≡ x → b ≡ y → d ≡ z → b + d < a + 255 → y + z < x + 255
 past-out e f g h = omega arith
 
-wide-requires : tie.Need-wide-requires
-wide-requires c κs = search needs
-
-wide-requires-2 : tie.Need-wide-requires-2
-wide-requires-2 c κs = search needs
-
-add-if1 : tie.Need-add-if1
-add-if1 c = search needs
-
 returns : tie.Need-returns
 unfolding edge
 returns c = simp (← (c .before .before .wide .ensures .0), ← (c .before .wide2 .ensures .0), lt-ltb _ _ (c .if1 .taken))
-
-wide-requires-3 : tie.Need-wide-requires-3
-wide-requires-3 c κs = search needs
-
-add-if2 : tie.Need-add-if2
-add-if2 c = search needs
-
-wide-requires-4 : tie.Need-wide-requires-4
-wide-requires-4 c κs = search needs
-
-wide-requires-5 : tie.Need-wide-requires-5
-wide-requires-5 c κs = search needs
-
-add-if2-2 : tie.Need-add-if2-2
-add-if2-2 c = search needs
 
 returns-2 : tie.Need-returns-2
 unfolding edge
@@ -55,16 +31,6 @@ returns-3 c = simp (le-ltb _ _ (first-in (c .before .before .before .before .bef
 
 pub edge-ground-spec : {M : Type 1} → statement M
 edge-ground-spec =
-    tie.close
-    (tie.spec
-    wide-requires
-    wide-requires-2
-    add-if1
-    returns
-    wide-requires-3
-    add-if2
-    wide-requires-4
-    wide-requires-5
-    add-if2-2
-    returns-2
-    returns-3)
+    tie.close (tie.spec
+      (λ c κs. search needs) (λ c κs. search needs) (λ c. search needs) returns (λ c κs. search needs)
+      (λ c. search needs) (λ c κs. search needs) (λ c κs. search needs) (λ c. search needs) returns-2 returns-3)

@@ -3,42 +3,6 @@ use borrow.Author.Needs.{needs}
 use Rattle.decoding.proofs.fields_ground.Statement.{statement}
 use Rattle.decoding.proofs.fields_ground.Tie as tie
 
-enum-told : tie.Need-enum-told
-enum-told c = search needs
-
-enum-known-r : tie.Need-enum-known-r
-enum-known-r c = search needs
-
-array-tests-requires : tie.Need-array-tests-requires
-array-tests-requires c κs = search needs
-
-enum-known-r-2 : tie.Need-enum-known-r-2
-enum-known-r-2 c = search needs
-
-loop-tests-requires : tie.Need-loop-tests-requires
-loop-tests-requires c κs = search needs
-
-enum-known-r-3 : tie.Need-enum-known-r-3
-enum-known-r-3 c = search needs
-
-read-tests-requires : tie.Need-read-tests-requires
-read-tests-requires c κs = search needs
-
-enum-known-r-4 : tie.Need-enum-known-r-4
-enum-known-r-4 c = search needs
-
-constant-tests-requires : tie.Need-constant-tests-requires
-constant-tests-requires c κs = search needs
-
-enum-known-r-5 : tie.Need-enum-known-r-5
-enum-known-r-5 c = search needs
-
-operation-tests-requires : tie.Need-operation-tests-requires
-operation-tests-requires c κs = search needs
-
-enum-told-2 : tie.Need-enum-told-2
-enum-told-2 c = search needs
-
 returns : tie.Need-returns
 unfolding fields
 returns c = rw (c .enum-told .given .1)
@@ -64,24 +28,7 @@ returns-7 c = rw (c .enum-told2 .given .1)
 
 pub fields-ground-spec : {M : Type 1} → statement M
 fields-ground-spec =
-    tie.close
-    (tie.spec
-    enum-told
-    enum-known-r
-    array-tests-requires
-    enum-known-r-2
-    loop-tests-requires
-    enum-known-r-3
-    read-tests-requires
-    enum-known-r-4
-    constant-tests-requires
-    enum-known-r-5
-    operation-tests-requires
-    enum-told-2
-    returns
-    returns-2
-    returns-3
-    returns-4
-    returns-5
-    returns-6
-    returns-7)
+    tie.close (tie.spec
+      (λ c. search needs) (λ c. search needs) (λ c κs. search needs) (λ c. search needs) (λ c κs. search needs)
+      (λ c. search needs) (λ c κs. search needs) (λ c. search needs) (λ c κs. search needs) (λ c. search needs)
+      (λ c κs. search needs) (λ c. search needs) returns returns-2 returns-3 returns-4 returns-5 returns-6 returns-7)

@@ -4,15 +4,9 @@ use borrow.Author.Needs.{needs}
 use Rattle.decoding.proofs.offset_at.Statement.{statement}
 use Rattle.decoding.proofs.offset_at.Tie as tie
 
-two-at-requires : tie.Need-two-at-requires
-two-at-requires c κs = search needs
-
-add-result : tie.Need-add-result
-add-result c = search needs
-
 returns : tie.Need-returns
 unfolding offset
 returns c = omega arith
 
 pub offset-at-spec : {M : Type 1} → statement M
-offset-at-spec = tie.close (tie.spec two-at-requires add-result returns)
+offset-at-spec = tie.close (tie.spec (λ c κs. search needs) (λ c. search needs) returns)

@@ -6,17 +6,8 @@ use borrow.Author.Needs.{needs}
 use Rattle.decoding.proofs.record_of.Statement.{statement}
 use Rattle.decoding.proofs.record_of.Tie as tie
 
-enum-told : tie.Need-enum-told
-enum-told c = search needs
-
-enum-told-2 : tie.Need-enum-told-2
-enum-told-2 c = search needs
-
 four-at-requires : tie.Need-four-at-requires
 four-at-requires c κs = omega (arith, ap spanOf (c .enum-told2 .given .1))
-
-enum-told-3 : tie.Need-enum-told-3
-enum-told-3 c = search needs
 
 four-at-requires-2 : tie.Need-four-at-requires-2
 four-at-requires-2 c κs = omega (arith, ap spanOf (c .enum-told3 .given .1))
@@ -39,9 +30,6 @@ add-offset-at c = omega (arith, ap spanOf (c .before .before .before .enum-told3
 offset-at-requires : tie.Need-offset-at-requires
 offset-at-requires c κs = omega (arith, ap spanOf (c .before .before .before .enum-told3 .given .1))
 
-enum-told-4 : tie.Need-enum-told-4
-enum-told-4 c = search needs
-
 one-at-requires-2 : tie.Need-one-at-requires-2
 one-at-requires-2 c κs = omega (arith, ap spanOf (c .enum-told4 .given .1))
 
@@ -51,20 +39,11 @@ add-offset-at-2 c = omega (arith, ap spanOf (c .before .enum-told4 .given .1))
 offset-at-requires-2 : tie.Need-offset-at-requires-2
 offset-at-requires-2 c κs = omega (arith, ap spanOf (c .before .enum-told4 .given .1))
 
-enum-told-5 : tie.Need-enum-told-5
-enum-told-5 c = search needs
-
 four-at-requires-4 : tie.Need-four-at-requires-4
 four-at-requires-4 c κs = omega (arith, ap spanOf (c .enum-told5 .given .1))
 
-enum-told-6 : tie.Need-enum-told-6
-enum-told-6 c = search needs
-
 one-at-requires-3 : tie.Need-one-at-requires-3
 one-at-requires-3 c κs = omega (arith, ap spanOf (c .enum-told6 .given .1))
-
-enum-told-7 : tie.Need-enum-told-7
-enum-told-7 c = search needs
 
 returns : tie.Need-returns
 unfolding recordOf
@@ -96,32 +75,9 @@ returns-7 c = rw (c .enum-told7 .given .1)
 
 pub record-of-spec : {M : Type 1} → statement M
 record-of-spec =
-    tie.close
-    (tie.spec
-    enum-told
-    enum-told-2
-    four-at-requires
-    enum-told-3
-    four-at-requires-2
-    add-four-at
-    four-at-requires-3
-    add-one-at
-    one-at-requires
-    add-offset-at
-    offset-at-requires
-    enum-told-4
-    one-at-requires-2
-    add-offset-at-2
-    offset-at-requires-2
-    enum-told-5
-    four-at-requires-4
-    enum-told-6
-    one-at-requires-3
-    enum-told-7
-    returns
-    returns-2
-    returns-3
-    returns-4
-    returns-5
-    returns-6
-    returns-7)
+    tie.close (tie.spec
+      (λ c. search needs) (λ c. search needs) four-at-requires (λ c. search needs) four-at-requires-2 add-four-at
+      four-at-requires-3 add-one-at one-at-requires add-offset-at offset-at-requires (λ c. search needs)
+      one-at-requires-2 add-offset-at-2 offset-at-requires-2 (λ c. search needs) four-at-requires-4
+      (λ c. search needs) one-at-requires-3 (λ c. search needs) returns returns-2 returns-3 returns-4 returns-5
+      returns-6 returns-7)

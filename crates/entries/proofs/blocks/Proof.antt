@@ -7,12 +7,6 @@ use borrow.Author.Needs.{needs}
 use Rattle.entries.proofs.blocks.Statement.{statement}
 use Rattle.entries.proofs.blocks.Tie as tie
 
-plan-table-requires : tie.Need-plan-table-requires
-plan-table-requires c κs = search needs
-
-refusal-requires : tie.Need-refusal-requires
-refusal-requires c κs = search needs
-
 returns : tie.Need-returns
 unfolding blocksGiven
 returns c = let a = c .before .before .before .before .before .before .before .args in
@@ -25,9 +19,6 @@ give-blocks-requires c κs = let a = c .before .before .before .before .before .
     let m = c .before .before .before .plan-table .ensures .made (c .before .if1 .left) in
     blocks-ask _ _ (made-laid (now (a .s)) (settings (a .processors)) _ _ m)
 
-same-length : tie.Need-same-length
-same-length c = search needs
-
 returns-2 : tie.Need-returns-2
 unfolding blocksGiven
 returns-2 c = let a = c .before .before .before .before .before .before .before .before .before .before .args in
@@ -37,11 +28,5 @@ returns-2 c = let a = c .before .before .before .before .before .before .before 
 
 pub blocks-spec : {M : Type 1} → statement M
 blocks-spec =
-    tie.close
-    (tie.spec
-    plan-table-requires
-    refusal-requires
-    returns
-    give-blocks-requires
-    same-length
-    returns-2)
+    tie.close (tie.spec
+      (λ c κs. search needs) (λ c κs. search needs) returns give-blocks-requires (λ c. search needs) returns-2)

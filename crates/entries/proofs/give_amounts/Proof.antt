@@ -8,14 +8,8 @@ use borrow.Author.Needs.{needs}
 use Rattle.entries.proofs.give_amounts.Statement.{statement}
 use Rattle.entries.proofs.give_amounts.Tie as tie
 
-loops-in-requires : tie.Need-loops-in-requires
-loops-in-requires c κs = search needs
-
 mul-if1 : tie.Need-mul-if1
 mul-if1 c = omega (arith, c .loops-in .ensures, few-loops (c .before .before .pre))
-
-refusal-requires : tie.Need-refusal-requires
-refusal-requires c κs = search needs
 
 returns : tie.Need-returns
 returns c = let a = c .before .before .before .before .args in
@@ -23,17 +17,8 @@ returns c = let a = c .before .before .before .before .args in
     let size = amounts-size st (c .before .before .before .before .pre) _ (c .before .before .loops-in .ensures) in
     rw (c .refusal .ensures) (numbers-short (amountsOf (tableIn st)) (now (a .out)) _ size (c .before .if1 .taken))
 
-amounts-of-requires : tie.Need-amounts-of-requires
-amounts-of-requires c κs = search needs
-
 write-amounts-requires : tie.Need-write-amounts-requires
 write-amounts-requires c κs = omega (arith, c .before .before .before .loops-in .ensures, few-loops (c .before .before .before .before .before .pre))
-
-written-requires : tie.Need-written-requires
-written-requires c κs = search needs
-
-same-length : tie.Need-same-length
-same-length c = search needs
 
 returns-2 : tie.Need-returns-2
 returns-2 c = let a = c .before .before .before .before .before .before .before .before .before .args in
@@ -46,14 +31,6 @@ returns-2 c = let a = c .before .before .before .before .before .before .before 
 
 pub give-amounts-spec : {M : Type 1} → statement M
 give-amounts-spec =
-    tie.close
-    (tie.spec
-    loops-in-requires
-    mul-if1
-    refusal-requires
-    returns
-    amounts-of-requires
-    write-amounts-requires
-    written-requires
-    same-length
-    returns-2)
+    tie.close (tie.spec
+      (λ c κs. search needs) mul-if1 (λ c κs. search needs) returns (λ c κs. search needs) write-amounts-requires
+      (λ c κs. search needs) (λ c. search needs) returns-2)

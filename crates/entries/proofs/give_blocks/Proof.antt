@@ -6,29 +6,11 @@ use borrow.Author.Needs.{needs}
 use Rattle.entries.proofs.give_blocks.Statement.{statement}
 use Rattle.entries.proofs.give_blocks.Tie as tie
 
-wide-requires : tie.Need-wide-requires
-wide-requires c κs = search needs
-
-mul-if1 : tie.Need-mul-if1
-mul-if1 c = search needs
-
-refusal-requires : tie.Need-refusal-requires
-refusal-requires c κs = search needs
-
 returns : tie.Need-returns
 returns c = let a = c .before .before .before .before .args in
     let e = c .before .before .wide .ensures .0 in
     let xs = blocksOf (fusionIn (a .a)) in
     rw (c .refusal .ensures) (numbers-short xs (now (a .out)) _ (blocks-size (a .a)) (rw e at (c .before .if1 .taken)))
-
-write-blocks-requires : tie.Need-write-blocks-requires
-write-blocks-requires c κs = search needs
-
-written-requires : tie.Need-written-requires
-written-requires c κs = search needs
-
-same-length : tie.Need-same-length
-same-length c = search needs
 
 returns-2 : tie.Need-returns-2
 returns-2 c = let a = c .before .before .before .before .before .before .before .before .args in
@@ -38,13 +20,6 @@ returns-2 c = let a = c .before .before .before .before .before .before .before 
 
 pub give-blocks-spec : {M : Type 1} → statement M
 give-blocks-spec =
-    tie.close
-    (tie.spec
-    wide-requires
-    mul-if1
-    refusal-requires
-    returns
-    write-blocks-requires
-    written-requires
-    same-length
-    returns-2)
+    tie.close (tie.spec
+      (λ c κs. search needs) (λ c. search needs) (λ c κs. search needs) returns (λ c κs. search needs)
+      (λ c κs. search needs) (λ c. search needs) returns-2)

@@ -10,26 +10,11 @@ use borrow.Author.Needs.{needs}
 use Rattle.entries.proofs.give_list.Statement.{statement}
 use Rattle.entries.proofs.give_list.Tie as tie
 
-slice-aggregate-put-list : tie.Need-slice-aggregate-put-list
-slice-aggregate-put-list c = search needs
-
-put-list-requires : tie.Need-put-list-requires
-put-list-requires c κs = search needs
-
-mul-if1 : tie.Need-mul-if1
-mul-if1 c = search needs
-
-refusal-requires : tie.Need-refusal-requires
-refusal-requires c κs = search needs
-
 returns : tie.Need-returns
 returns c = let a = c .before .before .before .before .before .before .args in
     let l = work (tableIn (now (a .store))) (fusionIn (a .a)) (a .phase) (a .b) in
     let size = list-size _ l (c .before .before .before .put-list .ensures .0 .0) in
     rw (c .refusal .ensures) (numbers-short (pairsOf l) (now (a .out)) _ size (c .before .if1 .taken))
-
-loops-in-requires : tie.Need-loops-in-requires
-loops-in-requires c κs = search needs
 
 write-list-requires : tie.Need-write-list-requires
 write-list-requires c κs = let a = c .before .before .before .before .before .before .before .before .args in
@@ -39,12 +24,6 @@ write-list-requires c κs = let a = c .before .before .before .before .before .b
     let n = c .before .loops-in .ensures in
     let e = list-in (a .a) st (p .0) (a .phase) (a .b) _ 0 (q .1 .0) in
     (omega (arith, n, few-loops (p .0 .held)), rw n (list-fits (a .a) st (p .0) (a .phase) (a .b) (p .1) _ _ e (q .0)))
-
-written-requires : tie.Need-written-requires
-written-requires c κs = search needs
-
-same-length : tie.Need-same-length
-same-length c = search needs
 
 returns-2 : tie.Need-returns-2
 returns-2 c = let a = c .before .before .before .before .before .before .before .before .before .before .before .before .args in
@@ -58,15 +37,6 @@ returns-2 c = let a = c .before .before .before .before .before .before .before 
 
 pub give-list-spec : {M : Type 1} → statement M
 give-list-spec =
-    tie.close
-    (tie.spec
-    slice-aggregate-put-list
-    put-list-requires
-    mul-if1
-    refusal-requires
-    returns
-    loops-in-requires
-    write-list-requires
-    written-requires
-    same-length
-    returns-2)
+    tie.close (tie.spec
+      (λ c. search needs) (λ c κs. search needs) (λ c. search needs) (λ c κs. search needs) returns
+      (λ c κs. search needs) write-list-requires (λ c κs. search needs) (λ c. search needs) returns-2)

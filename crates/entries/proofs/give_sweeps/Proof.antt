@@ -9,25 +9,10 @@ use borrow.Author.Needs.{needs}
 use Rattle.entries.proofs.give_sweeps.Statement.{statement}
 use Rattle.entries.proofs.give_sweeps.Tie as tie
 
-refusal-requires : tie.Need-refusal-requires
-refusal-requires c κs = search needs
-
 returns : tie.Need-returns
 returns c = let a = c .before .before .before .args in
     let t = tableIn (now (a .store)) in
     rw (c .refusal .ensures) (numbers-short (before t ∷ after t ∷ []) (now (a .out)) _ (two-size (before t) (after t)) (c .before .if1 .taken))
-
-sweeps-of-requires : tie.Need-sweeps-of-requires
-sweeps-of-requires c κs = search needs
-
-put-pair-requires : tie.Need-put-pair-requires
-put-pair-requires c κs = search needs
-
-written-requires : tie.Need-written-requires
-written-requires c κs = search needs
-
-same-length : tie.Need-same-length
-same-length c = search needs
 
 returns-2 : tie.Need-returns-2
 unfolding sweeps
@@ -39,12 +24,6 @@ returns-2 c = let a = c .before .before .before .before .before .before .before 
 
 pub give-sweeps-spec : {M : Type 1} → statement M
 give-sweeps-spec =
-    tie.close
-    (tie.spec
-    refusal-requires
-    returns
-    sweeps-of-requires
-    put-pair-requires
-    written-requires
-    same-length
-    returns-2)
+    tie.close (tie.spec
+      (λ c κs. search needs) returns (λ c κs. search needs) (λ c κs. search needs) (λ c κs. search needs)
+      (λ c. search needs) returns-2)

@@ -8,33 +8,15 @@ use borrow.Author.Needs.{needs}
 use Rattle.entries.proofs.give_threshold.Statement.{statement}
 use Rattle.entries.proofs.give_threshold.Tie as tie
 
-refusal-requires : tie.Need-refusal-requires
-refusal-requires c κs = search needs
-
 returns : tie.Need-returns
 returns c = let a = c .before .before .before .args in
     let x = thresholdOf (tableIn (now (a .store))) in
     rw (c .refusal .ensures) (numbers-short (x ∷ []) (now (a .out)) _ (one-size x) (c .before .if1 .taken))
 
-amounts-of-requires : tie.Need-amounts-of-requires
-amounts-of-requires c κs = search needs
-
-threshold-of-requires : tie.Need-threshold-of-requires
-threshold-of-requires c κs = search needs
-
 narrow-requires : tie.Need-narrow-requires
 narrow-requires c κs = let p = c .before .before .before .before .pre in
     let m = c .before .amounts-of .ensures in
     threshold-fits (now (c .before .before .before .before .args .store)) _ _ (p .0) (m .0) (m .1) (p .1) _ (c .threshold-of .ensures)
-
-put-number-requires : tie.Need-put-number-requires
-put-number-requires c κs = search needs
-
-written-requires : tie.Need-written-requires
-written-requires c κs = search needs
-
-same-length : tie.Need-same-length
-same-length c = search needs
 
 returns-2 : tie.Need-returns-2
 returns-2 c = let a = c .before .before .before .before .before .before .before .before .before .before .args in
@@ -50,14 +32,6 @@ returns-2 c = let a = c .before .before .before .before .before .before .before 
 
 pub give-threshold-spec : {M : Type 1} → statement M
 give-threshold-spec =
-    tie.close
-    (tie.spec
-    refusal-requires
-    returns
-    amounts-of-requires
-    threshold-of-requires
-    narrow-requires
-    put-number-requires
-    written-requires
-    same-length
-    returns-2)
+    tie.close (tie.spec
+      (λ c κs. search needs) returns (λ c κs. search needs) (λ c κs. search needs) narrow-requires
+      (λ c κs. search needs) (λ c κs. search needs) (λ c. search needs) returns-2)

@@ -6,12 +6,6 @@ use borrow.Author.Needs.{needs}
 use Rattle.entries.proofs.list.Statement.{statement}
 use Rattle.entries.proofs.list.Tie as tie
 
-plan-for-requires : tie.Need-plan-for-requires
-plan-for-requires c κs = search needs
-
-refusal-requires : tie.Need-refusal-requires
-refusal-requires c κs = search needs
-
 returns : tie.Need-returns
 unfolding listGiven
 returns c = let a = c .before .before .before .before .before .before .before .args in
@@ -25,9 +19,6 @@ give-list-requires c κs = let a = c .before .before .before .before .before .be
     let m = c .before .before .before .before .plan-for .ensures .made (c .before .before .if1 .left) in
     named-laid (now (a .s)) (settings (a .processors)) (a .b) _ _ m
 
-same-length : tie.Need-same-length
-same-length c = search needs
-
 returns-2 : tie.Need-returns-2
 unfolding listGiven
 returns-2 c = let a = c .before .before .before .before .before .before .before .before .before .before .before .args in
@@ -38,11 +29,5 @@ returns-2 c = let a = c .before .before .before .before .before .before .before 
 
 pub list-spec : {M : Type 1} → statement M
 list-spec =
-    tie.close
-    (tie.spec
-    plan-for-requires
-    refusal-requires
-    returns
-    give-list-requires
-    same-length
-    returns-2)
+    tie.close (tie.spec
+      (λ c κs. search needs) (λ c κs. search needs) returns give-list-requires (λ c. search needs) returns-2)

@@ -6,12 +6,6 @@ use borrow.Author.Needs.{needs}
 use Rattle.entries.proofs.shifts_and_peels.Statement.{statement}
 use Rattle.entries.proofs.shifts_and_peels.Tie as tie
 
-read-through-requires : tie.Need-read-through-requires
-read-through-requires c κs = search needs
-
-refusal-requires : tie.Need-refusal-requires
-refusal-requires c κs = search needs
-
 returns : tie.Need-returns
 unfolding amounts
 returns c = let a = c .before .before .before .before .before .before .before .args in
@@ -20,9 +14,6 @@ returns c = let a = c .before .before .before .before .before .before .before .a
 
 give-amounts-requires : tie.Need-give-amounts-requires
 give-amounts-requires c κs = c .before .before .before .before .read-through .ensures .held (c .before .before .if1 .left) .1
-
-same-length : tie.Need-same-length
-same-length c = search needs
 
 returns-2 : tie.Need-returns-2
 unfolding amounts
@@ -33,11 +24,5 @@ returns-2 c = let a = c .before .before .before .before .before .before .before 
 
 pub shifts-and-peels-spec : {M : Type 1} → statement M
 shifts-and-peels-spec =
-    tie.close
-    (tie.spec
-    read-through-requires
-    refusal-requires
-    returns
-    give-amounts-requires
-    same-length
-    returns-2)
+    tie.close (tie.spec
+      (λ c κs. search needs) (λ c κs. search needs) returns give-amounts-requires (λ c. search needs) returns-2)

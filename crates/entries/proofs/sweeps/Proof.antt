@@ -8,12 +8,6 @@ use borrow.Author.Needs.{needs}
 use Rattle.entries.proofs.sweeps.Statement.{statement}
 use Rattle.entries.proofs.sweeps.Tie as tie
 
-read-through-requires : tie.Need-read-through-requires
-read-through-requires c κs = search needs
-
-refusal-requires : tie.Need-refusal-requires
-refusal-requires c κs = search needs
-
 returns : tie.Need-returns
 unfolding sweepsGiven
 returns c = let a = c .before .before .before .before .before .before .before .args in
@@ -22,9 +16,6 @@ returns c = let a = c .before .before .before .before .before .before .before .a
 
 give-sweeps-requires : tie.Need-give-sweeps-requires
 give-sweeps-requires c κs = c .before .before .before .before .read-through .ensures .held (c .before .before .if1 .left) .1
-
-same-length : tie.Need-same-length
-same-length c = search needs
 
 returns-2 : tie.Need-returns-2
 unfolding sweepsGiven
@@ -35,11 +26,5 @@ returns-2 c = let a = c .before .before .before .before .before .before .before 
 
 pub sweeps-spec : {M : Type 1} → statement M
 sweeps-spec =
-    tie.close
-    (tie.spec
-    read-through-requires
-    refusal-requires
-    returns
-    give-sweeps-requires
-    same-length
-    returns-2)
+    tie.close (tie.spec
+      (λ c κs. search needs) (λ c κs. search needs) returns give-sweeps-requires (λ c. search needs) returns-2)

@@ -9,12 +9,6 @@ use borrow.Author.Needs.{needs}
 use Rattle.entries.proofs.threshold.Statement.{statement}
 use Rattle.entries.proofs.threshold.Tie as tie
 
-read-through-requires : tie.Need-read-through-requires
-read-through-requires c κs = search needs
-
-refusal-requires : tie.Need-refusal-requires
-refusal-requires c κs = search needs
-
 returns : tie.Need-returns
 unfolding thresholds
 returns c = let a = c .before .before .before .before .before .before .before .args in
@@ -26,9 +20,6 @@ give-threshold-requires c κs = let h = c .before .before .before .before .read-
     let s = now (c .before .before .before .before .before .before .before .before .args .s) in
     (h .1, valid s _ (h .0))
 
-same-length : tie.Need-same-length
-same-length c = search needs
-
 returns-2 : tie.Need-returns-2
 unfolding thresholds
 returns-2 c = let a = c .before .before .before .before .before .before .before .before .before .before .before .args in
@@ -38,11 +29,5 @@ returns-2 c = let a = c .before .before .before .before .before .before .before 
 
 pub threshold-spec : {M : Type 1} → statement M
 threshold-spec =
-    tie.close
-    (tie.spec
-    read-through-requires
-    refusal-requires
-    returns
-    give-threshold-requires
-    same-length
-    returns-2)
+    tie.close (tie.spec
+      (λ c κs. search needs) (λ c κs. search needs) returns give-threshold-requires (λ c. search needs) returns-2)

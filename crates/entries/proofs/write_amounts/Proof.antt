@@ -48,18 +48,6 @@ returns c = rowed-end (c .before .loop .inv) (c .loop-test .left)
 
 pub write-amounts-spec : {M : Type 1} → statement M
 write-amounts-spec =
-    tie.close
-    (tie.spec
-    Inv-loop
-    μ-loop
-    loop-holds
-    mul-put-pair
-    element-copy-out-put-pair
-    mul-put-pair-2
-    element-copy-out-put-pair-2
-    put-pair-requires
-    add-k
-    loop-less
-    loop-again
-    same-length
-    returns)
+    tie.close (tie.spec
+      Inv-loop μ-loop loop-holds mul-put-pair element-copy-out-put-pair mul-put-pair-2 element-copy-out-put-pair-2
+      put-pair-requires add-k loop-less loop-again same-length returns)

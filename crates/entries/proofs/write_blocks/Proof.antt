@@ -37,14 +37,5 @@ returns c = rowed-end (c .before .before .loop .inv) (c .if1 .left)
 
 pub write-blocks-spec : {M : Type 1} → statement M
 write-blocks-spec =
-    tie.close
-    (tie.spec
-    Inv-loop
-    μ-loop
-    loop-holds
-    put-block-requires
-    add-b
-    loop-less
-    loop-again
-    same-length
-    returns)
+    tie.close (tie.spec
+      Inv-loop μ-loop loop-holds put-block-requires add-b loop-less loop-again same-length returns)

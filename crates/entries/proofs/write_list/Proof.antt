@@ -49,15 +49,6 @@ returns c = let a = c .before .before .before .args in
 
 pub write-list-spec : {M : Type 1} → statement M
 write-list-spec =
-    tie.close
-    (tie.spec
-    Inv-loop
-    μ-loop
-    loop-holds
-    nth-of-requires
-    put-iteration-requires
-    add-n
-    loop-less
-    loop-again
-    same-length
-    returns)
+    tie.close (tie.spec
+      Inv-loop μ-loop loop-holds nth-of-requires put-iteration-requires add-n loop-less loop-again same-length
+      returns)

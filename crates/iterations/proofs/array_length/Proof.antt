@@ -6,12 +6,6 @@ use borrow.Author.Needs.{needs}
 use Rattle.iterations.proofs.array_length.Statement.{statement}
 use Rattle.iterations.proofs.array_length.Tie as tie
 
-mul-result : tie.Need-mul-result
-mul-result c = search needs
-
-element-copy-out-result : tie.Need-element-copy-out-result
-element-copy-out-result c = search needs
-
 returns : tie.Need-returns
 returns c = sym (getD-take (c .before .before .args .arrays) (now (c .before .before .args .store)) (c .before .before .args .k) 0 (c .before .if1 .taken))
 
@@ -19,4 +13,4 @@ returns-2 : tie.Need-returns-2
 returns-2 c = untaken (c .before .args .arrays) (now (c .before .args .store)) (c .before .args .k) (c .if1 .left)
 
 pub array-length-spec : {M : Type 1} → statement M
-array-length-spec = tie.close (tie.spec mul-result element-copy-out-result returns returns-2)
+array-length-spec = tie.close (tie.spec (λ c. search needs) (λ c. search needs) returns returns-2)

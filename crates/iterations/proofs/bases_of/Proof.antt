@@ -14,14 +14,8 @@ Inv-loop store arrays firsts₀ next₀ k₀ firsts next k = Filled (tableIn sto
 abbrev μ-loop : tie.MeasureT-loop
 μ-loop store arrays firsts₀ next₀ k₀ firsts next k = 16 - k
 
-arrays-in-requires : tie.Need-arrays-in-requires Inv-loop μ-loop
-arrays-in-requires c κs = search needs
-
 loop-holds : tie.Need-loop-holds Inv-loop μ-loop
 loop-holds c = filled-start (tableIn (now (c .before .args .store)) .lengths) _ refl refl
-
-array-length-requires : tie.Need-array-length-requires Inv-loop μ-loop
-array-length-requires c κs = search needs
 
 add-next : tie.Need-add-next Inv-loop μ-loop
 add-next c =
@@ -31,20 +25,8 @@ add-next c =
     let most = filled-most (tableIn (now (b .before .args .store)) .lengths) (l .firsts) (l .next) (l .k) (l .inv) (c .before .loop-test .taken) (c .array-length .result) e in
     omega (arith, most, b .before .pre)
 
-add-firsts : tie.Need-add-firsts Inv-loop μ-loop
-add-firsts c = search needs
-
-mul-firsts : tie.Need-mul-firsts Inv-loop μ-loop
-mul-firsts c = search needs
-
 array-write-firsts : tie.Need-array-write-firsts Inv-loop μ-loop
 array-write-firsts c = omega (arith, c .before .before .loop .inv .long)
-
-add-k : tie.Need-add-k Inv-loop μ-loop
-add-k c = search needs
-
-loop-less : tie.Need-loop-less Inv-loop μ-loop
-loop-less c = omega arith
 
 loop-again : tie.Need-loop-again Inv-loop μ-loop
 loop-again c =
@@ -60,18 +42,6 @@ returns c =
 
 pub bases-of-spec : {M : Type 1} → statement M
 bases-of-spec =
-    tie.close
-    (tie.spec
-    Inv-loop
-    μ-loop
-    arrays-in-requires
-    loop-holds
-    array-length-requires
-    add-next
-    add-firsts
-    mul-firsts
-    array-write-firsts
-    add-k
-    loop-less
-    loop-again
-    returns)
+    tie.close (tie.spec
+      Inv-loop μ-loop (λ c κs. search needs) loop-holds (λ c κs. search needs) add-next (λ c. search needs)
+      (λ c. search needs) array-write-firsts (λ c. search needs) (λ c. omega arith) loop-again returns)

@@ -10,8 +10,5 @@ returns : tie.Need-returns
 unfolding div ofBits
 returns c = sym (differs-from-itself (c .before .args .x) (subst T (sym (c .if1 .taken)) tt))
 
-returns-2 : tie.Need-returns-2
-returns-2 c = search needs
-
 pub canonical-spec : {M : Type 1} → statement M
-canonical-spec = tie.close (tie.spec returns returns-2)
+canonical-spec = tie.close (tie.spec returns (λ c. search needs))

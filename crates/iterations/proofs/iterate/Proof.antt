@@ -6,15 +6,6 @@ use borrow.Author.Needs.{needs}
 use Rattle.iterations.proofs.iterate.Statement.{statement}
 use Rattle.iterations.proofs.iterate.Tie as tie
 
-start-at-requires : tie.Need-start-at-requires
-start-at-requires c κs = search needs
-
-add-start-at : tie.Need-add-start-at
-add-start-at c = search needs
-
-start-at-requires-2 : tie.Need-start-at-requires-2
-start-at-requires-2 c κs = search needs
-
 add-value-of : tie.Need-add-value-of
 add-value-of c = let a = c .before .before .before .args in
     let (t, l, h, e) = c .before .before .before .pre in
@@ -52,9 +43,6 @@ store-in-requires c κs =
           (destination-within t (now (a .store)) (now (a .bases)) l (a .number) (a .index) h (length (now (a .memory))) e),
     )
 
-same-length : tie.Need-same-length
-same-length c = search needs
-
 returns : tie.Need-returns
 returns c =
     let v = c .before .before .before .before in
@@ -67,15 +55,6 @@ returns c =
 
 pub iterate-spec : {M : Type 1} → statement M
 iterate-spec =
-    tie.close
-    (tie.spec
-    start-at-requires
-    add-start-at
-    start-at-requires-2
-    add-value-of
-    value-of-requires
-    array-at-requires
-    value-at-requires
-    store-in-requires
-    same-length
-    returns)
+    tie.close (tie.spec
+      (λ c κs. search needs) (λ c. search needs) (λ c κs. search needs) add-value-of value-of-requires
+      array-at-requires value-at-requires store-in-requires (λ c. search needs) returns)

@@ -6,39 +6,6 @@ use borrow.Author.Needs.{needs}
 use Rattle.iterations.proofs.store_in.Statement.{statement}
 use Rattle.iterations.proofs.store_in.Tie as tie
 
-mul-base : tie.Need-mul-base
-mul-base c = search needs
-
-element-copy-out-base : tie.Need-element-copy-out-base
-element-copy-out-base c = search needs
-
-cast-base : tie.Need-cast-base
-cast-base c = search needs
-
-add-at : tie.Need-add-at
-add-at c = search needs
-
-sub-at : tie.Need-sub-at
-sub-at c = search needs
-
-mul-store : tie.Need-mul-store
-mul-store c = search needs
-
-sub-store : tie.Need-sub-store
-sub-store c = search needs
-
-part-store-start : tie.Need-part-store-start
-part-store-start c = search needs
-
-part-store-end : tie.Need-part-store-end
-part-store-end c = search needs
-
-store-requires : tie.Need-store-requires
-store-requires c κs = search needs
-
-same-length : tie.Need-same-length
-same-length c = search needs
-
 returns : tie.Need-returns
 returns c =
     let s = c .before .before in
@@ -48,17 +15,7 @@ returns c =
 
 pub store-in-spec : {M : Type 1} → statement M
 store-in-spec =
-    tie.close
-    (tie.spec
-    mul-base
-    element-copy-out-base
-    cast-base
-    add-at
-    sub-at
-    mul-store
-    sub-store
-    part-store-start
-    part-store-end
-    store-requires
-    same-length
-    returns)
+    tie.close (tie.spec
+      (λ c. search needs) (λ c. search needs) (λ c. search needs) (λ c. search needs) (λ c. search needs)
+      (λ c. search needs) (λ c. search needs) (λ c. search needs) (λ c. search needs) (λ c κs. search needs)
+      (λ c. search needs) returns)

@@ -5,15 +5,6 @@ use borrow.Author.Needs.{needs}
 use Rattle.joining.proofs.join.Statement.{statement}
 use Rattle.joining.proofs.join.Tie as tie
 
-read-side-requires : tie.Need-read-side-requires
-read-side-requires c κs = search needs
-
-enum-known-r : tie.Need-enum-known-r
-enum-known-r c = search needs
-
-enum-told : tie.Need-enum-told
-enum-told c = search needs
-
 join-right-requires : tie.Need-join-right-requires
 join-right-requires c κs =
     let e = c .before .before in
@@ -28,20 +19,8 @@ returns c =
     let h = refused-side (now (a .left)) (d .read-side .last .1 .0) (d .read-side .result) (d .read-side .ensures) _ (c .before .r .given .1) in
     left-refused (now (a .left)) (now (a .right)) (now (a .out)) _ h
 
-same-length : tie.Need-same-length
-same-length c = search needs
-
-returns-2 : tie.Need-returns-2
-returns-2 c = search needs
-
 pub join-spec : {M : Type 1} → statement M
 join-spec =
-    tie.close
-    (tie.spec
-    read-side-requires
-    enum-known-r
-    enum-told
-    join-right-requires
-    returns
-    same-length
-    returns-2)
+    tie.close (tie.spec
+      (λ c κs. search needs) (λ c. search needs) (λ c. search needs) join-right-requires returns (λ c. search needs)
+      (λ c. search needs))

@@ -9,15 +9,6 @@ use borrow.Author.Needs.{needs}
 use Rattle.joining.proofs.join_right.Statement.{statement}
 use Rattle.joining.proofs.join_right.Tie as tie
 
-read-side-requires : tie.Need-read-side-requires
-read-side-requires c κs = search needs
-
-enum-known-r : tie.Need-enum-known-r
-enum-known-r c = search needs
-
-enum-told : tie.Need-enum-told
-enum-told c = search needs
-
 same-lengths-requires : tie.Need-same-lengths-requires
 same-lengths-requires c κs =
     let e = c .before in
@@ -26,12 +17,6 @@ same-lengths-requires c κs =
     let theirs = d .read-side .last .1 .0 in
     let h = accepted-side (now (b .args .right)) theirs (d .read-side .result) (d .read-side .ensures) (e .enum-told .given .1) in
     (b .pre .held, h .held)
-
-loops-in-requires : tie.Need-loops-in-requires
-loops-in-requires c κs = search needs
-
-loops-in-requires-2 : tie.Need-loops-in-requires-2
-loops-in-requires-2 c κs = search needs
 
 add-total : tie.Need-add-total
 add-total c =
@@ -43,9 +28,6 @@ add-total c =
     let h = accepted-side (now (b .args .right)) theirs (d .read-side .result) (d .read-side .ensures) (e .enum-told .given .1) in
     omega (arith, l .loops-in .ensures, c .loops-in2 .ensures, few-loops (b .pre .held), few-loops (h .held))
 
-refusal-requires : tie.Need-refusal-requires
-refusal-requires c κs = search needs
-
 returns : tie.Need-returns
 returns c =
     let g = c .before .before .before .before .before in
@@ -56,9 +38,6 @@ returns c =
     let h = accepted-side (now (b .args .right)) theirs (d .read-side .result) (d .read-side .ensures) (e .enum-told .given .1) in
     unlike-arrays (now (b .args .left)) (now (b .args .right)) (now (b .args .out)) (now (b .args .ours)) (b .pre) theirs h
     (c .refusal .result) (c .refusal .ensures) (sym (not-true _ (c .before .if1 .taken)) ∙ g .same-lengths .ensures)
-
-refusal-requires-2 : tie.Need-refusal-requires-2
-refusal-requires-2 c κs = search needs
 
 returns-2 : tie.Need-returns-2
 returns-2 c =
@@ -73,9 +52,6 @@ returns-2 c =
     many-loops (now (b .args .left)) (now (b .args .right)) (now (b .args .out)) (now (b .args .ours)) (b .pre) theirs h
     (sym (not-false _ (f .if1 .left)) ∙ g .same-lengths .ensures) (c .refusal2 .result) (c .refusal2 .ensures)
     (omega (arith, c .before .if2 .taken, l .loops-in .ensures, f .before .loops-in2 .ensures))
-
-arrays-in-requires : tie.Need-arrays-in-requires
-arrays-in-requires c κs = search needs
 
 write-requires : tie.Need-write-requires
 write-requires c κs =
@@ -97,9 +73,6 @@ returns-3 c =
     let h = refused-side (now (b .args .right)) (d .read-side .last .1 .0) (d .read-side .result) (d .read-side .ensures) _ (c .before .r .given .1) in
     right-refused (now (b .args .left)) (now (b .args .right)) (now (b .args .out)) (now (b .args .ours)) (b .pre) _ h
 
-same-length : tie.Need-same-length
-same-length c = search needs
-
 returns-4 : tie.Need-returns-4
 returns-4 c =
     let w = c .before .before in
@@ -119,21 +92,7 @@ returns-4 c =
 
 pub join-right-spec : {M : Type 1} → statement M
 join-right-spec =
-    tie.close
-    (tie.spec
-    read-side-requires
-    enum-known-r
-    enum-told
-    same-lengths-requires
-    loops-in-requires
-    loops-in-requires-2
-    add-total
-    refusal-requires
-    returns
-    refusal-requires-2
-    returns-2
-    arrays-in-requires
-    write-requires
-    returns-3
-    same-length
-    returns-4)
+    tie.close (tie.spec
+      (λ c κs. search needs) (λ c. search needs) (λ c. search needs) same-lengths-requires (λ c κs. search needs)
+      (λ c κs. search needs) add-total (λ c κs. search needs) returns (λ c κs. search needs) returns-2
+      (λ c κs. search needs) write-requires returns-3 (λ c. search needs) returns-4)

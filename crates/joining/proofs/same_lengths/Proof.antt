@@ -12,12 +12,6 @@ Inv-loop ours theirs n k₀ k = Inv ours theirs n k
 abbrev μ-loop : tie.MeasureT-loop
 μ-loop ours theirs n k₀ k = n - k
 
-arrays-in-requires : tie.Need-arrays-in-requires Inv-loop μ-loop
-arrays-in-requires c κs = search needs
-
-arrays-in-requires-2 : tie.Need-arrays-in-requires-2 Inv-loop μ-loop
-arrays-in-requires-2 c κs = search needs
-
 returns : tie.Need-returns Inv-loop μ-loop
 returns c =
     let m = c .before in
@@ -71,12 +65,6 @@ returns-2 c =
     differ (now (b .args .ours)) (now (b .args .theirs)) (b .pre) (n .arrays-in .result) (m .arrays-in2 .result) (n .arrays-in .ensures) (m .arrays-in2 .ensures)
     (s .if1 .left) (l .k) (l .inv) (t .loop-test .taken) (c .if2 .taken)
 
-add-k : tie.Need-add-k Inv-loop μ-loop
-add-k c = search needs
-
-loop-less : tie.Need-loop-less Inv-loop μ-loop
-loop-less c = omega arith
-
 loop-again : tie.Need-loop-again Inv-loop μ-loop
 loop-again c =
     let t = c .before .before .before in
@@ -100,20 +88,6 @@ returns-3 c =
 
 pub same-lengths-spec : {M : Type 1} → statement M
 same-lengths-spec =
-    tie.close
-    (tie.spec
-    Inv-loop
-    μ-loop
-    arrays-in-requires
-    arrays-in-requires-2
-    returns
-    loop-holds
-    mul-if2
-    element-copy-out-if2
-    mul-if2-2
-    element-copy-out-if2-2
-    returns-2
-    add-k
-    loop-less
-    loop-again
-    returns-3)
+    tie.close (tie.spec
+      Inv-loop μ-loop (λ c κs. search needs) (λ c κs. search needs) returns loop-holds mul-if2 element-copy-out-if2
+      mul-if2-2 element-copy-out-if2-2 returns-2 (λ c. search needs) (λ c. omega arith) loop-again returns-3)

@@ -9,21 +9,6 @@ use borrow.Author.Needs.{needs}
 use Rattle.joining.proofs.write.Statement.{statement}
 use Rattle.joining.proofs.write.Tie as tie
 
-sub-kept : tie.Need-sub-kept
-sub-kept c = search needs
-
-mul-skipped : tie.Need-mul-skipped
-mul-skipped c = search needs
-
-sub-count : tie.Need-sub-count
-sub-count c = search needs
-
-add-count : tie.Need-add-count
-add-count c = search needs
-
-refusal-requires : tie.Need-refusal-requires
-refusal-requires c κs = search needs
-
 returns : tie.Need-returns
 returns c =
     let b = c .before .before .before .before .before in
@@ -38,24 +23,6 @@ slice-aggregate-copy c = let a = c .before .before .before .before .before .args
 copy-requires : tie.Need-copy-requires
 copy-requires c κs = let a = c .before .before .before .before .before .before .args in
     omega (arith, c .before .before .if1 .left, length-take-le (length (now (a .left)) - 1) (now (a .left)) (omega arith))
-
-sub-copy : tie.Need-sub-copy
-sub-copy c = search needs
-
-part-copy-start : tie.Need-part-copy-start
-part-copy-start c = search needs
-
-part-copy-end : tie.Need-part-copy-end
-part-copy-end c = search needs
-
-copy-requires-2 : tie.Need-copy-requires-2
-copy-requires-2 c κs = search needs
-
-written-requires : tie.Need-written-requires
-written-requires c κs = search needs
-
-same-length : tie.Need-same-length
-same-length c = search needs
 
 returns-2 : tie.Need-returns-2
 returns-2 c =
@@ -72,20 +39,7 @@ returns-2 c =
 
 pub write-spec : {M : Type 1} → statement M
 write-spec =
-    tie.close
-    (tie.spec
-    sub-kept
-    mul-skipped
-    sub-count
-    add-count
-    refusal-requires
-    returns
-    slice-aggregate-copy
-    copy-requires
-    sub-copy
-    part-copy-start
-    part-copy-end
-    copy-requires-2
-    written-requires
-    same-length
-    returns-2)
+    tie.close (tie.spec
+      (λ c. search needs) (λ c. search needs) (λ c. search needs) (λ c. search needs) (λ c κs. search needs) returns
+      slice-aggregate-copy copy-requires (λ c. search needs) (λ c. search needs) (λ c. search needs)
+      (λ c κs. search needs) (λ c κs. search needs) (λ c. search needs) returns-2)

@@ -58,16 +58,6 @@ returns c = let l = c .before .before .loop in
 
 pub put-all-lists-spec : {M : Type 1} → statement M
 put-all-lists-spec =
-    tie.close
-    (tie.spec
-    Inv-loop
-    μ-loop
-    loop-holds
-    wide-requires
-    mul-put-lists
-    put-lists-requires
-    add-b
-    loop-less
-    loop-again
-    same-length
-    returns)
+    tie.close (tie.spec
+      Inv-loop μ-loop loop-holds wide-requires mul-put-lists put-lists-requires add-b loop-less loop-again
+      same-length returns)

@@ -5,30 +5,6 @@ use borrow.Author.Needs.{needs}
 use Rattle.layouts.proofs.put_end.Statement.{statement}
 use Rattle.layouts.proofs.put_end.Tie as tie
 
-lengths-of-requires : tie.Need-lengths-of-requires
-lengths-of-requires c κs = search needs
-
-wide-requires : tie.Need-wide-requires
-wide-requires c κs = search needs
-
-mul-ends : tie.Need-mul-ends
-mul-ends c = search needs
-
-element-write-ends : tie.Need-element-write-ends
-element-write-ends c = search needs
-
-add-ends : tie.Need-add-ends
-add-ends c = search needs
-
-add-ends-2 : tie.Need-add-ends-2
-add-ends-2 c = search needs
-
-mul-ends-2 : tie.Need-mul-ends-2
-mul-ends-2 c = search needs
-
-element-write-ends-2 : tie.Need-element-write-ends-2
-element-write-ends-2 c = search needs
-
 returns : tie.Need-returns
 returns c = let a = c .before .before .before .args in
     λ x h y.
@@ -37,14 +13,6 @@ returns c = let a = c .before .before .before .args in
 
 pub put-end-spec : {M : Type 1} → statement M
 put-end-spec =
-    tie.close
-    (tie.spec
-    lengths-of-requires
-    wide-requires
-    mul-ends
-    element-write-ends
-    add-ends
-    add-ends-2
-    mul-ends-2
-    element-write-ends-2
-    returns)
+    tie.close (tie.spec
+      (λ c κs. search needs) (λ c κs. search needs) (λ c. search needs) (λ c. search needs) (λ c. search needs)
+      (λ c. search needs) (λ c. search needs) (λ c. search needs) returns)

@@ -56,14 +56,5 @@ returns c = let a = c .before .before .before .before .before .args in
 
 pub put-ends-spec : {M : Type 1} → statement M
 put-ends-spec =
-    tie.close
-    (tie.spec
-    Inv-loop
-    μ-loop
-    loop-holds
-    block-of-requires
-    put-end-requires
-    add-b
-    loop-less
-    loop-again
-    returns)
+    tie.close (tie.spec
+      Inv-loop μ-loop loop-holds block-of-requires put-end-requires add-b loop-less loop-again returns)

@@ -5,18 +5,6 @@ use borrow.Author.Needs.{needs}
 use Rattle.layouts.proofs.put_lists.Statement.{statement}
 use Rattle.layouts.proofs.put_lists.Tie as tie
 
-add-later : tie.Need-add-later
-add-later c = search needs
-
-put-list-requires : tie.Need-put-list-requires
-put-list-requires c κs = search needs
-
-put-list-requires-2 : tie.Need-put-list-requires-2
-put-list-requires-2 c κs = search needs
-
-same-length : tie.Need-same-length
-same-length c = search needs
-
 returns : tie.Need-returns
 returns c = let a = c .before .before .before .before .before .before .before .before .before .args in
     let p = c .before .before .before .before .before .before .before .before .before .pre in
@@ -26,4 +14,5 @@ returns c = let a = c .before .before .before .before .before .before .before .b
 
 pub put-lists-spec : {M : Type 1} → statement M
 put-lists-spec =
-    tie.close (tie.spec add-later put-list-requires put-list-requires-2 same-length returns)
+    tie.close (tie.spec
+      (λ c. search needs) (λ c κs. search needs) (λ c κs. search needs) (λ c. search needs) returns)

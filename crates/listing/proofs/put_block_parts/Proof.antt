@@ -22,9 +22,6 @@ block-of-requires c κs = let a = c .before .args in
     let p = c .before .pre in
     (p .1, omega (arith, span-fits (a .a) (now (a .store)) (p .2)))
 
-loops-in-requires : tie.Need-loops-in-requires Inv-loop μ-loop
-loops-in-requires c κs = search needs
-
 loop-holds : tie.Need-loop-holds Inv-loop μ-loop
 loop-holds c = lines-start
 
@@ -64,16 +61,6 @@ returns c = let a = c .before .before .before .before .before .args in
 
 pub put-block-parts-spec : {M : Type 1} → statement M
 put-block-parts-spec =
-    tie.close
-    (tie.spec
-    Inv-loop
-    μ-loop
-    block-of-requires
-    loops-in-requires
-    loop-holds
-    put-part-requires
-    add-k
-    loop-less
-    loop-again
-    same-length
-    returns)
+    tie.close (tie.spec
+      Inv-loop μ-loop block-of-requires (λ c κs. search needs) loop-holds put-part-requires add-k loop-less
+      loop-again same-length returns)

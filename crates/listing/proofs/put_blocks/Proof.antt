@@ -42,14 +42,5 @@ returns c = let p = c .before .before .before .before .pre in
 
 pub put-blocks-spec : {M : Type 1} → statement M
 put-blocks-spec =
-    tie.close
-    (tie.spec
-    Inv-loop
-    μ-loop
-    loop-holds
-    put-block-requires
-    add-b
-    loop-less
-    loop-again
-    same-length
-    returns)
+    tie.close (tie.spec
+      Inv-loop μ-loop loop-holds put-block-requires add-b loop-less loop-again same-length returns)

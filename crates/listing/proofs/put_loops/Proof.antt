@@ -17,9 +17,6 @@ Inv-loop out₀ at store a loops next₀ k₀ out next k =
 abbrev μ-loop : tie.MeasureT-loop
 μ-loop out₀ at store a loops next₀ k₀ out next k = loops - k
 
-loops-in-requires : tie.Need-loops-in-requires Inv-loop μ-loop
-loops-in-requires c κs = search needs
-
 loop-holds : tie.Need-loop-holds Inv-loop μ-loop
 loop-holds c = lines-start
 
@@ -75,19 +72,6 @@ returns c = let a = c .before .before .before .before .args in
 
 pub put-loops-spec : {M : Type 1} → statement M
 put-loops-spec =
-    tie.close
-    (tie.spec
-    Inv-loop
-    μ-loop
-    loops-in-requires
-    loop-holds
-    mul-put-loop
-    element-copy-out-put-loop
-    mul-put-loop-2
-    element-copy-out-put-loop-2
-    put-loop-requires
-    add-k
-    loop-less
-    loop-again
-    same-length
-    returns)
+    tie.close (tie.spec
+      Inv-loop μ-loop (λ c κs. search needs) loop-holds mul-put-loop element-copy-out-put-loop mul-put-loop-2
+      element-copy-out-put-loop-2 put-loop-requires add-k loop-less loop-again same-length returns)

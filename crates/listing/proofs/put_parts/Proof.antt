@@ -48,14 +48,5 @@ returns c = let a = c .before .before .before .before .args in
 
 pub put-parts-spec : {M : Type 1} → statement M
 put-parts-spec =
-    tie.close
-    (tie.spec
-    Inv-loop
-    μ-loop
-    loop-holds
-    put-block-parts-requires
-    add-b
-    loop-less
-    loop-again
-    same-length
-    returns)
+    tie.close (tie.spec
+      Inv-loop μ-loop loop-holds put-block-parts-requires add-b loop-less loop-again same-length returns)

@@ -29,9 +29,6 @@ put-parts-requires-2 c κs = let p = past-most 0 (le-refl 0) (c .before .before 
     let r = past-most 8000 q (c .before .before .before .put-parts .ensures) in
     (lt-of-le-of-lt r (lit< tt), c .before .before .before .before .before .before .before .before .before .before .before .before .before .before .pre)
 
-slice-aggregate-put-line-of-two : tie.Need-slice-aggregate-put-line-of-two
-slice-aggregate-put-line-of-two c = refl
-
 put-line-of-two-requires : tie.Need-put-line-of-two-requires
 put-line-of-two-requires c κs = let l = c .before .before .before .before .before .before .before .before .before .before .before .before .before .before .before .before .put-loops .ensures in
     let p = past-most 0 (le-refl 0) l in
@@ -60,13 +57,6 @@ returns c = let d = c .before .before .before .before .before .before .before in
 
 pub write-listing-spec : {M : Type 1} → statement M
 write-listing-spec =
-    tie.close
-    (tie.spec
-    put-loops-requires
-    put-blocks-requires
-    put-parts-requires
-    put-parts-requires-2
-    slice-aggregate-put-line-of-two
-    put-line-of-two-requires
-    same-length
-    returns)
+    tie.close (tie.spec
+      put-loops-requires put-blocks-requires put-parts-requires put-parts-requires-2 (λ c. refl)
+      put-line-of-two-requires same-length returns)

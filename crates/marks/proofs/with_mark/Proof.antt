@@ -11,12 +11,6 @@ use borrow.Author.Needs.{needs}
 use Rattle.marks.proofs.with_mark.Statement.{statement}
 use Rattle.marks.proofs.with_mark.Tie as tie
 
-cast-result : tie.Need-cast-result
-cast-result c = search needs
-
-shl-result : tie.Need-shl-result
-shl-result c = search needs
-
 returns : tie.Need-returns
 returns c p =
     let m = c .args .m in
@@ -25,4 +19,4 @@ returns c p =
     marked-or m (1 * 2 ^ q % 65536) p ∙ ap (λ (b : Bool). marked m p || b) (ap (λ (n : ℕ). marked n p) shifted ∙ marked-one q p)
 
 pub with-mark-spec : {M : Type 1} → statement M
-with-mark-spec = tie.close (tie.spec cast-result shl-result returns)
+with-mark-spec = tie.close (tie.spec (λ c. search needs) (λ c. search needs) returns)

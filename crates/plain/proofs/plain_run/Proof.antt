@@ -4,9 +4,6 @@ use borrow.Author.Needs.{needs}
 use Rattle.plain.proofs.plain_run.Statement.{statement}
 use Rattle.plain.proofs.plain_run.Tie as tie
 
-read-through-requires : tie.Need-read-through-requires
-read-through-requires c κs = search needs
-
 returns : tie.Need-returns
 returns c =
     let d = c .before .before in
@@ -20,9 +17,6 @@ run-table-requires c κs =
     let a = d .before .before .before .before .args in
     run-held (now (a .s)) (d .read-through .last .1 .0) (d .read-through .result) (d .read-through .ensures) (now (a .memory)) (i .if1 .left)
 
-same-length : tie.Need-same-length
-same-length c = search needs
-
 returns-2 : tie.Need-returns-2
 returns-2 c =
     let r = c .before .before in
@@ -33,4 +27,6 @@ returns-2 c =
     _ _ (r .run-table .ensures .0) (r .run-table .ensures .1)
 
 pub plain-run-spec : {M : Type 1} → statement M
-plain-run-spec = tie.close (tie.spec read-through-requires returns run-table-requires same-length returns-2)
+plain-run-spec =
+    tie.close (tie.spec
+      (λ c κs. search needs) returns run-table-requires (λ c. search needs) returns-2)

@@ -17,16 +17,10 @@ last-at-requires c κs =
     let b = c .before in
     loop-small (now (b .args .store)) (now (b .args .bases)) (now (b .args .memory)) (b .args .number) (b .pre .0) (b .pre .1) .0
 
-cast-last : tie.Need-cast-last Inv-loop μ-loop
-cast-last c = search needs
-
 first-at-requires : tie.Need-first-at-requires Inv-loop μ-loop
 first-at-requires c κs =
     let b = c .before .before in
     loop-small (now (b .args .store)) (now (b .args .bases)) (now (b .args .memory)) (b .args .number) (b .pre .0) (b .pre .1) .0
-
-cast-i : tie.Need-cast-i Inv-loop μ-loop
-cast-i c = search needs
 
 loop-holds : tie.Need-loop-holds Inv-loop μ-loop
 loop-holds c =
@@ -40,9 +34,6 @@ iterate-requires c κs =
     let b = d .before .before in
     loop-asks (now (b .args .store)) (now (b .args .bases)) (now (b .args .memory)) (b .args .number) (b .pre .0) (b .pre .1) (l .i) (l .memory) (l .inv)
     (omega (arith, c .before .loop-test .taken, d .last-at .ensures))
-
-add-i : tie.Need-add-i Inv-loop μ-loop
-add-i c = search needs
 
 loop-less : tie.Need-loop-less Inv-loop μ-loop
 loop-less c = omega (arith, c .before .before .before .before .loop-test .taken)
@@ -69,18 +60,6 @@ returns c =
 
 pub run-loop-spec : {M : Type 1} → statement M
 run-loop-spec =
-    tie.close
-    (tie.spec
-    Inv-loop
-    μ-loop
-    last-at-requires
-    cast-last
-    first-at-requires
-    cast-i
-    loop-holds
-    iterate-requires
-    add-i
-    loop-less
-    loop-again
-    same-length
-    returns)
+    tie.close (tie.spec
+      Inv-loop μ-loop last-at-requires (λ c. search needs) first-at-requires (λ c. search needs) loop-holds
+      iterate-requires (λ c. search needs) loop-less loop-again same-length returns)

@@ -12,9 +12,6 @@ Inv-loop store bases memory₀ loops k₀ memory k = LoopsLeft store bases memor
 abbrev μ-loop : tie.MeasureT-loop
 μ-loop store bases memory₀ loops k₀ memory k = loops - k
 
-loops-in-requires : tie.Need-loops-in-requires Inv-loop μ-loop
-loops-in-requires c κs = search needs
-
 loop-holds : tie.Need-loop-holds Inv-loop μ-loop
 loop-holds c =
     let a = c .before .before .args in
@@ -27,12 +24,6 @@ run-loop-requires c κs =
     let b = n .before .before in
     loops-asks (now (b .args .store)) (now (b .args .bases)) (now (b .args .memory)) (n .loops-in .result) (b .pre) (n .loops-in .ensures)
     (l .k) (l .memory) (l .inv) (c .before .loop-test .taken)
-
-add-k : tie.Need-add-k Inv-loop μ-loop
-add-k c = search needs
-
-loop-less : tie.Need-loop-less Inv-loop μ-loop
-loop-less c = omega arith
 
 loop-again : tie.Need-loop-again Inv-loop μ-loop
 loop-again c =
@@ -56,15 +47,6 @@ returns c =
 
 pub run-loops-spec : {M : Type 1} → statement M
 run-loops-spec =
-    tie.close
-    (tie.spec
-    Inv-loop
-    μ-loop
-    loops-in-requires
-    loop-holds
-    run-loop-requires
-    add-k
-    loop-less
-    loop-again
-    same-length
-    returns)
+    tie.close (tie.spec
+      Inv-loop μ-loop (λ c κs. search needs) loop-holds run-loop-requires (λ c. search needs) (λ c. omega arith)
+      loop-again same-length returns)

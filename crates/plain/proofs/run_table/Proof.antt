@@ -4,15 +4,6 @@ use borrow.Author.Needs.{needs}
 use Rattle.plain.proofs.run_table.Statement.{statement}
 use Rattle.plain.proofs.run_table.Tie as tie
 
-bases-of-requires : tie.Need-bases-of-requires
-bases-of-requires c κs = search needs
-
-array-read-if1 : tie.Need-array-read-if1
-array-read-if1 c = search needs
-
-cast-if1 : tie.Need-cast-if1
-cast-if1 c = search needs
-
 returns : tie.Need-returns
 returns c =
     let d = c .before .before in
@@ -25,9 +16,6 @@ run-loops-requires c κs =
     let b = d .before .before in
     held-asks (now (b .args .store)) (b .pre) (d .bases-of .result .firsts) (d .bases-of .ensures) (now (b .args .memory)) (c .before .before .if1 .left)
 
-same-length : tie.Need-same-length
-same-length c = search needs
-
 returns-2 : tie.Need-returns-2
 returns-2 c =
     let i = c .before .before .before .before .before in
@@ -38,12 +26,6 @@ returns-2 c =
 
 pub run-table-spec : {M : Type 1} → statement M
 run-table-spec =
-    tie.close
-    (tie.spec
-    bases-of-requires
-    array-read-if1
-    cast-if1
-    returns
-    run-loops-requires
-    same-length
-    returns-2)
+    tie.close (tie.spec
+      (λ c κs. search needs) (λ c. search needs) (λ c. search needs) returns run-loops-requires (λ c. search needs)
+      returns-2)

@@ -5,25 +5,10 @@ use borrow.Author.Needs.{needs}
 use Rattle.plans.proofs.plan_read.Statement.{statement}
 use Rattle.plans.proofs.plan_read.Tie as tie
 
-amounts-of-requires : tie.Need-amounts-of-requires
-amounts-of-requires c κs = search needs
-
-span-of-requires : tie.Need-span-of-requires
-span-of-requires c κs = search needs
-
-threshold-of-requires : tie.Need-threshold-of-requires
-threshold-of-requires c κs = search needs
-
 cast-threshold : tie.Need-cast-threshold
 cast-threshold c = let p = c .before .before .before .pre in
     let a = c .before .before .amounts-of in
     omega (arith, threshold-fits (c .before .before .before .args .processors) (now (c .before .before .before .args .store)) (p .0) (p .1) (a .result) (a .ensures .0) (a .ensures .1) (c .threshold-of .result) (c .threshold-of .ensures))
-
-short-requires : tie.Need-short-requires
-short-requires c κs = search needs
-
-refusal-requires : tie.Need-refusal-requires
-refusal-requires c κs = search needs
 
 returns : tie.Need-returns
 returns c = let p = c .before .before .before .before .before .before .pre in
@@ -38,13 +23,6 @@ returns-2 c = let p = c .before .before .before .before .before .before .before 
 
 pub plan-read-spec : {M : Type 1} → statement M
 plan-read-spec =
-    tie.close
-    (tie.spec
-    amounts-of-requires
-    span-of-requires
-    threshold-of-requires
-    cast-threshold
-    short-requires
-    refusal-requires
-    returns
-    returns-2)
+    tie.close (tie.spec
+      (λ c κs. search needs) (λ c κs. search needs) (λ c κs. search needs) cast-threshold (λ c κs. search needs)
+      (λ c κs. search needs) returns returns-2)

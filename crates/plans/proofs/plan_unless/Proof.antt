@@ -4,19 +4,10 @@ use borrow.Author.Needs.{needs}
 use Rattle.plans.proofs.plan_unless.Statement.{statement}
 use Rattle.plans.proofs.plan_unless.Tie as tie
 
-read-through-requires : tie.Need-read-through-requires
-read-through-requires c κs = search needs
-
-refusal-requires : tie.Need-refusal-requires
-refusal-requires c κs = search needs
-
 returns : tie.Need-returns
 returns c = let a = c .before .before .before .before .before .before .args in
     let x = c .before .before .before .read-through in
     rw (c .refusal .ensures) (plans-refused (now (a .s)) (a .wrong) (a .processors) (x .result) (x .last .1 .0) (x .ensures) (c .before .if1 .taken))
-
-refusal-requires-2 : tie.Need-refusal-requires-2
-refusal-requires-2 c κs = search needs
 
 returns-2 : tie.Need-returns-2
 returns-2 c = let a = c .before .before .before .before .before .before .before .args in
@@ -35,12 +26,6 @@ returns-3 c = let a = c .before .before .before .before .before .before .before 
 
 pub plan-unless-spec : {M : Type 1} → statement M
 plan-unless-spec =
-    tie.close
-    (tie.spec
-    read-through-requires
-    refusal-requires
-    returns
-    refusal-requires-2
-    returns-2
-    plan-read-requires
-    returns-3)
+    tie.close (tie.spec
+      (λ c κs. search needs) (λ c κs. search needs) returns (λ c κs. search needs) returns-2 plan-read-requires
+      returns-3)

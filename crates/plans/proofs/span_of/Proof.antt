@@ -18,12 +18,6 @@ Inv-loop store loops low₀ high₀ k₀ low high k =
 abbrev μ-loop : tie.MeasureT-loop
 μ-loop store loops low₀ high₀ k₀ low high k = loops - k
 
-loops-in-requires : tie.Need-loops-in-requires Inv-loop μ-loop
-loops-in-requires c κs = search needs
-
-first-at-requires : tie.Need-first-at-requires Inv-loop μ-loop
-first-at-requires c κs = omega arith
-
 loop-holds : tie.Need-loop-holds Inv-loop μ-loop
 loop-holds c = (omega arith, c .first-at .ensures, refl, omega arith)
 
@@ -42,9 +36,6 @@ greater-requires c κs = tt
 add-k : tie.Need-add-k Inv-loop μ-loop
 add-k c = omega (arith, few-loops (c .before .before .before .before .before .before .before .before .pre .0))
 
-loop-less : tie.Need-loop-less Inv-loop μ-loop
-loop-less c = omega arith
-
 loop-again : tie.Need-loop-again Inv-loop μ-loop
 loop-again c =
     let st = now (c .before .before .before .before .before .before .before .before .args .store) in
@@ -56,9 +47,6 @@ loop-again c =
       c .greater .ensures ∙ largest-next _ (lastAt st) _ _ (l .inv .2) (c .before .last-at .ensures),
       e,
     )
-
-add-minus : tie.Need-add-minus Inv-loop μ-loop
-add-minus c = omega arith
 
 minus-requires : tie.Need-minus-requires Inv-loop μ-loop
 minus-requires c κs = tt
@@ -72,20 +60,7 @@ returns c =
 
 pub span-of-spec : {M : Type 1} → statement M
 span-of-spec =
-    tie.close
-    (tie.spec
-    Inv-loop
-    μ-loop
-    loops-in-requires
-    first-at-requires
-    loop-holds
-    first-at-requires-2
-    lesser-requires
-    last-at-requires
-    greater-requires
-    add-k
-    loop-less
-    loop-again
-    add-minus
-    minus-requires
-    returns)
+    tie.close (tie.spec
+      Inv-loop μ-loop (λ c κs. search needs) (λ c κs. omega arith) loop-holds first-at-requires-2 lesser-requires
+      last-at-requires greater-requires add-k (λ c. omega arith) loop-again (λ c. omega arith) minus-requires
+      returns)

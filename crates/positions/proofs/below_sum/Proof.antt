@@ -26,12 +26,6 @@ weighted-at-requires c κs = (c .before .before .before .before .before .before 
 add-sum : tie.Need-add-sum Inv-loop μ-loop
 add-sum c = omega (arith, c .before .before .before .before .before .before .before .pre .loops)
 
-add-k : tie.Need-add-k Inv-loop μ-loop
-add-k c = omega arith
-
-loop-less : tie.Need-loop-less Inv-loop μ-loop
-loop-less c = omega arith
-
 loop-again : tie.Need-loop-again Inv-loop μ-loop
 loop-again c =
     let a = c .before .before .before .before .before .before .before .args in
@@ -48,14 +42,6 @@ returns c =
 
 pub below-sum-spec : {M : Type 1} → statement M
 below-sum-spec =
-    tie.close
-    (tie.spec
-    Inv-loop
-    μ-loop
-    loop-holds
-    weighted-at-requires
-    add-sum
-    add-k
-    loop-less
-    loop-again
-    returns)
+    tie.close (tie.spec
+      Inv-loop μ-loop loop-holds weighted-at-requires add-sum (λ c. omega arith) (λ c. omega arith) loop-again
+      returns)

@@ -10,20 +10,11 @@ use Rattle.positions.proofs.extended.Tie as tie
 returns : tie.Need-returns
 returns c = let a = c .before .args in extended-none (a .l) (record { from = a .f; past = a .p }) (a .s) (a .w) (c .if1 .taken)
 
-add-start : tie.Need-add-start
-add-start c = omega arith
-
 larger-requires : tie.Need-larger-requires
 larger-requires c κs = tt
 
-add-smaller : tie.Need-add-smaller
-add-smaller c = omega arith
-
 smaller-requires : tie.Need-smaller-requires
 smaller-requires c κs = tt
-
-add-t14 : tie.Need-add-t14
-add-t14 c = omega arith
 
 mul-t15 : tie.Need-mul-t15
 mul-t15 c = let a = c .before .before .before .before .args in omega (arith, weight-product (a .w) (a .f + a .s) (2 ^ 33) (c .before .before .before .before .pre .0) (omega arith))
@@ -38,14 +29,6 @@ returns-2 c =
 
 pub extended-spec : {M : Type 1} → statement M
 extended-spec =
-    tie.close
-    (tie.spec
-    returns
-    add-start
-    larger-requires
-    add-smaller
-    smaller-requires
-    add-t14
-    mul-t15
-    add-t16
-    returns-2)
+    tie.close (tie.spec
+      returns (λ c. omega arith) larger-requires (λ c. omega arith) smaller-requires (λ c. omega arith) mul-t15
+      add-t16 returns-2)

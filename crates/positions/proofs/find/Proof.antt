@@ -32,9 +32,6 @@ loop-holds c =
       omega arith,
     )
 
-add-if1 : tie.Need-add-if1 Inv-loop μ-loop
-add-if1 c = omega arith
-
 narrow-requires : tie.Need-narrow-requires Inv-loop μ-loop
 narrow-requires c κs = (c .before .before .before .before .before .before .before .before .pre .0, (c .before .before .before .loop .inv .0, c .if1 .taken))
 
@@ -44,9 +41,6 @@ loop-less c = c .narrow .ensures .1
 loop-again : tie.Need-loop-again Inv-loop μ-loop
 loop-again c = (c .narrow .ensures .0, omega (arith, c .narrow .ensures .2, c .before .before .before .before .loop .inv .1))
 
-sub-t11 : tie.Need-sub-t11 Inv-loop μ-loop
-sub-t11 c = omega arith
-
 returns : tie.Need-returns Inv-loop μ-loop
 returns c =
     let l = c .before .before .before .before .loop in
@@ -55,14 +49,5 @@ returns c =
 
 pub find-spec : {M : Type 1} → statement M
 find-spec =
-    tie.close
-    (tie.spec
-    Inv-loop
-    μ-loop
-    loop-holds
-    add-if1
-    narrow-requires
-    loop-less
-    loop-again
-    sub-t11
-    returns)
+    tie.close (tie.spec
+      Inv-loop μ-loop loop-holds (λ c. omega arith) narrow-requires loop-less loop-again (λ c. omega arith) returns)

@@ -5,9 +5,6 @@ use borrow.Author.Needs.{needs}
 use Rattle.positions.proofs.fused_nth.Statement.{statement}
 use Rattle.positions.proofs.fused_nth.Tie as tie
 
-slice-aggregate-position-of : tie.Need-slice-aggregate-position-of
-slice-aggregate-position-of c = search needs
-
 position-of-requires : tie.Need-position-of-requires
 position-of-requires c κs =
     let a = c .before .before .before .before .args in
@@ -16,9 +13,6 @@ position-of-requires c κs =
       ones-below (now (a .froms)) (now (a .pasts)) (now (a .shifts)) (p .0 .0) (a .n) (p .1),
     )
 
-nth-at-sum-requires : tie.Need-nth-at-sum-requires
-nth-at-sum-requires c κs = search needs
-
 returns : tie.Need-returns
 returns c =
     let a = c .before .before .before .before .before .before .args in
@@ -26,6 +20,4 @@ returns c =
     ones-found (now (a .froms)) (now (a .pasts)) (now (a .shifts)) (c .before .before .before .before .before .before .pre .0 .0) (a .n) (p .result) (c .nth-at-sum .result) (p .ensures) (c .nth-at-sum .ensures)
 
 pub fused-nth-spec : {M : Type 1} → statement M
-fused-nth-spec =
-    tie.close
-    (tie.spec slice-aggregate-position-of position-of-requires nth-at-sum-requires returns)
+fused-nth-spec = tie.close (tie.spec (λ c. search needs) position-of-requires (λ c κs. search needs) returns)

@@ -19,38 +19,8 @@ abbrev μ-loop : tie.MeasureT-loop
 loop-holds : tie.Need-loop-holds Inv-loop μ-loop
 loop-holds c = (omega arith, omega arith, omega arith, λ t g h. omega arith)
 
-mul-extended : tie.Need-mul-extended Inv-loop μ-loop
-mul-extended c = omega arith
-
-shared-slice-read-extended : tie.Need-shared-slice-read-extended Inv-loop μ-loop
-shared-slice-read-extended c = omega arith
-
-mul-extended-2 : tie.Need-mul-extended-2 Inv-loop μ-loop
-mul-extended-2 c = omega arith
-
-shared-slice-read-extended-2 : tie.Need-shared-slice-read-extended-2 Inv-loop μ-loop
-shared-slice-read-extended-2 c = omega arith
-
-mul-extended-3 : tie.Need-mul-extended-3 Inv-loop μ-loop
-mul-extended-3 c = omega arith
-
-shared-slice-read-extended-3 : tie.Need-shared-slice-read-extended-3 Inv-loop μ-loop
-shared-slice-read-extended-3 c = omega arith
-
-mul-extended-4 : tie.Need-mul-extended-4 Inv-loop μ-loop
-mul-extended-4 c = omega arith
-
-shared-slice-read-extended-4 : tie.Need-shared-slice-read-extended-4 Inv-loop μ-loop
-shared-slice-read-extended-4 c = omega arith
-
 extended-requires : tie.Need-extended-requires Inv-loop μ-loop
 extended-requires c κs = let p = c .before .before .before .before .before .before .before .before .before .before .pre in (p .small (c .before .before .before .before .before .loop .k), omega (arith, p .loops), omega (arith, p .loops))
-
-add-k : tie.Need-add-k Inv-loop μ-loop
-add-k c = omega arith
-
-loop-less : tie.Need-loop-less Inv-loop μ-loop
-loop-less c = omega arith
 
 loop-again : tie.Need-loop-again Inv-loop μ-loop
 loop-again c =
@@ -74,21 +44,7 @@ returns c =
 
 pub line-of-spec : {M : Type 1} → statement M
 line-of-spec =
-    tie.close
-    (tie.spec
-    Inv-loop
-    μ-loop
-    loop-holds
-    mul-extended
-    shared-slice-read-extended
-    mul-extended-2
-    shared-slice-read-extended-2
-    mul-extended-3
-    shared-slice-read-extended-3
-    mul-extended-4
-    shared-slice-read-extended-4
-    extended-requires
-    add-k
-    loop-less
-    loop-again
-    returns)
+    tie.close (tie.spec
+      Inv-loop μ-loop loop-holds (λ c. omega arith) (λ c. omega arith) (λ c. omega arith) (λ c. omega arith)
+      (λ c. omega arith) (λ c. omega arith) (λ c. omega arith) (λ c. omega arith) extended-requires
+      (λ c. omega arith) (λ c. omega arith) loop-again returns)

@@ -21,32 +21,8 @@ abbrev μ-loop : tie.MeasureT-loop
 loop-holds : tie.Need-loop-holds Inv-loop μ-loop
 loop-holds c = (omega arith, omega arith)
 
-mul-held : tie.Need-mul-held Inv-loop μ-loop
-mul-held c = omega arith
-
-shared-slice-read-held : tie.Need-shared-slice-read-held Inv-loop μ-loop
-shared-slice-read-held c = omega arith
-
-mul-held-2 : tie.Need-mul-held-2 Inv-loop μ-loop
-mul-held-2 c = omega arith
-
-shared-slice-read-held-2 : tie.Need-shared-slice-read-held-2 Inv-loop μ-loop
-shared-slice-read-held-2 c = omega arith
-
-mul-held-3 : tie.Need-mul-held-3 Inv-loop μ-loop
-mul-held-3 c = omega arith
-
-shared-slice-read-held-3 : tie.Need-shared-slice-read-held-3 Inv-loop μ-loop
-shared-slice-read-held-3 c = omega arith
-
 held-requires : tie.Need-held-requires Inv-loop μ-loop
 held-requires c κs = tt
-
-mul-wide : tie.Need-mul-wide Inv-loop μ-loop
-mul-wide c = omega arith
-
-shared-slice-read-wide : tie.Need-shared-slice-read-wide Inv-loop μ-loop
-shared-slice-read-wide c = omega arith
 
 wide-requires : tie.Need-wide-requires Inv-loop μ-loop
 wide-requires c κs = tt
@@ -70,12 +46,6 @@ returns c =
     at-sum-here (length (now (a .froms))) (ranges (now (a .froms)) (now (a .pasts))) (column (now (a .shifts))) (a .t) (l .k) (a .n) (l .left) (h .result) (c .wide .result)
     (c .before .before .before .before .before .before .before .loop-test .taken) (l .inv .1) (c .before .before .if1 .taken) (h .ensures (l .k)) (c .wide .ensures .0)
 
-add-k : tie.Need-add-k Inv-loop μ-loop
-add-k c = omega arith
-
-loop-less : tie.Need-loop-less Inv-loop μ-loop
-loop-less c = omega arith
-
 loop-again : tie.Need-loop-again Inv-loop μ-loop
 loop-again c =
     let a = c .before .before .before .before .before .before .before .before .before .before .args in
@@ -91,24 +61,7 @@ returns-2 c =
 
 pub nth-at-sum-spec : {M : Type 1} → statement M
 nth-at-sum-spec =
-    tie.close
-    (tie.spec
-    Inv-loop
-    μ-loop
-    loop-holds
-    mul-held
-    shared-slice-read-held
-    mul-held-2
-    shared-slice-read-held-2
-    mul-held-3
-    shared-slice-read-held-3
-    held-requires
-    mul-wide
-    shared-slice-read-wide
-    wide-requires
-    sub-t23
-    returns
-    add-k
-    loop-less
-    loop-again
-    returns-2)
+    tie.close (tie.spec
+      Inv-loop μ-loop loop-holds (λ c. omega arith) (λ c. omega arith) (λ c. omega arith) (λ c. omega arith)
+      (λ c. omega arith) (λ c. omega arith) held-requires (λ c. omega arith) (λ c. omega arith) wide-requires
+      sub-t23 returns (λ c. omega arith) (λ c. omega arith) loop-again returns-2)

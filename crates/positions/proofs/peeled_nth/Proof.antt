@@ -19,26 +19,8 @@ abbrev μ-loop : tie.MeasureT-loop
 loop-holds : tie.Need-loop-holds Inv-loop μ-loop
 loop-holds c = (omega arith, omega arith)
 
-mul-length-of : tie.Need-mul-length-of Inv-loop μ-loop
-mul-length-of c = omega arith
-
-shared-slice-read-length-of : tie.Need-shared-slice-read-length-of Inv-loop μ-loop
-shared-slice-read-length-of c = omega arith
-
-mul-length-of-2 : tie.Need-mul-length-of-2 Inv-loop μ-loop
-mul-length-of-2 c = omega arith
-
-shared-slice-read-length-of-2 : tie.Need-shared-slice-read-length-of-2 Inv-loop μ-loop
-shared-slice-read-length-of-2 c = omega arith
-
 length-of-requires : tie.Need-length-of-requires Inv-loop μ-loop
 length-of-requires c κs = tt
-
-mul-wide : tie.Need-mul-wide Inv-loop μ-loop
-mul-wide c = omega arith
-
-shared-slice-read-wide : tie.Need-shared-slice-read-wide Inv-loop μ-loop
-shared-slice-read-wide c = omega arith
 
 wide-requires : tie.Need-wide-requires Inv-loop μ-loop
 wide-requires c κs = tt
@@ -52,12 +34,6 @@ returns c =
     let l = c .before .before .before .before .before .before .before .loop in
     by-loops-here (length (now (a .froms))) (ranges (now (a .froms)) (now (a .pasts))) (l .k) (a .n) (l .left) (c .wide .result) (c .before .before .before .before .before .before .loop-test .taken) (l .inv .1)
     (omega (arith, c .before .before .before .length-of .ensures .0, c .before .before .if1 .taken)) (c .wide .ensures .0)
-
-add-k : tie.Need-add-k Inv-loop μ-loop
-add-k c = omega arith
-
-loop-less : tie.Need-loop-less Inv-loop μ-loop
-loop-less c = omega arith
 
 loop-again : tie.Need-loop-again Inv-loop μ-loop
 loop-again c =
@@ -74,22 +50,7 @@ returns-2 c =
 
 pub peeled-nth-spec : {M : Type 1} → statement M
 peeled-nth-spec =
-    tie.close
-    (tie.spec
-    Inv-loop
-    μ-loop
-    loop-holds
-    mul-length-of
-    shared-slice-read-length-of
-    mul-length-of-2
-    shared-slice-read-length-of-2
-    length-of-requires
-    mul-wide
-    shared-slice-read-wide
-    wide-requires
-    add-t18
-    returns
-    add-k
-    loop-less
-    loop-again
-    returns-2)
+    tie.close (tie.spec
+      Inv-loop μ-loop loop-holds (λ c. omega arith) (λ c. omega arith) (λ c. omega arith) (λ c. omega arith)
+      length-of-requires (λ c. omega arith) (λ c. omega arith) wide-requires add-t18 returns (λ c. omega arith)
+      (λ c. omega arith) loop-again returns-2)

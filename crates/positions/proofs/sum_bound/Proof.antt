@@ -25,12 +25,6 @@ past-sum-requires c κs = let p = c .before .before .before .before .before .pre
 larger-requires : tie.Need-larger-requires Inv-loop μ-loop
 larger-requires c κs = tt
 
-add-k : tie.Need-add-k Inv-loop μ-loop
-add-k c = omega arith
-
-loop-less : tie.Need-loop-less Inv-loop μ-loop
-loop-less c = omega arith
-
 loop-again : tie.Need-loop-again Inv-loop μ-loop
 loop-again c =
     let a = c .before .before .before .before .before .before .before .args in (
@@ -48,14 +42,6 @@ returns c =
 
 pub sum-bound-spec : {M : Type 1} → statement M
 sum-bound-spec =
-    tie.close
-    (tie.spec
-    Inv-loop
-    μ-loop
-    loop-holds
-    past-sum-requires
-    larger-requires
-    add-k
-    loop-less
-    loop-again
-    returns)
+    tie.close (tie.spec
+      Inv-loop μ-loop loop-holds past-sum-requires larger-requires (λ c. omega arith) (λ c. omega arith) loop-again
+      returns)

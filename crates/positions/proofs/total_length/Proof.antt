@@ -19,29 +19,11 @@ abbrev μ-loop : tie.MeasureT-loop
 loop-holds : tie.Need-loop-holds Inv-loop μ-loop
 loop-holds c = (omega arith, omega arith, refl)
 
-mul-length-of : tie.Need-mul-length-of Inv-loop μ-loop
-mul-length-of c = omega arith
-
-shared-slice-read-length-of : tie.Need-shared-slice-read-length-of Inv-loop μ-loop
-shared-slice-read-length-of c = omega arith
-
-mul-length-of-2 : tie.Need-mul-length-of-2 Inv-loop μ-loop
-mul-length-of-2 c = omega arith
-
-shared-slice-read-length-of-2 : tie.Need-shared-slice-read-length-of-2 Inv-loop μ-loop
-shared-slice-read-length-of-2 c = omega arith
-
 length-of-requires : tie.Need-length-of-requires Inv-loop μ-loop
 length-of-requires c κs = tt
 
 add-sum : tie.Need-add-sum Inv-loop μ-loop
 add-sum c = omega (arith, c .before .before .before .before .before .before .before .pre)
-
-add-k : tie.Need-add-k Inv-loop μ-loop
-add-k c = omega arith
-
-loop-less : tie.Need-loop-less Inv-loop μ-loop
-loop-less c = omega arith
 
 loop-again : tie.Need-loop-again Inv-loop μ-loop
 loop-again c =
@@ -58,18 +40,6 @@ returns c =
 
 pub total-length-spec : {M : Type 1} → statement M
 total-length-spec =
-    tie.close
-    (tie.spec
-    Inv-loop
-    μ-loop
-    loop-holds
-    mul-length-of
-    shared-slice-read-length-of
-    mul-length-of-2
-    shared-slice-read-length-of-2
-    length-of-requires
-    add-sum
-    add-k
-    loop-less
-    loop-again
-    returns)
+    tie.close (tie.spec
+      Inv-loop μ-loop loop-holds (λ c. omega arith) (λ c. omega arith) (λ c. omega arith) (λ c. omega arith)
+      length-of-requires add-sum (λ c. omega arith) (λ c. omega arith) loop-again returns)

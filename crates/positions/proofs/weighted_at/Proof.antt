@@ -8,36 +8,6 @@ use borrow.Author.Needs.{needs}
 use Rattle.positions.proofs.weighted_at.Statement.{statement}
 use Rattle.positions.proofs.weighted_at.Tie as tie
 
-mul-wide : tie.Need-mul-wide
-mul-wide c = search needs
-
-shared-slice-read-wide : tie.Need-shared-slice-read-wide
-shared-slice-read-wide c = search needs
-
-wide-requires : tie.Need-wide-requires
-wide-requires c κs = search needs
-
-mul-clipped : tie.Need-mul-clipped
-mul-clipped c = search needs
-
-shared-slice-read-clipped : tie.Need-shared-slice-read-clipped
-shared-slice-read-clipped c = search needs
-
-mul-clipped-2 : tie.Need-mul-clipped-2
-mul-clipped-2 c = search needs
-
-shared-slice-read-clipped-2 : tie.Need-shared-slice-read-clipped-2
-shared-slice-read-clipped-2 c = search needs
-
-mul-clipped-3 : tie.Need-mul-clipped-3
-mul-clipped-3 c = search needs
-
-shared-slice-read-clipped-3 : tie.Need-shared-slice-read-clipped-3
-shared-slice-read-clipped-3 c = search needs
-
-clipped-requires : tie.Need-clipped-requires
-clipped-requires c κs = search needs
-
 mul-result : tie.Need-mul-result
 mul-result c =
     let s = c .before .before .before .before .before .before .before .before .before .before in
@@ -54,17 +24,7 @@ returns c =
 
 pub weighted-at-spec : {M : Type 1} → statement M
 weighted-at-spec =
-    tie.close
-    (tie.spec
-    mul-wide
-    shared-slice-read-wide
-    wide-requires
-    mul-clipped
-    shared-slice-read-clipped
-    mul-clipped-2
-    shared-slice-read-clipped-2
-    mul-clipped-3
-    shared-slice-read-clipped-3
-    clipped-requires
-    mul-result
-    returns)
+    tie.close (tie.spec
+      (λ c. search needs) (λ c. search needs) (λ c κs. search needs) (λ c. search needs) (λ c. search needs)
+      (λ c. search needs) (λ c. search needs) (λ c. search needs) (λ c. search needs) (λ c κs. search needs)
+      mul-result returns)

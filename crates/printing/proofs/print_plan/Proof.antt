@@ -6,15 +6,6 @@ use borrow.Author.Needs.{needs}
 use Rattle.printing.proofs.print_plan.Statement.{statement}
 use Rattle.printing.proofs.print_plan.Tie as tie
 
-plan-table-requires : tie.Need-plan-table-requires
-plan-table-requires c κs = search needs
-
-print-refusal-requires : tie.Need-print-refusal-requires
-print-refusal-requires c κs = search needs
-
-same-length : tie.Need-same-length
-same-length c = search needs
-
 returns : tie.Need-returns
 returns c = let a = c .before .before .before .before .before .before .before .before .before .before .args in
     let n = c .before .before .before .before .if1 .taken in
@@ -29,9 +20,6 @@ print-lines-requires c κs = let a = c .before .before .before .before .before .
     let m = c .before .before .before .before .before .before .plan-table .ensures .made (c .before .before .before .before .if1 .left) in
     made-laid (now (a .s)) (settings (a .processors)) _ _ m
 
-same-length-2 : tie.Need-same-length-2
-same-length-2 c = search needs
-
 returns-2 : tie.Need-returns-2
 returns-2 c = let a = c .before .before .before .before .before .before .before .before .before .before .before .before .before .args in
     let m = c .before .before .before .before .before .before .before .before .before .plan-table .ensures .made (c .before .before .before .before .before .before .before .if1 .left) in
@@ -40,13 +28,6 @@ returns-2 c = let a = c .before .before .before .before .before .before .before 
 
 pub print-plan-spec : {M : Type 1} → statement M
 print-plan-spec =
-    tie.close
-    (tie.spec
-    plan-table-requires
-    print-refusal-requires
-    same-length
-    returns
-    sweeps-of-requires
-    print-lines-requires
-    same-length-2
-    returns-2)
+    tie.close (tie.spec
+      (λ c κs. search needs) (λ c κs. search needs) (λ c. search needs) returns sweeps-of-requires
+      print-lines-requires (λ c. search needs) returns-2)

@@ -61,9 +61,6 @@ add-k c = let a = c .before .before .before .before .before .before .before .arg
     let st = now (a .store) in
     omega (arith, few-loops (p .0) st (p .1), c .before .before .before .before .before .before .loops-in .ensures)
 
-loop-less : tie.Need-loop-less Inv-loop μ-loop
-loop-less c = omega arith
-
 loop-again : tie.Need-loop-again Inv-loop μ-loop
 loop-again c = let a = c .before .before .before .before .before .before .before .args in
     let p = c .before .before .before .before .before .before .before .pre in
@@ -94,19 +91,6 @@ returns c = let a = c .before .before .before .args in
 
 pub lengths-of-spec : {M : Type 1} → statement M
 lengths-of-spec =
-    tie.close
-    (tie.spec
-    Inv-loop
-    μ-loop
-    loops-in-requires
-    loop-holds
-    range-in-requires
-    range-in-requires-2
-    minus-requires
-    add-fused
-    minus-requires-2
-    add-peeled
-    add-k
-    loop-less
-    loop-again
-    returns)
+    tie.close (tie.spec
+      Inv-loop μ-loop loops-in-requires loop-holds range-in-requires range-in-requires-2 minus-requires add-fused
+      minus-requires-2 add-peeled add-k (λ c. omega arith) loop-again returns)

@@ -74,9 +74,6 @@ add-k c = let a = c .before .before .before .before .before .before .before .bef
     let p = c .before .before .before .before .before .before .before .before .before .before .before .before .before .before .before .before .pre in
     omega (arith, few-loops (a .a) (now (a .store)) (p .0), c .before .before .before .before .before .before .before .before .before .before .loops-in .ensures)
 
-loop-less : tie.Need-loop-less Inv-loop μ-loop
-loop-less c = omega arith
-
 loop-again : tie.Need-loop-again Inv-loop μ-loop
 loop-again c = let a = c .before .before .before .before .before .before .before .before .before .before .before .before .before .before .before .before .args in
     let p = c .before .before .before .before .before .before .before .before .before .before .before .before .before .before .before .before .pre in
@@ -104,23 +101,7 @@ returns c = let a = c .before .before .before .before .before .before .before .b
 
 pub put-list-spec : {M : Type 1} → statement M
 put-list-spec =
-    tie.close
-    (tie.spec
-    Inv-loop
-    μ-loop
-    block-of-requires
-    part-in-requires
-    loops-in-requires
-    loop-holds
-    range-in-requires
-    add-put-range
-    mul-put-range
-    array-read-put-range
-    put-range-requires
-    length-of-requires
-    add-sum
-    add-k
-    loop-less
-    loop-again
-    same-length
-    returns)
+    tie.close (tie.spec
+      Inv-loop μ-loop block-of-requires part-in-requires loops-in-requires loop-holds range-in-requires
+      add-put-range mul-put-range array-read-put-range put-range-requires length-of-requires add-sum add-k
+      (λ c. omega arith) loop-again same-length returns)

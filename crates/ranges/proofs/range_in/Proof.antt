@@ -35,13 +35,6 @@ returns c = let a = c .before .before .before .before .before .args in
 
 pub range-in-spec : {M : Type 1} → statement M
 range-in-spec =
-    tie.close
-    (tie.spec
-    first-at-requires
-    last-at-requires
-    mul-part-between
-    element-copy-out-part-between
-    mul-part-between-2
-    element-copy-out-part-between-2
-    part-between-requires
-    returns)
+    tie.close (tie.spec
+      first-at-requires last-at-requires mul-part-between element-copy-out-part-between mul-part-between-2
+      element-copy-out-part-between-2 part-between-requires returns)

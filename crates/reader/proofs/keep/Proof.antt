@@ -8,60 +8,24 @@ use borrow.Author.Needs.{needs}
 use Rattle.reader.proofs.keep.Statement.{statement}
 use Rattle.reader.proofs.keep.Tie as tie
 
-wide-requires : tie.Need-wide-requires
-wide-requires c κs = search needs
-
-enum-told : tie.Need-enum-told
-enum-told c = search needs
-
-enum-known-x : tie.Need-enum-known-x
-enum-known-x c = search needs
-
-wide-requires-2 : tie.Need-wide-requires-2
-wide-requires-2 c κs = search needs
-
-mul-store : tie.Need-mul-store
-mul-store c = search needs
-
-element-write-store : tie.Need-element-write-store
-element-write-store c = search needs
-
-enum-known-x-2 : tie.Need-enum-known-x-2
-enum-known-x-2 c = search needs
-
 put-bounds-requires : tie.Need-put-bounds-requires
 put-bounds-requires c κs = let room = subst (λ (x : Record). Room x (c .before .before .before .before .before .args .t)) (c .before .before .x2 .given .1) (c .before .before .before .before .before .pre .0) in omega (arith, c .before .before .before .before .wide .ensures .0, room)
-
-add-put-row : tie.Need-add-put-row
-add-put-row c = search needs
 
 put-row-requires : tie.Need-put-row-requires
 unfolding rowsAfter
 put-row-requires c κs = let room = subst (λ (x : Record). Room x (c .before .before .before .before .before .before .before .args .t)) (c .before .before .before .before .x2 .given .1) (c .before .before .before .before .before .before .before .pre .0) in let some = subst (λ (x : Record). rowsAfter x (c .before .before .before .before .before .before .before .args .r) ≤ 528) (c .before .before .before .before .x2 .given .1) (c .before .before .before .before .before .before .before .pre .1 .1) in omega (arith, c .before .before .before .before .before .before .wide .ensures .0, room, some)
 
-enum-known-x-3 : tie.Need-enum-known-x-3
-enum-known-x-3 c = search needs
-
 put-row-requires-2 : tie.Need-put-row-requires-2
 unfolding rowsAfter
 put-row-requires-2 c κs = let some = subst (λ (x : Record). rowsAfter x (c .before .before .before .before .before .args .r) ≤ 528) (c .before .before .x3 .given .1) (c .before .before .before .before .before .pre .1 .1) in omega (arith, c .before .before .before .before .wide .ensures .0, c .before .before .before .before .before .pre .1 .0 .loops, some)
-
-enum-known-x-4 : tie.Need-enum-known-x-4
-enum-known-x-4 c = search needs
 
 put-row-requires-3 : tie.Need-put-row-requires-3
 unfolding rowsAfter
 put-row-requires-3 c κs = let some = subst (λ (x : Record). rowsAfter x (c .before .before .before .before .before .args .r) ≤ 528) (c .before .before .x4 .given .1) (c .before .before .before .before .before .pre .1 .1) in omega (arith, c .before .before .before .before .wide .ensures .0, c .before .before .before .before .before .pre .1 .0 .loops, some)
 
-enum-known-x-5 : tie.Need-enum-known-x-5
-enum-known-x-5 c = search needs
-
 put-row-requires-4 : tie.Need-put-row-requires-4
 unfolding rowsAfter
 put-row-requires-4 c κs = let some = subst (λ (x : Record). rowsAfter x (c .before .before .before .before .before .args .r) ≤ 528) (c .before .before .x5 .given .1) (c .before .before .before .before .before .pre .1 .1) in omega (arith, c .before .before .before .before .wide .ensures .0, c .before .before .before .before .before .pre .1 .0 .loops, some)
-
-enum-told-2 : tie.Need-enum-told-2
-enum-told-2 c = search needs
 
 returns : tie.Need-returns
 unfolding kept rowsAfter
@@ -93,29 +57,8 @@ returns-7 c = rw (c .enum-told2 .given .1) (refl, refl)
 
 pub keep-spec : {M : Type 1} → statement M
 keep-spec =
-    tie.close
-    (tie.spec
-    wide-requires
-    enum-told
-    enum-known-x
-    wide-requires-2
-    mul-store
-    element-write-store
-    enum-known-x-2
-    put-bounds-requires
-    add-put-row
-    put-row-requires
-    enum-known-x-3
-    put-row-requires-2
-    enum-known-x-4
-    put-row-requires-3
-    enum-known-x-5
-    put-row-requires-4
-    enum-told-2
-    returns
-    returns-2
-    returns-3
-    returns-4
-    returns-5
-    returns-6
-    returns-7)
+    tie.close (tie.spec
+      (λ c κs. search needs) (λ c. search needs) (λ c. search needs) (λ c κs. search needs) (λ c. search needs)
+      (λ c. search needs) (λ c. search needs) put-bounds-requires (λ c. search needs) put-row-requires
+      (λ c. search needs) put-row-requires-2 (λ c. search needs) put-row-requires-3 (λ c. search needs)
+      put-row-requires-4 (λ c. search needs) returns returns-2 returns-3 returns-4 returns-5 returns-6 returns-7)

@@ -14,12 +14,6 @@ Inv-loop s store₀ t₀ at₀ rows₀ store t at rows = Inv s store t at rows
 abbrev μ-loop : tie.MeasureT-loop
 μ-loop s store₀ t₀ at₀ rows₀ store t at rows = length s - at
 
-blank-requires : tie.Need-blank-requires Inv-loop μ-loop
-blank-requires c κs = search needs
-
-element-write-store : tie.Need-element-write-store Inv-loop μ-loop
-element-write-store c = search needs
-
 loop-holds : tie.Need-loop-holds Inv-loop μ-loop
 loop-holds c = let a = c .before .before .args in
     start (now (a .s)) (set (a .store .now) 48 0) (c .blank .result) (c .blank .ensures) (simp length-set (c .before .before .pre)) (getD-set-same (a .store .now) 48 0 0 (omega (arith, c .before .before .pre)))
@@ -29,16 +23,10 @@ read-record-requires c κs = let l = c .before .loop in
     let s = now (c .before .before .before .before .args .s) in
     places s (l .store) (l .t) (l .at) (l .rows) (l .inv) .arrays
 
-enum-known-found : tie.Need-enum-known-found Inv-loop μ-loop
-enum-known-found c = search needs
-
 returns : tie.Need-returns Inv-loop μ-loop
 returns c = let l = c .before .before .before .before .before .loop in
     let s = now (c .before .before .before .before .before .before .before .before .args .s) in
     (turn-refused s (l .store) (l .t) (l .at) (l .rows) (l .inv) (c .before .before .before .read-record .result) (c .before .before .before .read-record .ensures) (c .before .found .given .0 .0) (c .before .found .given .1), tt)
-
-enum-known-found-2 : tie.Need-enum-known-found-2 Inv-loop μ-loop
-enum-known-found-2 c = search needs
 
 keep-requires : tie.Need-keep-requires Inv-loop μ-loop
 keep-requires c κs = let l = c .before .before .before .before .before .before .loop in
@@ -60,16 +48,10 @@ loop-again c = let l = c .before .before .before .before .before .before .before
     let s = now (c .before .before .before .before .before .before .before .before .before .before .before .args .s) in
     turn-passed s (l .store) (l .t) (l .at) (l .rows) (l .inv) (c .before .before .before .before .before .before .read-record .result) (c .before .before .before .before .before .before .read-record .ensures) (c .before .before .before .before .found2 .given .0 .0) (c .before .before .before .before .found2 .given .0 .1 .0) (c .before .before .before .before .found2 .given .1) _ _ _ (c .before .keep .ensures .1) (c .advance .ensures) (c .before .keep .ensures .0)
 
-enum-known-found-3 : tie.Need-enum-known-found-3 Inv-loop μ-loop
-enum-known-found-3 c = search needs
-
 returns-2 : tie.Need-returns-2 Inv-loop μ-loop
 returns-2 c = let l = c .before .before .before .before .before .before .loop in
     let s = now (c .before .before .before .before .before .before .before .before .before .args .s) in
     (turn-tail s (l .store) (l .t) (l .at) (l .rows) (l .inv) (c .before .before .before .before .read-record .result) (c .before .before .before .before .read-record .ensures) (c .before .before .found3 .given .0 .0) (c .before .before .found3 .given .1) (c .if1 .taken), tt)
-
-put-counts-requires : tie.Need-put-counts-requires Inv-loop μ-loop
-put-counts-requires c κs = search needs
 
 returns-3 : tie.Need-returns-3 Inv-loop μ-loop
 returns-3 c = let l = c .before .before .before .before .before .before .before .before .loop in
@@ -79,22 +61,7 @@ returns-3 c = let l = c .before .before .before .before .before .before .before 
 
 pub read-table-spec : {M : Type 1} → statement M
 read-table-spec =
-    tie.close
-    (tie.spec
-    Inv-loop
-    μ-loop
-    blank-requires
-    element-write-store
-    loop-holds
-    read-record-requires
-    enum-known-found
-    returns
-    enum-known-found-2
-    keep-requires
-    advance-requires
-    loop-less
-    loop-again
-    enum-known-found-3
-    returns-2
-    put-counts-requires
-    returns-3)
+    tie.close (tie.spec
+      Inv-loop μ-loop (λ c κs. search needs) (λ c. search needs) loop-holds read-record-requires (λ c. search needs)
+      returns (λ c. search needs) keep-requires advance-requires loop-less loop-again (λ c. search needs) returns-2
+      (λ c κs. search needs) returns-3)

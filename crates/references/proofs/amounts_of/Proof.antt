@@ -6,9 +6,6 @@ use borrow.Author.Needs.{needs}
 use Rattle.references.proofs.amounts_of.Statement.{statement}
 use Rattle.references.proofs.amounts_of.Tie as tie
 
-collect-requires : tie.Need-collect-requires
-collect-requires c κs = search needs
-
 array-share-prefix-loops : tie.Need-array-share-prefix-loops
 array-share-prefix-loops c =
     let b = c in
@@ -62,16 +59,7 @@ returns c =
 
 pub amounts-of-spec : {M : Type 1} → statement M
 amounts-of-spec =
-    tie.close
-    (tie.spec
-    collect-requires
-    array-share-prefix-loops
-    slice-aggregate-shifts-and-peels
-    array-share-prefix-names
-    slice-aggregate-shifts-and-peels-2
-    array-share-prefix-offsets
-    slice-aggregate-shifts-and-peels-3
-    array-share-prefix-stores
-    slice-aggregate-shifts-and-peels-4
-    shifts-and-peels-requires
-    returns)
+    tie.close (tie.spec
+      (λ c κs. search needs) array-share-prefix-loops slice-aggregate-shifts-and-peels array-share-prefix-names
+      slice-aggregate-shifts-and-peels-2 array-share-prefix-offsets slice-aggregate-shifts-and-peels-3
+      array-share-prefix-stores slice-aggregate-shifts-and-peels-4 shifts-and-peels-requires returns)

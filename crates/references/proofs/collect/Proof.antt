@@ -15,9 +15,6 @@ Inv-loop store loops₀ names₀ offsets₀ stores₀ count n₀ k₀ loops name
 abbrev μ-loop : tie.MeasureT-loop
 μ-loop store loops₀ names₀ offsets₀ stores₀ count n₀ k₀ loops names offsets stores n k = count - k
 
-loops-in-requires : tie.Need-loops-in-requires Inv-loop μ-loop
-loops-in-requires c κs = search needs
-
 loop-holds : tie.Need-loop-holds Inv-loop μ-loop
 loop-holds c =
     let b = c .before in
@@ -50,12 +47,6 @@ collect-loop-requires c κs =
     (loop-ready (now (b .before .args .store)) (b .before .pre .0) _ (b .loops-in .ensures) (l .k) (t .loop-test .taken)
     (columns (l .loops) (l .names) (l .offsets) (l .stores)) (l .n) (l .inv .0))
 
-add-k : tie.Need-add-k Inv-loop μ-loop
-add-k c = search needs
-
-loop-less : tie.Need-loop-less Inv-loop μ-loop
-loop-less c = omega arith
-
 loop-again : tie.Need-loop-again Inv-loop μ-loop
 loop-again c =
     let s = c .before .before .before .before .before in
@@ -77,17 +68,6 @@ returns c =
 
 pub collect-spec : {M : Type 1} → statement M
 collect-spec =
-    tie.close
-    (tie.spec
-    Inv-loop
-    μ-loop
-    loops-in-requires
-    loop-holds
-    start-at-requires
-    add-start-at
-    start-at-requires-2
-    collect-loop-requires
-    add-k
-    loop-less
-    loop-again
-    returns)
+    tie.close (tie.spec
+      Inv-loop μ-loop (λ c κs. search needs) loop-holds start-at-requires add-start-at start-at-requires-2
+      collect-loop-requires (λ c. search needs) (λ c. omega arith) loop-again returns)

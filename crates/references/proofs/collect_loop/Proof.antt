@@ -6,32 +6,20 @@ use borrow.Author.Needs.{needs}
 use Rattle.references.proofs.collect_loop.Statement.{statement}
 use Rattle.references.proofs.collect_loop.Tie as tie
 
-array-at-requires : tie.Need-array-at-requires
-array-at-requires c κs = search needs
-
 cast-q : tie.Need-cast-q
 cast-q c =
     let b = c .before in
     omega (arith, c .array-at .ensures, b .pre .0 .4 (b .args .from) (b .pre .0 .1) .array)
-
-value-at-requires : tie.Need-value-at-requires
-value-at-requires c κs = search needs
 
 cast-o : tie.Need-cast-o
 cast-o c =
     let b = c .before .before in
     omega (arith, c .value-at .ensures, b .pre .0 .4 (b .args .from) (b .pre .0 .1) .offset (omega (arith, b .pre .1 .0)))
 
-cast-number : tie.Need-cast-number
-cast-number c = search needs
-
 put-reference-requires : tie.Need-put-reference-requires
 put-reference-requires c κs =
     let b = c .before .before .before .before .before .before in
     omega (arith, b .pre .0 .1, b .pre .0 .2, b .pre .0 .3)
-
-add-collect-reads : tie.Need-add-collect-reads
-add-collect-reads c = search needs
 
 collect-reads-requires : tie.Need-collect-reads-requires
 collect-reads-requires c κs =
@@ -64,14 +52,6 @@ returns c =
 
 pub collect-loop-spec : {M : Type 1} → statement M
 collect-loop-spec =
-    tie.close
-    (tie.spec
-    array-at-requires
-    cast-q
-    value-at-requires
-    cast-o
-    cast-number
-    put-reference-requires
-    add-collect-reads
-    collect-reads-requires
-    returns)
+    tie.close (tie.spec
+      (λ c κs. search needs) cast-q (λ c κs. search needs) cast-o (λ c. search needs) put-reference-requires
+      (λ c. search needs) collect-reads-requires returns)

@@ -29,9 +29,6 @@ collect-row-requires c κs =
 add-row : tie.Need-add-row Inv-loop μ-loop
 add-row c = omega (arith, c .before .before .before .before .before .before .before .pre .0 .0)
 
-loop-less : tie.Need-loop-less Inv-loop μ-loop
-loop-less c = omega arith
-
 loop-again : tie.Need-loop-again Inv-loop μ-loop
 loop-again c =
     let t = c .before .before .before .before .before in
@@ -51,5 +48,5 @@ returns c =
 
 pub collect-reads-spec : {M : Type 1} → statement M
 collect-reads-spec =
-    tie.close
-    (tie.spec Inv-loop μ-loop loop-holds collect-row-requires add-row loop-less loop-again returns)
+    tie.close (tie.spec
+      Inv-loop μ-loop loop-holds collect-row-requires add-row (λ c. omega arith) loop-again returns)

@@ -8,25 +8,10 @@ use borrow.Author.Needs.{needs}
 use Rattle.references.proofs.collect_row.Statement.{statement}
 use Rattle.references.proofs.collect_row.Tie as tie
 
-kind-at-requires : tie.Need-kind-at-requires
-kind-at-requires c κs = search needs
-
-array-at-requires : tie.Need-array-at-requires
-array-at-requires c κs = search needs
-
-cast-q : tie.Need-cast-q
-cast-q c = search needs
-
-value-at-requires : tie.Need-value-at-requires
-value-at-requires c κs = search needs
-
 cast-o : tie.Need-cast-o
 cast-o c =
     let k = c .before .before .before in
     omega (arith, c .value-at .ensures, k .before .pre .0 .2 .offset (omega (arith, k .kind-at .ensures, c .before .before .if1 .taken)))
-
-put-reference-requires : tie.Need-put-reference-requires
-put-reference-requires c κs = search needs
 
 returns : tie.Need-returns
 returns c =
@@ -53,13 +38,6 @@ returns-2 c =
 
 pub collect-row-spec : {M : Type 1} → statement M
 collect-row-spec =
-    tie.close
-    (tie.spec
-    kind-at-requires
-    array-at-requires
-    cast-q
-    value-at-requires
-    cast-o
-    put-reference-requires
-    returns
-    returns-2)
+    tie.close (tie.spec
+      (λ c κs. search needs) (λ c κs. search needs) (λ c. search needs) (λ c κs. search needs) cast-o
+      (λ c κs. search needs) returns returns-2)

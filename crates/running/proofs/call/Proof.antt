@@ -12,22 +12,10 @@ returns : tie.Need-returns
 returns c = let a = c .before .before .before .args in
     λ w h. left-past w (a .processors) (now (a .store)) (a .number) (now (a .counts)) (now (a .memory)) (c .if1 .taken)
 
-wide-requires : tie.Need-wide-requires
-wide-requires c κs = search needs
-
-mul-turn : tie.Need-mul-turn
-mul-turn c = search needs
-
 turn-requires : tie.Need-turn-requires
 turn-requires c κs = let a = c .before .before .before .before .before .before .args in
     let p = c .before .before .before .before .before .before .pre in
     ((p .0 .0, ready-at (p .0 .1) (a .number) (c .before .wide .result) (c .before .wide .ensures .0) (c .before .before .before .if1 .left)), p .2, p .3)
-
-idle-of-requires : tie.Need-idle-of-requires
-idle-of-requires c κs = search needs
-
-same-length : tie.Need-same-length
-same-length c = search needs
 
 returns-2 : tie.Need-returns-2
 returns-2 c = let a = c .before .before .before .before .before .before .before .before .before .before .args in
@@ -37,5 +25,6 @@ returns-2 c = let a = c .before .before .before .before .before .before .before 
 
 pub call-spec : {M : Type 1} → statement M
 call-spec =
-    tie.close
-    (tie.spec returns wide-requires mul-turn turn-requires idle-of-requires same-length returns-2)
+    tie.close (tie.spec
+      returns (λ c κs. search needs) (λ c. search needs) turn-requires (λ c κs. search needs) (λ c. search needs)
+      returns-2)

@@ -90,19 +90,6 @@ returns-2 c = let a = c .before .before .before .before .args in
 
 pub close-spec : {M : Type 1} → statement M
 close-spec =
-    tie.close
-    (tie.spec
-    Inv-loop
-    μ-loop
-    loop-holds
-    lowest-ready-requires
-    same-length
-    returns
-    wide-requires
-    mul-turn
-    turn-requires
-    sub-left
-    loop-less
-    loop-again
-    same-length-2
-    returns-2)
+    tie.close (tie.spec
+      Inv-loop μ-loop loop-holds lowest-ready-requires same-length returns wide-requires mul-turn turn-requires
+      sub-left loop-less loop-again same-length-2 returns-2)

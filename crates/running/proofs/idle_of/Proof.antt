@@ -6,18 +6,6 @@ use borrow.Author.Needs.{needs}
 use Rattle.running.proofs.idle_of.Statement.{statement}
 use Rattle.running.proofs.idle_of.Tie as tie
 
-enum-told : tie.Need-enum-told
-enum-told c = search needs
-
-enum-told-2 : tie.Need-enum-told-2
-enum-told-2 c = search needs
-
-enum-told-3 : tie.Need-enum-told-3
-enum-told-3 c = search needs
-
-enum-told-4 : tie.Need-enum-told-4
-enum-told-4 c = search needs
-
 returns : tie.Need-returns
 returns c = let g = c .enum-told .given .1 in
     idles-one (c .before .before .args .report) (λ k i q. let z : _≡_ {A = ℕ} 0 1 = cc (g) in omega arith)
@@ -35,5 +23,6 @@ returns-4 c = let g = c .enum-told4 .given .1 in
 
 pub idle-of-spec : {M : Type 1} → statement M
 idle-of-spec =
-    tie.close
-    (tie.spec enum-told enum-told-2 enum-told-3 enum-told-4 returns returns-2 returns-3 returns-4)
+    tie.close (tie.spec
+      (λ c. search needs) (λ c. search needs) (λ c. search needs) (λ c. search needs) returns returns-2 returns-3
+      returns-4)

@@ -6,9 +6,6 @@ use borrow.Author.Needs.{needs}
 use Rattle.running.proofs.run.Statement.{statement}
 use Rattle.running.proofs.run.Tie as tie
 
-plan-table-requires : tie.Need-plan-table-requires
-plan-table-requires c κs = search needs
-
 returns : tie.Need-returns
 returns c = let a = c .before .before .before .before .before .before .before .args in
     let x = c .before .before .plan-table in
@@ -19,14 +16,10 @@ run-planned-requires c κs = let a = c .before .before .before .before .before .
     let x = c .before .before .before .before .before .plan-table in
     made-laid (now (a .s)) (settings (a .processors)) (x .result) _ (x .ensures .made (c .before .before .before .if1 .left))
 
-same-length : tie.Need-same-length
-same-length c = search needs
-
 returns-2 : tie.Need-returns-2
 returns-2 c = let a = c .before .before .before .before .before .before .before .before .before .before .before .before .before .args in
     let x = c .before .before .before .before .before .before .before .before .plan-table in
     c .before .before .run-planned .ensures (now (a .s)) (settings (a .processors)) (x .ensures .made (c .before .before .before .before .before .before .if1 .left) .is)
 
 pub run-spec : {M : Type 1} → statement M
-run-spec =
-    tie.close (tie.spec plan-table-requires returns run-planned-requires same-length returns-2)
+run-spec = tie.close (tie.spec (λ c κs. search needs) returns run-planned-requires (λ c. search needs) returns-2)

@@ -12,15 +12,6 @@ use borrow.Author.Needs.{needs}
 use Rattle.running.proofs.run_planned.Statement.{statement}
 use Rattle.running.proofs.run_planned.Tie as tie
 
-bases-of-requires : tie.Need-bases-of-requires
-bases-of-requires c κs = search needs
-
-array-read-wide : tie.Need-array-read-wide
-array-read-wide c = search needs
-
-wide-requires : tie.Need-wide-requires
-wide-requires c κs = search needs
-
 returns : tie.Need-returns
 returns c = let a = c .before .before .before .before .before .before .args in
     let p = c .before .before .before .before .before .before .pre in
@@ -33,15 +24,6 @@ returns c = let a = c .before .before .before .before .before .before .args in
 put-ends-requires : tie.Need-put-ends-requires
 put-ends-requires c κs = (c .before .before .before .before .before .before .before .pre, refl, zeros-small 192)
 
-slice-aggregate-put-all-lists : tie.Need-slice-aggregate-put-all-lists
-slice-aggregate-put-all-lists c = search needs
-
-put-all-lists-requires : tie.Need-put-all-lists-requires
-put-all-lists-requires c κs = search needs
-
-slice-aggregate-run-row : tie.Need-slice-aggregate-run-row
-slice-aggregate-run-row c = search needs
-
 run-row-requires : tie.Need-run-row-requires
 run-row-requires c κs = let a = c .before .before .before .before .before .before .before .before .before .before .before .before .before .before .before .args in
     let p = c .before .before .before .before .before .before .before .before .before .before .before .before .before .before .before .pre in
@@ -52,9 +34,6 @@ run-row-requires c κs = let a = c .before .before .before .before .before .befo
     let l = c .before .before .before .before .before .before .before .put-ends .ensures in
     let y = c .before .before .before .before .before .put-all-lists .ensures in
     (given-some (a .a) st p _ _ (bs .result .firsts) ld (l .0) (l .1) (omega (arith, y .long)) (y .each), c .before .before .before .before .before .before .before .before .before .if1 .left ∙ n)
-
-same-length : tie.Need-same-length
-same-length c = search needs
 
 returns-2 : tie.Need-returns-2
 returns-2 c = let a = c .before .before .before .before .before .before .before .before .before .before .before .before .before .before .before .before .before .before .args in
@@ -71,16 +50,6 @@ returns-2 c = let a = c .before .before .before .before .before .before .before 
 
 pub run-planned-spec : {M : Type 1} → statement M
 run-planned-spec =
-    tie.close
-    (tie.spec
-    bases-of-requires
-    array-read-wide
-    wide-requires
-    returns
-    put-ends-requires
-    slice-aggregate-put-all-lists
-    put-all-lists-requires
-    slice-aggregate-run-row
-    run-row-requires
-    same-length
-    returns-2)
+    tie.close (tie.spec
+      (λ c κs. search needs) (λ c. search needs) (λ c κs. search needs) returns put-ends-requires
+      (λ c. search needs) (λ c κs. search needs) (λ c. search needs) run-row-requires (λ c. search needs) returns-2)

@@ -4,12 +4,6 @@ use borrow.Author.Needs.{needs}
 use Rattle.running.proofs.run_row.Statement.{statement}
 use Rattle.running.proofs.run_row.Tie as tie
 
-take-order-requires : tie.Need-take-order-requires
-take-order-requires c κs = search needs
-
-listed-requires : tie.Need-listed-requires
-listed-requires c κs = search needs
-
 close-requires : tie.Need-close-requires
 close-requires c κs = let p = c .before .before .before .before .before .before .before .before .before .before .before .pre in
     let w = p .0 .0 in
@@ -18,9 +12,6 @@ close-requires c κs = let p = c .before .before .before .before .before .before
     let o = c .before .before .before .before .before .take-order .ensures w step g in
     ((w, (step, g, o .reachable)), o .long)
 
-same-length : tie.Need-same-length
-same-length c = search needs
-
 returns : tie.Need-returns
 returns c = λ w step g.
     let o = c .before .before .before .before .before .before .before .before .take-order .ensures w step g in
@@ -28,4 +19,5 @@ returns c = λ w step g.
 
 pub run-row-spec : {M : Type 1} → statement M
 run-row-spec =
-    tie.close (tie.spec take-order-requires listed-requires close-requires same-length returns)
+    tie.close (tie.spec
+      (λ c κs. search needs) (λ c κs. search needs) close-requires (λ c. search needs) returns)

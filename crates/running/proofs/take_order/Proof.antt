@@ -22,9 +22,6 @@ loop-holds c = let a = c .before .before .before .args in
     let p = c .before .before .before .pre in
     λ w step g. going-start w step (a .processors) (now (a .ends)) (now (a .lists)) (now (a .store)) (now (a .bases)) g (now (a .order)) (now (a .memory)) (p .2) (now (a .counts)) (p .1)
 
-shared-slice-read-call : tie.Need-shared-slice-read-call Inv-loop μ-loop
-shared-slice-read-call c = omega arith
-
 call-requires : tie.Need-call-requires Inv-loop μ-loop
 call-requires c κs = let a = c .before .before .before .before .before .before .before .before .args in
     let p = c .before .before .before .before .before .before .before .before .pre in
@@ -44,9 +41,6 @@ add-k c = let a = c .before .before .before .before .before .before .before .bef
     let i = c .before .before .before .before .before .before .before .loop .inv (p .0 .0) (p .0 .1 .0) (p .0 .1 .1) in
     omega (arith, c .before .before .before .before .before .before .loop-test .taken)
 
-loop-less : tie.Need-loop-less Inv-loop μ-loop
-loop-less c = omega arith
-
 loop-again : tie.Need-loop-again Inv-loop μ-loop
 loop-again c = let a = c .before .before .before .before .before .before .before .before .before .before .before .args in
     let l = c .before .before .before .before .before .before .before .loop in
@@ -65,16 +59,6 @@ returns c = let a = c .before .before .before .before .before .args in
 
 pub take-order-spec : {M : Type 1} → statement M
 take-order-spec =
-    tie.close
-    (tie.spec
-    Inv-loop
-    μ-loop
-    loop-holds
-    shared-slice-read-call
-    call-requires
-    add-idle
-    add-k
-    loop-less
-    loop-again
-    same-length
-    returns)
+    tie.close (tie.spec
+      Inv-loop μ-loop loop-holds (λ c. omega arith) call-requires add-idle add-k (λ c. omega arith) loop-again
+      same-length returns)

@@ -13,9 +13,6 @@ Inv-loop store loops k₀ k = LoopInv store loops k
 abbrev μ-loop : tie.MeasureT-loop
 μ-loop store loops k₀ k = loops - k
 
-loops-in-requires : tie.Need-loops-in-requires Inv-loop μ-loop
-loops-in-requires c κs = search needs
-
 loop-holds : tie.Need-loop-holds Inv-loop μ-loop
 loop-holds c = let b = c .before in loops-start (now (b .args .store)) (b .pre) (c .loops-in .result) (c .loops-in .ensures)
 
@@ -25,17 +22,11 @@ loop-hit-requires c κs =
     let b = c .before .before .before in
     rows-known (now (b .args .store)) (b .pre) (l .k) (there (now (b .args .store)) (b .pre) _ (l .k) (l .inv) (c .loop-test .taken))
 
-enum-told : tie.Need-enum-told Inv-loop μ-loop
-enum-told c = search needs
-
 add-k : tie.Need-add-k Inv-loop μ-loop
 add-k c =
     let l = c .before .before .before .before .loop in
     let h = c .before .before .before .before .before .before .pre in
     omega (arith, few-loops h, count-held h, l .inv .all)
-
-loop-less : tie.Need-loop-less Inv-loop μ-loop
-loop-less c = omega arith
 
 loop-again : tie.Need-loop-again Inv-loop μ-loop
 loop-again c =
@@ -43,9 +34,6 @@ loop-again c =
     let l = d .before .before .loop in
     let b = d .before .before .before .before in
     loop-passed (now (b .args .store)) (b .pre) _ (l .k) (l .inv) (d .before .loop-test .taken) (d .loop-hit .result) (d .loop-hit .ensures) (c .enum-told .given .1)
-
-enum-known-hit : tie.Need-enum-known-hit Inv-loop μ-loop
-enum-known-hit c = search needs
 
 returns : tie.Need-returns Inv-loop μ-loop
 returns c =
@@ -63,17 +51,6 @@ returns-2 c =
 
 pub check-loops-spec : {M : Type 1} → statement M
 check-loops-spec =
-    tie.close
-    (tie.spec
-    Inv-loop
-    μ-loop
-    loops-in-requires
-    loop-holds
-    loop-hit-requires
-    enum-told
-    add-k
-    loop-less
-    loop-again
-    enum-known-hit
-    returns
-    returns-2)
+    tie.close (tie.spec
+      Inv-loop μ-loop (λ c κs. search needs) loop-holds loop-hit-requires (λ c. search needs) add-k
+      (λ c. omega arith) loop-again (λ c. search needs) returns returns-2)

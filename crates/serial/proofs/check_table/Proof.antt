@@ -4,15 +4,6 @@ use borrow.Author.Needs.{needs}
 use Rattle.serial.proofs.check_table.Statement.{statement}
 use Rattle.serial.proofs.check_table.Tie as tie
 
-read-table-requires : tie.Need-read-table-requires
-read-table-requires c κs = search needs
-
-enum-known-r : tie.Need-enum-known-r
-enum-known-r c = search needs
-
-enum-told : tie.Need-enum-told
-enum-told c = search needs
-
 check-loops-requires : tie.Need-check-loops-requires
 check-loops-requires c κs =
     let b = c .before .before .before in
@@ -33,5 +24,5 @@ returns-2 c =
 
 pub check-table-spec : {M : Type 1} → statement M
 check-table-spec =
-    tie.close
-    (tie.spec read-table-requires enum-known-r enum-told check-loops-requires returns returns-2)
+    tie.close (tie.spec
+      (λ c κs. search needs) (λ c. search needs) (λ c. search needs) check-loops-requires returns returns-2)

@@ -13,15 +13,6 @@ returns-2 : tie.Need-returns-2
 unfolding collides
 returns-2 c = simp (eq-eqb _ _ (c .before .if1 .left), eq-eqb _ _ (c .if2 .taken))
 
-wide-requires : tie.Need-wide-requires
-wide-requires c κs = search needs
-
-add-if3 : tie.Need-add-if3
-add-if3 c = search needs
-
-wide-requires-2 : tie.Need-wide-requires-2
-wide-requires-2 c κs = search needs
-
 returns-3 : tie.Need-returns-3
 unfolding collides
 returns-3 c =
@@ -33,15 +24,6 @@ returns-3 c =
       ← (c .before .wide2 .ensures .0),
       lt-leb _ _ (c .if3 .taken),
     )
-
-wide-requires-3 : tie.Need-wide-requires-3
-wide-requires-3 c κs = search needs
-
-add-if4 : tie.Need-add-if4
-add-if4 c = search needs
-
-wide-requires-4 : tie.Need-wide-requires-4
-wide-requires-4 c κs = search needs
 
 returns-4 : tie.Need-returns-4
 unfolding collides
@@ -65,16 +47,6 @@ returns-5 c =
 
 pub collide-spec : {M : Type 1} → statement M
 collide-spec =
-    tie.close
-    (tie.spec
-    returns
-    returns-2
-    wide-requires
-    add-if3
-    wide-requires-2
-    returns-3
-    wide-requires-3
-    add-if4
-    wide-requires-4
-    returns-4
-    returns-5)
+    tie.close (tie.spec
+      returns returns-2 (λ c κs. search needs) (λ c. search needs) (λ c κs. search needs) returns-3
+      (λ c κs. search needs) (λ c. search needs) (λ c κs. search needs) returns-4 returns-5)

@@ -44,9 +44,6 @@ add-reads c = omega (arith, c .before .before .before .before .before .before .b
 add-row : tie.Need-add-row Inv-loop μ-loop
 add-row c = omega (arith, c .before .before .before .before .pre .0)
 
-loop-less : tie.Need-loop-less Inv-loop μ-loop
-loop-less c = omega arith
-
 loop-again : tie.Need-loop-again Inv-loop μ-loop
 loop-again c =
     let a = c .before .before .before .before .args in
@@ -71,18 +68,6 @@ returns-2 c =
 
 pub first-hit-spec : {M : Type 1} → statement M
 first-hit-spec =
-    tie.close
-    (tie.spec
-    Inv-loop
-    μ-loop
-    loop-holds
-    kind-at-requires
-    array-at-requires
-    value-at-requires
-    collide-requires
-    returns
-    add-reads
-    add-row
-    loop-less
-    loop-again
-    returns-2)
+    tie.close (tie.spec
+      Inv-loop μ-loop loop-holds kind-at-requires array-at-requires value-at-requires collide-requires returns
+      add-reads add-row (λ c. omega arith) loop-again returns-2)

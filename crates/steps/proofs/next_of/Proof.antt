@@ -9,21 +9,6 @@ use borrow.Author.Needs.{needs}
 use Rattle.steps.proofs.next_of.Statement.{statement}
 use Rattle.steps.proofs.next_of.Tie as tie
 
-wide-requires : tie.Need-wide-requires
-wide-requires c κs = search needs
-
-mul-done : tie.Need-mul-done
-mul-done c = search needs
-
-element-copy-out-done : tie.Need-element-copy-out-done
-element-copy-out-done c = search needs
-
-phase-of-requires : tie.Need-phase-of-requires
-phase-of-requires c κs = search needs
-
-is-closed-requires : tie.Need-is-closed-requires
-is-closed-requires c κs = search needs
-
 returns : tie.Need-returns
 returns c = let a = c .before .before .before .before .before .before .args in
     let cs = now (a .counts) in
@@ -31,12 +16,6 @@ returns c = let a = c .before .before .before .before .before .before .args in
     let e = ap (λ (k : ℕ). getD cs k 0) (c .before .before .before .before .wide .ensures .0) in
     let f = n .ensures .0 ∙ ap (λ (k : ℕ). phaseBy (now (a .ends)) 2 (a .b) k) e in
     λ w h. says-waits h cs (n .result) f (n .ensures .1) (sym (c .if1 .taken) ∙ c .before .is-closed .ensures)
-
-add-before-of : tie.Need-add-before-of
-add-before-of c = search needs
-
-before-of-requires : tie.Need-before-of-requires
-before-of-requires c κs = search needs
 
 returns-2 : tie.Need-returns-2
 returns-2 c = let a = c .before .before .before .before .before .before .before .before .args in
@@ -47,21 +26,6 @@ returns-2 c = let a = c .before .before .before .before .before .before .before 
     λ w h. says-ends h cs (n .result) f (n .ensures .1) (sym (c .before .before .if1 .left) ∙ c .before .before .before .is-closed .ensures)
     (omega (arith, e, c .if2 .taken, c .before .before-of .ensures))
 
-loops-in-requires : tie.Need-loops-in-requires
-loops-in-requires c κs = search needs
-
-wide-requires-2 : tie.Need-wide-requires-2
-wide-requires-2 c κs = search needs
-
-mul-place : tie.Need-mul-place
-mul-place c = search needs
-
-add-place : tie.Need-add-place
-add-place c = search needs
-
-before-of-requires-2 : tie.Need-before-of-requires-2
-before-of-requires-2 c κs = search needs
-
 sub-n : tie.Need-sub-n
 sub-n c = let a = c .before .before .before .before .before .before .before .before .before .before .before .args in
     let cs = now (a .counts) in
@@ -69,9 +33,6 @@ sub-n c = let a = c .before .before .before .before .before .before .before .bef
     let e = ap (λ (k : ℕ). getD cs k 0) (c .before .before .before .before .before .before .before .before .before .wide .ensures .0) in
     let f = n .ensures .0 ∙ ap (λ (k : ℕ). phaseBy (now (a .ends)) 2 (a .b) k) e in
     omega (arith, e, c .before-of2 .ensures, used (c .before .before .before .before .before .before .before .before .before .before .before .pre .0 .1) cs (n .result) f (n .ensures .1))
-
-wide-requires-3 : tie.Need-wide-requires-3
-wide-requires-3 c κs = search needs
 
 nth-of-requires : tie.Need-nth-of-requires
 nth-of-requires c κs = let a = c .before .before .before .before .before .before .before .before .before .before .before .before .args in
@@ -97,23 +58,8 @@ returns-3 c = let a = c .before .before .before .before .before .before .before 
 
 pub next-of-spec : {M : Type 1} → statement M
 next-of-spec =
-    tie.close
-    (tie.spec
-    wide-requires
-    mul-done
-    element-copy-out-done
-    phase-of-requires
-    is-closed-requires
-    returns
-    add-before-of
-    before-of-requires
-    returns-2
-    loops-in-requires
-    wide-requires-2
-    mul-place
-    add-place
-    before-of-requires-2
-    sub-n
-    wide-requires-3
-    nth-of-requires
-    returns-3)
+    tie.close (tie.spec
+      (λ c κs. search needs) (λ c. search needs) (λ c. search needs) (λ c κs. search needs) (λ c κs. search needs)
+      returns (λ c. search needs) (λ c κs. search needs) returns-2 (λ c κs. search needs) (λ c κs. search needs)
+      (λ c. search needs) (λ c. search needs) (λ c κs. search needs) sub-n (λ c κs. search needs) nth-of-requires
+      returns-3)

@@ -11,12 +11,6 @@ use borrow.Author.Needs.{needs}
 use Rattle.steps.proofs.turn.Statement.{statement}
 use Rattle.steps.proofs.turn.Tie as tie
 
-next-of-requires : tie.Need-next-of-requires
-next-of-requires c κs = search needs
-
-enum-known-report : tie.Need-enum-known-report
-enum-known-report c = search needs
-
 iterate-requires : tie.Need-iterate-requires
 iterate-requires c κs = let a = c .before .before .before .before .before .before .before .before .args in
     let p = c .before .before .before .before .before .before .before .before .pre in
@@ -26,15 +20,6 @@ iterate-requires c κs = let a = c .before .before .before .before .before .befo
     let g = c .before .before .report .given in
     (tableIn (now (a .store)), h .loaded, performed-inside h (now (a .counts)) (g .0 .0) (g .0 .1 .0) (x .result) (x .ensures w (h .listed)) (g .1) .0, p .2)
 
-wide-requires : tie.Need-wide-requires
-wide-requires c κs = search needs
-
-mul-counts : tie.Need-mul-counts
-mul-counts c = search needs
-
-element-copy-out-counts : tie.Need-element-copy-out-counts
-element-copy-out-counts c = search needs
-
 add-counts : tie.Need-add-counts
 add-counts c = let a = c .before .before .before .before .before .before .before .before .before .before .before .before .before .args in
     let p = c .before .before .before .before .before .before .before .before .before .before .before .before .before .pre in
@@ -43,12 +28,6 @@ add-counts c = let a = c .before .before .before .before .before .before .before
     let g = c .before .before .before .before .before .before .before .report .given in
     let e = ap (λ (k : ℕ). getD (now (a .counts)) k 0) (c .before .wide .ensures .0) in
     record { fits = omega (arith, e, performed-inside h (now (a .counts)) (g .0 .0) (g .0 .1 .0) (x .result) (x .ensures (p .0 .0) (h .listed)) (g .1) .1) }
-
-element-write-counts : tie.Need-element-write-counts
-element-write-counts c = search needs
-
-same-length : tie.Need-same-length
-same-length c = search needs
 
 returns : tie.Need-returns
 returns c = let a = c .before .before .before .before .before .before .before .before .before .before .before .before .before .args in
@@ -65,16 +44,6 @@ returns-2 c = let a = c .before .before .before .before .before .args in
 
 pub turn-spec : {M : Type 1} → statement M
 turn-spec =
-    tie.close
-    (tie.spec
-    next-of-requires
-    enum-known-report
-    iterate-requires
-    wide-requires
-    mul-counts
-    element-copy-out-counts
-    add-counts
-    element-write-counts
-    same-length
-    returns
-    returns-2)
+    tie.close (tie.spec
+      (λ c κs. search needs) (λ c. search needs) iterate-requires (λ c κs. search needs) (λ c. search needs)
+      (λ c. search needs) add-counts (λ c. search needs) (λ c. search needs) returns returns-2)

@@ -12,9 +12,6 @@ Inv-loop store loops s₀ k₀ s k = LoopInv store loops k s
 abbrev μ-loop : tie.MeasureT-loop
 μ-loop store loops s₀ k₀ s k = loops - k
 
-loops-in-requires : tie.Need-loops-in-requires Inv-loop μ-loop
-loops-in-requires c κs = search needs
-
 loop-holds : tie.Need-loop-holds Inv-loop μ-loop
 loop-holds c = loops-start (now (c .before .args .store)) (c .before .pre) (c .loops-in .result) (c .loops-in .ensures)
 
@@ -41,12 +38,6 @@ with-loop-requires c κs =
     rw (c .start-at2 .ensures, c .before .start-at .ensures)
     (room (now (n .before .args .store)) (n .before .pre) (n .loops-in .result) (n .loops-in .ensures) (l .k) (l .s) (l .inv) (t .loop-test .taken))
 
-add-k : tie.Need-add-k Inv-loop μ-loop
-add-k c = search needs
-
-loop-less : tie.Need-loop-less Inv-loop μ-loop
-loop-less c = omega arith
-
 loop-again : tie.Need-loop-again Inv-loop μ-loop
 loop-again c =
     let t = c .before .before .before in
@@ -54,12 +45,6 @@ loop-again c =
     let n = t .before .before in
     loops-next (now (n .before .args .store)) (n .before .pre) (n .loops-in .result) (n .loops-in .ensures) (l .k) (l .s) (l .inv) (t .loop-test .taken)
     (c .with-loop .result) (rw (c .before .start-at2 .ensures, c .before .before .start-at .ensures) at (c .with-loop .ensures))
-
-size-of-requires : tie.Need-size-of-requires Inv-loop μ-loop
-size-of-requires c κs = search needs
-
-size-of-requires-2 : tie.Need-size-of-requires-2 Inv-loop μ-loop
-size-of-requires-2 c κs = search needs
 
 add-after : tie.Need-add-after Inv-loop μ-loop
 add-after c = omega (arith, c .before .size-of .ensures .1, c .size-of2 .ensures .1)
@@ -75,20 +60,7 @@ returns c =
 
 pub sweeps-of-spec : {M : Type 1} → statement M
 sweeps-of-spec =
-    tie.close
-    (tie.spec
-    Inv-loop
-    μ-loop
-    loops-in-requires
-    loop-holds
-    start-at-requires
-    add-start-at
-    start-at-requires-2
-    with-loop-requires
-    add-k
-    loop-less
-    loop-again
-    size-of-requires
-    size-of-requires-2
-    add-after
-    returns)
+    tie.close (tie.spec
+      Inv-loop μ-loop (λ c κs. search needs) loop-holds start-at-requires add-start-at start-at-requires-2
+      with-loop-requires (λ c. search needs) (λ c. omega arith) loop-again (λ c κs. search needs)
+      (λ c κs. search needs) add-after returns)

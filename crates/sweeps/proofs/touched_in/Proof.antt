@@ -16,9 +16,6 @@ abbrev μ-loop : tie.MeasureT-loop
 array-at-requires : tie.Need-array-at-requires Inv-loop μ-loop
 array-at-requires c κs = omega (arith, c .pre .0, c .pre .1)
 
-wide-requires : tie.Need-wide-requires Inv-loop μ-loop
-wide-requires c κs = search needs
-
 with-mark-requires : tie.Need-with-mark-requires Inv-loop μ-loop
 with-mark-requires c κs =
     let b = c .before .before in
@@ -48,9 +45,6 @@ with-row-requires c κs =
 add-row-2 : tie.Need-add-row-2 Inv-loop μ-loop
 add-row-2 c = omega (arith, c .before .before .before .before .before .before .before .before .pre .1)
 
-loop-less : tie.Need-loop-less Inv-loop μ-loop
-loop-less c = omega arith
-
 loop-again : tie.Need-loop-again Inv-loop μ-loop
 loop-again c =
     let t = c .before .before .before in
@@ -67,19 +61,6 @@ returns c =
 
 pub touched-in-spec : {M : Type 1} → statement M
 touched-in-spec =
-    tie.close
-    (tie.spec
-    Inv-loop
-    μ-loop
-    array-at-requires
-    wide-requires
-    with-mark-requires
-    add-row
-    loop-holds
-    kind-at-requires
-    array-at-requires-2
-    with-row-requires
-    add-row-2
-    loop-less
-    loop-again
-    returns)
+    tie.close (tie.spec
+      Inv-loop μ-loop array-at-requires (λ c κs. search needs) with-mark-requires add-row loop-holds
+      kind-at-requires array-at-requires-2 with-row-requires add-row-2 (λ c. omega arith) loop-again returns)

@@ -6,37 +6,10 @@ use borrow.Author.Needs.{needs}
 use Rattle.sweeps.proofs.with_loop.Statement.{statement}
 use Rattle.sweeps.proofs.with_loop.Tie as tie
 
-touched-in-requires : tie.Need-touched-in-requires
-touched-in-requires c κs = search needs
-
-array-at-requires : tie.Need-array-at-requires
-array-at-requires c κs = search needs
-
-wide-requires : tie.Need-wide-requires
-wide-requires c κs = search needs
-
 with-mark-requires : tie.Need-with-mark-requires
 with-mark-requires c κs =
     let b = c .before .before .before in
     omega (arith, c .wide .ensures .0, c .before .array-at .ensures, b .pre .3 (b .args .from) (b .pre .1) .array)
-
-size-of-requires : tie.Need-size-of-requires
-size-of-requires c κs = search needs
-
-size-of-requires-2 : tie.Need-size-of-requires-2
-size-of-requires-2 c κs = search needs
-
-add-sizes : tie.Need-add-sizes
-add-sizes c = search needs
-
-add-before : tie.Need-add-before
-add-before c = search needs
-
-union-requires : tie.Need-union-requires
-union-requires c κs = search needs
-
-union-requires-2 : tie.Need-union-requires-2
-union-requires-2 c κs = search needs
 
 returns : tie.Need-returns
 returns c =
@@ -53,16 +26,7 @@ returns c =
 
 pub with-loop-spec : {M : Type 1} → statement M
 with-loop-spec =
-    tie.close
-    (tie.spec
-    touched-in-requires
-    array-at-requires
-    wide-requires
-    with-mark-requires
-    size-of-requires
-    size-of-requires-2
-    add-sizes
-    add-before
-    union-requires
-    union-requires-2
-    returns)
+    tie.close (tie.spec
+      (λ c κs. search needs) (λ c κs. search needs) (λ c κs. search needs) with-mark-requires (λ c κs. search needs)
+      (λ c κs. search needs) (λ c. search needs) (λ c. search needs) (λ c κs. search needs) (λ c κs. search needs)
+      returns)

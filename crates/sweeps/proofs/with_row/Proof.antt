@@ -6,12 +6,6 @@ use borrow.Author.Needs.{needs}
 use Rattle.sweeps.proofs.with_row.Statement.{statement}
 use Rattle.sweeps.proofs.with_row.Tie as tie
 
-wide-requires : tie.Need-wide-requires
-wide-requires c κs = search needs
-
-with-mark-requires : tie.Need-with-mark-requires
-with-mark-requires c κs = search needs
-
 returns : tie.Need-returns
 returns c = λ q. rw (eq-eqb _ _ (c .before .before .if1 .taken), ← (c .before .wide .ensures .0)) (c .with-mark .ensures q)
 
@@ -19,4 +13,4 @@ returns-2 : tie.Need-returns-2
 returns-2 c = λ q. rw (ne-eqb _ _ (c .if1 .left)) (sym (or-false (marked (c .before .args .m) q)))
 
 pub with-row-spec : {M : Type 1} → statement M
-with-row-spec = tie.close (tie.spec wide-requires with-mark-requires returns returns-2)
+with-row-spec = tie.close (tie.spec (λ c κs. search needs) (λ c κs. search needs) returns returns-2)

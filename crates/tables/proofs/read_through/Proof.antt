@@ -4,27 +4,6 @@ use borrow.Author.Needs.{needs}
 use Rattle.tables.proofs.read_through.Statement.{statement}
 use Rattle.tables.proofs.read_through.Tie as tie
 
-check-table-requires : tie.Need-check-table-requires
-check-table-requires c κs = search needs
-
-enum-known-r : tie.Need-enum-known-r
-enum-known-r c = search needs
-
-wide-requires : tie.Need-wide-requires
-wide-requires c κs = search needs
-
-refusal-requires : tie.Need-refusal-requires
-refusal-requires c κs = search needs
-
-enum-known-r-2 : tie.Need-enum-known-r-2
-enum-known-r-2 c = search needs
-
-refusal-requires-2 : tie.Need-refusal-requires-2
-refusal-requires-2 c κs = search needs
-
-enum-told : tie.Need-enum-told
-enum-told c = search needs
-
 returns : tie.Need-returns
 returns c =
     let d = c .before .before .before in
@@ -49,15 +28,6 @@ returns-3 c =
 
 pub read-through-spec : {M : Type 1} → statement M
 read-through-spec =
-    tie.close
-    (tie.spec
-    check-table-requires
-    enum-known-r
-    wide-requires
-    refusal-requires
-    enum-known-r-2
-    refusal-requires-2
-    enum-told
-    returns
-    returns-2
-    returns-3)
+    tie.close (tie.spec
+      (λ c κs. search needs) (λ c. search needs) (λ c κs. search needs) (λ c κs. search needs) (λ c. search needs)
+      (λ c κs. search needs) (λ c. search needs) returns returns-2 returns-3)

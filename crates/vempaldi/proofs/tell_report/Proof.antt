@@ -6,12 +6,6 @@ use borrow.Author.Needs.{needs}
 use Rattle.vempaldi.proofs.tell_report.Statement.{statement}
 use Rattle.vempaldi.proofs.tell_report.Tie as tie
 
-enum-known-r : tie.Need-enum-known-r
-enum-known-r c = search needs
-
-enum-known-r-2 : tie.Need-enum-known-r-2
-enum-known-r-2 c = search needs
-
 cast-write-report : tie.Need-cast-write-report
 unfolding Small
 cast-write-report c = let z = subst (λ (x : Report). Small x) (c .before .before .r2 .given .1) (c .before .before .before .before .pre) in omega (arith, z .0)
@@ -19,21 +13,6 @@ cast-write-report c = let z = subst (λ (x : Report). Small x) (c .before .befor
 cast-write-report-2 : tie.Need-cast-write-report-2
 unfolding Small
 cast-write-report-2 c = let z = subst (λ (x : Report). Small x) (c .before .before .r2 .given .1) (c .before .before .before .before .pre) in omega (arith, z .1)
-
-write-report-requires : tie.Need-write-report-requires
-write-report-requires c κs = search needs
-
-enum-told : tie.Need-enum-told
-enum-told c = search needs
-
-write-report-requires-2 : tie.Need-write-report-requires-2
-write-report-requires-2 c κs = search needs
-
-enum-told-2 : tie.Need-enum-told-2
-enum-told-2 c = search needs
-
-write-report-requires-3 : tie.Need-write-report-requires-3
-write-report-requires-3 c κs = search needs
 
 returns : tie.Need-returns
 unfolding reported
@@ -53,18 +32,7 @@ returns-4 c = rw (c .before .before .enum-told2 .given .1) (c .write-report3 .en
 
 pub tell-report-spec : {M : Type 1} → statement M
 tell-report-spec =
-    tie.close
-    (tie.spec
-    enum-known-r
-    enum-known-r-2
-    cast-write-report
-    cast-write-report-2
-    write-report-requires
-    enum-told
-    write-report-requires-2
-    enum-told-2
-    write-report-requires-3
-    returns
-    returns-2
-    returns-3
-    returns-4)
+    tie.close (tie.spec
+      (λ c. search needs) (λ c. search needs) cast-write-report cast-write-report-2 (λ c κs. search needs)
+      (λ c. search needs) (λ c κs. search needs) (λ c. search needs) (λ c κs. search needs) returns returns-2
+      returns-3 returns-4)

@@ -5,20 +5,11 @@ use borrow.Author.Needs.{needs}
 use Rattle.vempaldi.proofs.vempaldi_step.Statement.{statement}
 use Rattle.vempaldi.proofs.vempaldi_step.Tie as tie
 
-step-requires : tie.Need-step-requires
-step-requires c κs = search needs
-
 tell-report-requires : tie.Need-tell-report-requires
 tell-report-requires c κs =
     let a = c .before .before .before .before .before .before .before .before .before .before .args in
     let x = c .before .before .before .before .before .step in
     report-small (now (a .table)) (settings (a .processors)) (a .processor) (now (a .counts)) (now (a .memory)) (x .result) (x .last .1 .1 .1 .1 .0) (x .ensures)
-
-tell-answer-requires : tie.Need-tell-answer-requires
-tell-answer-requires c κs = search needs
-
-same-length : tie.Need-same-length
-same-length c = search needs
 
 returns : tie.Need-returns
 returns c =
@@ -30,5 +21,5 @@ returns c =
 
 pub vempaldi-step-spec : {M : Type 1} → statement M
 vempaldi-step-spec =
-    tie.close
-    (tie.spec step-requires tell-report-requires tell-answer-requires same-length returns)
+    tie.close (tie.spec
+      (λ c κs. search needs) tell-report-requires (λ c κs. search needs) (λ c. search needs) returns)

@@ -52,16 +52,6 @@ returns c = let a = c .before .before .before .args in
 
 pub work-rows-spec : {M : Type 1} → statement M
 work-rows-spec =
-    tie.close
-    (tie.spec
-    Inv-loop
-    μ-loop
-    loop-holds
-    kind-at-requires
-    array-at-requires
-    value-at-requires
-    work-item-requires
-    add-row
-    loop-less
-    loop-again
-    returns)
+    tie.close (tie.spec
+      Inv-loop μ-loop loop-holds kind-at-requires array-at-requires value-at-requires work-item-requires add-row
+      loop-less loop-again returns)

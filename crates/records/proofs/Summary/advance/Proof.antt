@@ -8,23 +8,11 @@ use borrow.Author.Needs.{needs}
 use Rattle.records.proofs.Summary.advance.Statement.{statement}
 use Rattle.records.proofs.Summary.advance.Tie as tie
 
-enum-told : tie.Need-enum-told
-enum-told c = search needs
-
-enum-known-r : tie.Need-enum-known-r
-enum-known-r c = search needs
-
 with-array-requires : tie.Need-with-array-requires
 with-array-requires c κs = subst (λ (x : Record). Room x (c .before .before .before .args .self)) (c .before .r .given .1) (c .before .before .before .pre)
 
-enum-known-r-2 : tie.Need-enum-known-r-2
-enum-known-r-2 c = search needs
-
 with-loop-requires : tie.Need-with-loop-requires
 with-loop-requires c κs = subst (λ (x : Record). Room x (c .before .before .before .args .self)) (c .before .r2 .given .1) (c .before .before .before .pre)
-
-enum-told-2 : tie.Need-enum-told-2
-enum-told-2 c = search needs
 
 add-with-item : tie.Need-add-with-item
 add-with-item c = let room = subst (λ (x : Record). Room x (c .before .before .before .args .self)) (c .before .enum-told2 .given .1) (c .before .before .before .pre) in omega (arith, room .1)
@@ -32,20 +20,11 @@ add-with-item c = let room = subst (λ (x : Record). Room x (c .before .before .
 with-item-requires : tie.Need-with-item-requires
 with-item-requires c κs = let room = subst (λ (x : Record). Room x (c .before .before .before .args .self)) (c .before .enum-told2 .given .1) (c .before .before .before .pre) in room .0
 
-enum-told-3 : tie.Need-enum-told-3
-enum-told-3 c = search needs
-
 add-with-item-2 : tie.Need-add-with-item-2
 add-with-item-2 c = let room = subst (λ (x : Record). Room x (c .before .before .before .args .self)) (c .before .enum-told3 .given .1) (c .before .before .before .pre) in omega (arith, room .1)
 
 with-item-requires-2 : tie.Need-with-item-requires-2
 with-item-requires-2 c κs = let room = subst (λ (x : Record). Room x (c .before .before .before .args .self)) (c .before .enum-told3 .given .1) (c .before .before .before .pre) in room .0
-
-enum-known-r-3 : tie.Need-enum-known-r-3
-enum-known-r-3 c = search needs
-
-operands-of-requires : tie.Need-operands-of-requires
-operands-of-requires c κs = search needs
 
 sub-with-item : tie.Need-sub-with-item
 sub-with-item c = let room = subst (λ (x : Record). Room x (c .before .before .before .before .before .args .self)) (c .before .before .before .r3 .given .1) (c .before .before .before .before .before .pre) in omega (arith, room .1, c .before .operands-of .ensures)
@@ -55,9 +34,6 @@ add-with-item-3 c = omega (arith, operands-one (c .before .before .before .r3 .g
 
 with-item-requires-3 : tie.Need-with-item-requires-3
 with-item-requires-3 c κs = let room = subst (λ (x : Record). Room x (c .before .before .before .before .before .args .self)) (c .before .before .before .r3 .given .1) (c .before .before .before .before .before .pre) in room .0
-
-enum-told-4 : tie.Need-enum-told-4
-enum-told-4 c = search needs
 
 returns : tie.Need-returns
 unfolding advanced
@@ -89,29 +65,8 @@ returns-7 c = rw (c .enum-told4 .given .1)
 
 pub advance-spec : {M : Type 1} → statement M
 advance-spec =
-    tie.close
-    (tie.spec
-    enum-told
-    enum-known-r
-    with-array-requires
-    enum-known-r-2
-    with-loop-requires
-    enum-told-2
-    add-with-item
-    with-item-requires
-    enum-told-3
-    add-with-item-2
-    with-item-requires-2
-    enum-known-r-3
-    operands-of-requires
-    sub-with-item
-    add-with-item-3
-    with-item-requires-3
-    enum-told-4
-    returns
-    returns-2
-    returns-3
-    returns-4
-    returns-5
-    returns-6
-    returns-7)
+    tie.close (tie.spec
+      (λ c. search needs) (λ c. search needs) with-array-requires (λ c. search needs) with-loop-requires
+      (λ c. search needs) add-with-item with-item-requires (λ c. search needs) add-with-item-2 with-item-requires-2
+      (λ c. search needs) (λ c κs. search needs) sub-with-item add-with-item-3 with-item-requires-3
+      (λ c. search needs) returns returns-2 returns-3 returns-4 returns-5 returns-6 returns-7)

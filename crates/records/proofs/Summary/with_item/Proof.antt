@@ -3,12 +3,9 @@ use borrow.Author.Needs.{needs}
 use Rattle.records.proofs.Summary.with_item.Statement.{statement}
 use Rattle.records.proofs.Summary.with_item.Tie as tie
 
-add-t : tie.Need-add-t
-add-t c = search needs
-
 returns : tie.Need-returns
 unfolding withItem
 returns c = search needs
 
 pub with-item-spec : {M : Type 1} → statement M
-with-item-spec = tie.close (tie.spec add-t returns)
+with-item-spec = tie.close (tie.spec (λ c. search needs) returns)

@@ -6,12 +6,6 @@ use borrow.Author.Needs.{needs}
 use Rattle.steps.proofs.Counts.step.Statement.{statement}
 use Rattle.steps.proofs.Counts.step.Tie as tie
 
-plan-for-requires : tie.Need-plan-for-requires
-plan-for-requires c κs = search needs
-
-refused-requires : tie.Need-refused-requires
-refused-requires c κs = search needs
-
 returns : tie.Need-returns
 returns c = let a = c .before .before .before .before .before .before .before .args in
     let x = c .before .before .before .plan-for in
@@ -22,9 +16,6 @@ step-planned-requires c κs = let a = c .before .before .before .before .before 
     let x = c .before .before .before .before .before .plan-for in
     laid-named (now (a .s)) (settings (a .processors)) (a .processor) (x .result) (x .last .1 .1 .1 .0) (x .ensures) (a .self) (now (a .memory)) (c .before .before .before .if1 .left)
 
-same-length : tie.Need-same-length
-same-length c = search needs
-
 returns-2 : tie.Need-returns-2
 returns-2 c = let a = c .before .before .before .before .before .before .before .before .before .before .before .before .args in
     let x = c .before .before .before .before .before .before .before .before .plan-for in
@@ -33,11 +24,5 @@ returns-2 c = let a = c .before .before .before .before .before .before .before 
 
 pub step-spec : {M : Type 1} → statement M
 step-spec =
-    tie.close
-    (tie.spec
-    plan-for-requires
-    refused-requires
-    returns
-    step-planned-requires
-    same-length
-    returns-2)
+    tie.close (tie.spec
+      (λ c κs. search needs) (λ c κs. search needs) returns step-planned-requires (λ c. search needs) returns-2)

@@ -11,18 +11,6 @@ use borrow.Author.Needs.{needs}
 use Rattle.steps.proofs.Counts.step_planned.Statement.{statement}
 use Rattle.steps.proofs.Counts.step_planned.Tie as tie
 
-bases-of-requires : tie.Need-bases-of-requires
-bases-of-requires c κs = search needs
-
-array-read-wide : tie.Need-array-read-wide
-array-read-wide c = search needs
-
-wide-requires : tie.Need-wide-requires
-wide-requires c κs = search needs
-
-refused-requires : tie.Need-refused-requires
-refused-requires c κs = search needs
-
 returns : tie.Need-returns
 returns c = let a = c .before .before .before .before .before .before .args in
     let p = c .before .before .before .before .before .before .pre in
@@ -34,12 +22,6 @@ returns c = let a = c .before .before .before .before .before .before .args in
 put-ends-requires : tie.Need-put-ends-requires
 put-ends-requires c κs = (c .before .before .before .before .before .before .pre .0, refl, zeros-small 192)
 
-wrong-state-requires : tie.Need-wrong-state-requires
-wrong-state-requires c κs = search needs
-
-refused-requires-2 : tie.Need-refused-requires-2
-refused-requires-2 c κs = search needs
-
 returns-2 : tie.Need-returns-2
 returns-2 c = let a = c .before .before .before .before .before .before .before .before .before .before .before .before .before .args in
     let p = c .before .before .before .before .before .before .before .before .before .before .before .before .before .pre in
@@ -47,15 +29,6 @@ returns-2 c = let a = c .before .before .before .before .before .before .before 
     let ld = loaded-in (a .a) st (p .0) (c .before .before .before .before .before .before .before .before .before .before .before .bases-of .result .firsts) (c .before .before .before .before .before .before .before .before .before .before .before .bases-of .ensures) in
     let n = loaded-total ld (c .before .before .before .before .before .before .before .before .before .wide .result) (c .before .before .before .before .before .before .before .before .before .wide .ensures .0) in
     rw (c .refused2 .ensures) (refl, leaves-wrong (a .a) st (a .b) (a .self .done) (now (a .memory)) (c .before .before .before .before .before .before .before .before .if1 .left ∙ n) _ (c .before .before .before .before .before .before .put-ends .ensures .0) (c .before .before .wrong-state .result) (c .before .before .wrong-state .ensures) (c .before .if2 .taken))
-
-slice-aggregate-put-lists : tie.Need-slice-aggregate-put-lists
-slice-aggregate-put-lists c = search needs
-
-put-lists-requires : tie.Need-put-lists-requires
-put-lists-requires c κs = search needs
-
-slice-aggregate-turn : tie.Need-slice-aggregate-turn
-slice-aggregate-turn c = search needs
 
 turn-requires : tie.Need-turn-requires
 turn-requires c κs = let a = c .before .before .before .before .before .before .before .before .before .before .before .before .before .before .before .before .before .before .before .before .args in
@@ -66,9 +39,6 @@ turn-requires c κs = let a = c .before .before .before .before .before .before 
     let l = c .before .before .before .before .before .before .before .before .before .before .before .before .before .put-ends .ensures in
     let long : length (a .self .done) ≡ 64 = search (needs, c .before .before .before .before .before .before .before .before .before .before .before .before .before .before .before .before .before .before .before .before .good) in
     ((workIn (a .a) st, ready-in (a .a) (a .b) _ _ 0 st _ (p .0) (p .1) (l .0) (l .1) (search needs) (c .before .before .before .before .before .before .put-lists .ensures .0) ld), long, c .before .before .before .before .before .before .before .before .before .before .before .before .before .before .before .if1 .left ∙ n)
-
-same-length : tie.Need-same-length
-same-length c = search needs
 
 returns-3 : tie.Need-returns-3
 returns-3 c = let a = c .before .before .before .before .before .before .before .before .before .before .before .before .before .before .before .before .before .before .before .before .before .before .before .args in
@@ -83,20 +53,7 @@ returns-3 c = let a = c .before .before .before .before .before .before .before 
 
 pub step-planned-spec : {M : Type 1} → statement M
 step-planned-spec =
-    tie.close
-    (tie.spec
-    bases-of-requires
-    array-read-wide
-    wide-requires
-    refused-requires
-    returns
-    put-ends-requires
-    wrong-state-requires
-    refused-requires-2
-    returns-2
-    slice-aggregate-put-lists
-    put-lists-requires
-    slice-aggregate-turn
-    turn-requires
-    same-length
-    returns-3)
+    tie.close (tie.spec
+      (λ c κs. search needs) (λ c. search needs) (λ c κs. search needs) (λ c κs. search needs) returns
+      put-ends-requires (λ c κs. search needs) (λ c κs. search needs) returns-2 (λ c. search needs)
+      (λ c κs. search needs) (λ c. search needs) turn-requires (λ c. search needs) returns-3)
