@@ -1,25 +1,40 @@
--- The walk as the code makes it: what is left to do, from what there is, gives the whole.
+-- The walk as the code makes it: over the rows of a loop, and over pairs of loops.
 use Prim.Native.Nat.{ℕ, zero, suc, _+_, _-_, max, _≤_, _<_}
 use mathlib.Core.Path.{_≡_, refl, sym, ap, _∙_}
-use mathlib.Core.Bool.{Bool, true, false}
-use mathlib.Core.List.{List, [], _∷_}
-use mathlib.Core.List.{List·Memᴰ as Mem, List·Memᴰ·head as mhere, List·Memᴰ·tail as mthere}
-use native.Mathlib.Nat.{max-zero, zero-max, sub-zero}
-use native.Mathlib.Decide.{ℕ-discrete, decLt}
+use mathlib.Core.Logic.{⊎-elim}
+use mathlib.Core.Bool.{true, false, false≢true, _&&_}
+use mathlib.Core.List.{List, [], _∷_, _++_}
+use mathlib.Core.List.{List·Memᴰ as Mem}
+use mathlib.Core.List.{List·Memᴰ·cases-cons as cases-cons, List·Memᴰ·not-nil as not-nil}
+use native.Mathlib.Nat.{max-zero, zero-max}
+use native.Mathlib.Decide.{ℕ-discrete}
 use native.Mathlib.Numerals.{add-one}
 use native.Mathlib.Omega.{arith}
-use borrow.Author.Tests.{ne-eqb}
+use borrow.Author.Tests.{eq-eqb, ne-eqb}
+use lib.Dec.{eqb}
 use lib.ListN.{length, getD, set, replicate, length-set}
+use lib.Seq.{getD-set-same}
+use Rattle.order.specs.Lists.{joined}
 use Rattle.model.specs.declared.Reference.{Reference}
-use Rattle.chains.specs.Dependence.{dependence, backward, forward}
-use Rattle.chains.specs.Maximum.{maximum}
-use Rattle.chains.specs.Walk.{required, required-met, required-none, required-late, required-reads, raised, raised-same, walk, numbers, zeros}
-use Rattle.chains.specs.Bounds.{Small, AtMost, raised-small}
-use Rattle.amounts.specs.Columns.{Columns, refAt, refsFrom, refs, requiredAt, WellFormed, refsFrom-late, refs-mem, refs-place}
-use Rattle.amounts.specs.Stores.{NextStore, NextStores, nextPlace}
+use Rattle.model.specs.Table.{Item, read, constant, operation, Table, count}
+use Rattle.model.specs.References.{reads, refs, allRefs}
+use Rattle.reader.specs.Store.{startAt, kindAt, arrayAt, itemsFrom, tableIn}
+use Rattle.reader.specs.Held.{Held, count-held, few-loops, opening-held}
+use Rattle.chains.specs.Dependence.{dependence, backward, forward, none-apart}
+use Rattle.chains.specs.Maximum.{maximum, maximum-append, maximum-none}
+use Rattle.chains.specs.Walk.{required, required-met, required-none, required-late, required-reads, walk, walk-append, walk-loop, numbers, zeros}
+use Rattle.chains.specs.Bounds.{Small, AtMost, walk-small}
+use Rattle.chains.specs.Tables.{refs-number, refs-allRefs}
+use Rattle.amounts.specs.declared.Requirement.{Requirement}
+use Rattle.amounts.specs.Rows.{refIn, readsIn, row-read, row-other, reads-next, reads-end, row-in, start-in, in-range}
+use Rattle.amounts.specs.Walked.{ReferenceFits, row-fits, ofPairs, Required, RequiredOf, Bounded, Walked}
 
-max-right : (a b c : ℕ) → max (max a b) c ≡ max a (max b c)
-max-right a b c = omega arith
+-- reads do not store
+reads-stores : (k : ℕ) (xs : List Item) (r : Reference) → Mem r (reads k xs) → r .stores ≡ false
+reads-stores k [] r m = absurd (not-nil m)
+reads-stores k (read a o ∷ xs) r m = ⊎-elim (λ e. ap (λ (q : Reference). q .stores) e) (reads-stores k xs r) (cases-cons m)
+reads-stores k (constant n ∷ xs) r m = reads-stores k xs r m
+reads-stores k (operation n ∷ xs) r m = reads-stores k xs r m
 
 module _ (amount : Reference → Reference → ℕ) (s : List ℕ) (y : Reference) where
   -- a pair that is a dependence, and one that is not
@@ -29,154 +44,236 @@ module _ (amount : Reference → Reference → ℕ) (s : List ℕ) (y : Referenc
   pub passed-over : (x : Reference) (b : ℕ) → dependence x y ≡ false → b ≡ max b (required amount s y x)
   passed-over x b e = rw (required-none amount s y x e) (sym (max-zero b))
 
-  maximum-late : (xs : List Reference) → ((x : Reference) → Mem x xs → y .number ≤ x .number) → maximum (required amount s y) xs ≡ 0
-  unfolding maximum
-  maximum-late [] f = refl
-  maximum-late (x ∷ xs) f = rw (required-late amount s y x (f x (mhere refl)), maximum-late xs (λ z m. f z (mthere m)))
+  -- where y reads, reads require nothing of its loop
+  reads-nothing : y .stores ≡ false → (k : ℕ) (xs : List Item) → maximum (required amount s y) (reads k xs) ≡ 0
+  reads-nothing e k xs = maximum-none _ (reads k xs) (λ x m. required-reads amount s y x (reads-stores k xs x m) e)
 
-module _ (c : Columns) where
-  -- what a pair of references asks before it is taken up
-  pub pair-bounds : WellFormed c → ((k : ℕ) → getD (c .offsets) k 0 < 65536) → (x y : Reference) (j i : ℕ) → x ≡ refAt c j → y ≡ refAt c i
-      → (x .number < 16) × (x .offset < 65536) × (y .offset < 65536)
-  pair-bounds formed known x y j i e f = rw (e, f) (formed .sixteen j, known j, known i)
-
-  -- what the references from j on require, beside a, is what all require
-  pub Left : (Reference → ℕ) → ℕ → ℕ → Type 0
-  Left f j a = max a (maximum f (refsFrom c j (length (c .loops) - j))) ≡ maximum f (refs c)
-
-  left-start : (f : Reference → ℕ) → Left f 0 0
-  unfolding Left refs
-  left-start f = rw sub-zero (zero-max _)
-
-  left-next : (f : Reference → ℕ) (j a b : ℕ) (x : Reference) → j < length (c .loops) → x ≡ refAt c j → b ≡ max a (f x) → Left f j a → Left f (j + 1) b
-  unfolding Left refsFrom maximum
-  left-next f j a b x h p q l =
-      let e : length (c .loops) - j ≡ suc (length (c .loops) - suc j) = omega arith in
-      let v = rw e at l in
-      rw (q, p, add-one) (max-right a (f (refAt c j)) (maximum f (refsFrom c (suc j) (length (c .loops) - suc j))) ∙ v)
-
-  -- references that require nothing are passed over
-  left-past : (f : Reference → ℕ) (j k a : ℕ) → j ≤ k → k ≤ length (c .loops) → ((m : ℕ) → j ≤ m → m < k → f (refAt c m) ≡ 0) → Left f j a → Left f k a
-  left-past f j zero a l h none p = let e : j ≡ 0 = omega arith in rw e at p
-  left-past f j (suc k) a l h none p = go (ℕ-discrete j (suc k)) (left-past f j k a)
+  -- nor do loops that are not earlier
+  late-nothing : (t : Table) (m n : ℕ) → y .number ≤ m → m ≤ n
+      → maximum (required amount s y) (joined n (refs t)) ≡ maximum (required amount s y) (joined m (refs t))
+  late-nothing t m zero a b = let e : m ≡ 0 = omega arith in rw e
+  late-nothing t m (suc n) a b = go (ℕ-discrete m (suc n)) (late-nothing t m n a)
     where
-      go : Dec (j ≡ suc k) → (j ≤ k → k ≤ length (c .loops) → ((m : ℕ) → j ≤ m → m < k → f (refAt c m) ≡ 0) → Left f j a → Left f k a) → Left f (suc k) a
-      go (yes e) ih = rw e at p
+      go : Dec (m ≡ suc n) → (m ≤ n → maximum (required amount s y) (joined n (refs t)) ≡ maximum (required amount s y) (joined m (refs t)))
+          → maximum (required amount s y) (joined n (refs t) ++ refs t n) ≡ maximum (required amount s y) (joined m (refs t))
+      go (yes e) ih = rw e
       go (no e) ih =
-          let z = none k (omega arith) (omega arith) in
-          rw add-one at (left-next f k a a (refAt c k) h refl (rw z (sym (max-zero a))) (ih (omega arith) (omega arith) (λ m b d. none m b (omega arith)) p))
+          let none = maximum-none (required amount s y) (refs t n) (λ x i. required-late amount s y x (omega (arith, refs-number t n x i))) in
+          omega (arith, maximum-append (required amount s y) (joined n (refs t)) (refs t n), none, ih (omega arith))
 
-  left-end : (amount : Reference → Reference → ℕ) (s : List ℕ) → WellFormed c → (i j a : ℕ) (y : Reference) → y ≡ refAt c i
-      → getD (c .loops) i 0 ≤ getD (c .loops) j 0 → Left (required amount s y) j a → a ≡ requiredAt amount c s i
-  unfolding Left
-  left-end amount s formed i j a y p g l =
-      let none = maximum-late amount s (refAt c i) (refsFrom c j (length (c .loops) - j)) (refsFrom-late c formed (getD (c .loops) i 0) j g) in
-      let v = rw p at l in
-      omega (arith, v, none)
+-- a row that is a read of an array is a read
+pub read-kind : (c : List ℕ) (r q : ℕ) → (eqb (kindAt c r) 0 && eqb (arrayAt c r) q) ≡ true → kindAt c r ≡ 0
+read-kind c r q e = go (ℕ-discrete (kindAt c r) 0)
+  where
+    go : Dec (kindAt c r ≡ 0) → kindAt c r ≡ 0
+    go (yes k) = k
+    go (no k) = absurd (false≢true (rw (ne-eqb _ _ k) at e))
 
-  -- place j is the next to be looked at for y; a and b are the shift and the peel required so far
-  pub record Remaining (shifts peels : List ℕ) (y : Reference) (j a b : ℕ) : Type 0 where
-    pub inside : j < length (c .loops)
-    pub shift : Left (required backward shifts y) j a
-    pub peel : Left (required forward peels y) j b
+-- WHAT PAIRS REQUIRE OF A LOOP
+module _ {shifts peels : List ℕ} {y : Reference} where
+  pub required-no : {b : Requirement} → Required shifts peels y [] b b
+  unfolding maximum
+  required-no {b} = record { shift = sym (max-zero (b .shift)); peel = sym (max-zero (b .peel)) }
 
-  module _ (formed : WellFormed c) (shifts peels : List ℕ) (i : ℕ) (h : i < length (c .loops)) (y : Reference) (p : y ≡ refAt c i) where
-    pub remaining-start : Remaining shifts peels y 0 0 0
-    remaining-start = record { inside = omega arith; shift = left-start _; peel = left-start _ }
+  pub required-then : {xs zs : List Reference} {b a r : Requirement} → Required shifts peels y xs b a → Required shifts peels y zs a r
+      → Required shifts peels y (xs ++ zs) b r
+  required-then {xs} {zs} {b} {a} {r} g h =
+      let s = maximum-append (required backward shifts y) xs zs in
+      let p = maximum-append (required forward peels y) xs zs in
+      record { shift = omega (arith, g .shift, h .shift, s); peel = omega (arith, g .peel, h .peel, p) }
 
-    -- a reference of an earlier loop stands at an earlier place
-    remaining-before : (j a b : ℕ) → Remaining shifts peels y j a b → getD (c .loops) j 0 < getD (c .loops) i 0 → j < i
-    remaining-before j a b r l = go (decLt j i)
-      where
-        go : Dec (j < i) → j < i
-        go (yes e) = e
-        go (no e) = absurd (omega (arith, formed .rising i j (omega arith) (r .inside)))
+module _ (shifts peels : List ℕ) (y : Reference) where
+  pub required-one : (x : Reference) (b a : Requirement)
+      → (a .shift ≡ max (b .shift) (required backward shifts y x)) × (a .peel ≡ max (b .peel) (required forward peels y x))
+      → Required shifts peels y (x ∷ []) b a
+  unfolding maximum
+  required-one x b a h = record { shift = rw max-zero (h .0); peel = rw max-zero (h .1) }
 
-    pub remaining-next : (j a b : ℕ) → Remaining shifts peels y j a b → getD (c .loops) j 0 < getD (c .loops) i 0 → (x : Reference) → x ≡ refAt c j
-        → (d e : ℕ) → (d ≡ max a (required backward shifts y x)) × (e ≡ max b (required forward peels y x)) → Remaining shifts peels y (j + 1) d e
-    remaining-next j a b r l x q d e t = record {
-      inside = omega (arith, remaining-before j a b r l);
-      shift = left-next _ j a d x (r .inside) q (t .0) (r .shift);
-      peel = left-next _ j b e x (r .inside) q (t .1) (r .peel);
-    }
+  -- a reference to another array, and a row that does not read y's
+  pub required-other : (x : Reference) (b : Requirement) → (x .array ≡ y .array → ⊥) → Required shifts peels y (x ∷ []) b b
+  required-other x b n =
+      let e = none-apart x y n in
+      required-one x b b (passed-over backward shifts y x (b .shift) e, passed-over forward peels y x (b .peel) e)
 
-    -- where y reads, no place up to the next store requires anything
-    remaining-store : y .stores ≡ false → (j a b k : ℕ) → Remaining shifts peels y j a b → NextStore (c .stores) j k → Remaining shifts peels y k a b
-    remaining-store read j a b k r n = record {
-      inside = within;
-      shift = left-past _ j k a (n .from) (omega (arith, within)) (none backward shifts) (r .shift);
-      peel = left-past _ j k b (n .from) (omega (arith, within)) (none forward peels) (r .peel);
-    }
-      where
-        within : k < length (c .loops)
-        within = omega (arith, n .inside, formed .stores)
-
-        none : (amount : Reference → Reference → ℕ) (s : List ℕ) (m : ℕ) → j ≤ m → m < k → required amount s y (refAt c m) ≡ 0
-        none amount s m u v = required-reads amount s y (refAt c m) (ne-eqb _ _ (n .reads m u v)) read
-
-    -- so the walk goes on from where it looks next
-    pub remaining-look : (ns : List ℕ) → NextStores (c .stores) ns → (j a b k : ℕ) → Remaining shifts peels y j a b → k ≡ nextPlace (y .stores) ns j
-        → Remaining shifts peels y k a b × (j ≤ k)
-    remaining-look ns nexts j a b k r e = go (y .stores) refl e
-      where
-        go : (x : Bool) → y .stores ≡ x → k ≡ nextPlace x ns j → Remaining shifts peels y k a b × (j ≤ k)
-        go true q z = (rw z r, omega arith)
-        go false q z = let n = nexts j (omega (arith, r .inside, formed .stores)) in (rw z (remaining-store q j a b _ r n), omega (arith, n .from))
-
-    -- from the first reference of y's own loop on none requires anything
-    pub remaining-end : (j a b : ℕ) → Remaining shifts peels y j a b → getD (c .loops) i 0 ≤ getD (c .loops) j 0
-        → (a ≡ requiredAt backward c shifts i) × (b ≡ requiredAt forward c peels i)
-    remaining-end j a b r g = (left-end backward shifts formed i j a y p g (r .shift), left-end forward peels formed i j b y p g (r .peel))
-
-  -- a bound on the offsets is one on the amounts
-  pub offsets-small : ((k : ℕ) → getD (c .offsets) k 0 < 65536) → AtMost 65535 backward (refs c) × AtMost 65535 forward (refs c)
-  offsets-small h = (λ x y from to. omega (arith, small y to), λ x y from to. omega (arith, small x from))
+  pub required-apart : (c : List ℕ) (n r : ℕ) (b : Requirement) → (eqb (kindAt c r) 0 && eqb (arrayAt c r) (y .array)) ≡ false
+      → Required shifts peels y (reads n (itemsFrom c r 1)) b b
+  required-apart c n r b e = go (ℕ-discrete (kindAt c r) 0)
     where
-      small : (x : Reference) → Mem x (refs c) → x .offset < 65536
-      small x m = let (j, e) = refs-place c x m in rw e (h j)
+      other : kindAt c r ≡ 0 → arrayAt c r ≡ y .array → ⊥
+      other k q = absurd (false≢true (sym (rw (eq-eqb _ _ k, eq-eqb _ _ q) at e)))
 
-  -- the walk over the references from i on, from s, gives the numbers
-  pub record Walked (amount : Reference → Reference → ℕ) (i : ℕ) (s : List ℕ) : Type 0 where
-    pub value : walk amount (refs c) (refsFrom c i (length (c .loops) - i)) s ≡ numbers amount (refs c)
-    pub small : Small 65535 s
-    pub long : length s ≡ 16
+      go : Dec (kindAt c r ≡ 0) → Required shifts peels y (reads n (itemsFrom c r 1)) b b
+      go (yes k) = rw (row-read c n r k) (required-other (refIn c n r false) b (other k))
+      go (no k) = rw (row-other c n r k) required-no
 
-  pub walked-start : (amount : Reference → Reference → ℕ) → Walked amount 0 (replicate 16 0)
-  unfolding numbers refs
-  walked-start amount = record {
-    value = rw sub-zero refl;
-    small = λ k. rw (zeros 16 k) (omega arith);
-    long = refl;
+  -- where y reads, the reads of a loop add nothing
+  pub required-read : (c : List ℕ) (j from past : ℕ) (b : Requirement) → y .stores ≡ false → Required shifts peels y (readsIn c j from past) b b
+  required-read c j from past b e =
+      let s = reads-nothing backward shifts y e j (itemsFrom c from (past - from)) in
+      let p = reads-nothing forward peels y e j (itemsFrom c from (past - from)) in
+      record { shift = omega (arith, s); peel = omega (arith, p) }
+
+  -- what the reads from row r on require beside a is what all of the rows require beside b
+  pub record Remaining (c : List ℕ) (j from past : ℕ) (b : Requirement) (r : ℕ) (a : Requirement) : Type 0 where
+    pub rest : (z : Requirement) → Required shifts peels y (readsIn c j r past) a z → Required shifts peels y (readsIn c j from past) b z
+
+  module _ (c : List ℕ) (j from past : ℕ) (b : Requirement) where
+    pub remaining-start : Remaining c j from past b from b
+    remaining-start = record { rest = λ z h. h }
+
+    pub remaining-next : (r : ℕ) (a d : Requirement) → Remaining c j from past b r a → r < past
+        → Required shifts peels y (reads j (itemsFrom c r 1)) a d → Remaining c j from past b (r + 1) d
+    remaining-next r a d i l h = record { rest = λ z g. i .rest z (rw (reads-next c j r past l) (required-then h g)) }
+
+    pub remaining-end : (r : ℕ) (a : Requirement) → Remaining c j from past b r a → past ≤ r → Required shifts peels y (readsIn c j from past) b a
+    remaining-end r a i l = i .rest a (rw (reads-end c j r past l) required-no)
+
+  -- the loops before j
+  module _ (t : Table) (b : Requirement) where
+    pub loops-next : (j : ℕ) (a d : Requirement) → Required shifts peels y (joined j (refs t)) b a → Required shifts peels y (refs t j) a d
+        → Required shifts peels y (joined (j + 1) (refs t)) b d
+    loops-next j a d i h = rw (add-one j) (required-then i h)
+
+    -- those from y's own on require nothing
+    pub loops-end : (j : ℕ) (a : Requirement) → Required shifts peels y (joined j (refs t)) b a → y .number ≤ j → j ≤ count t
+        → Required shifts peels y (allRefs t) b a
+    loops-end j a i l m =
+        let s = late-nothing backward shifts y t j (count t) l m in
+        let p = late-nothing forward peels y t j (count t) l m in
+        record { shift = omega (arith, i .shift, s); peel = omega (arith, i .peel, p) }
+
+-- what several references of one loop require
+module _ {shifts peels : List ℕ} {xs : List Reference} where
+  pub pairs-no : {b : Requirement} → RequiredOf shifts peels xs [] b b
+  unfolding maximum
+  pairs-no {b} = record { shift = sym (max-zero (b .shift)); peel = sym (max-zero (b .peel)) }
+
+  pub pairs-one : {y : Reference} {b a : Requirement} → Required shifts peels y xs b a → RequiredOf shifts peels xs (y ∷ []) b a
+  unfolding maximum
+  pairs-one h = record { shift = rw max-zero (h .shift); peel = rw max-zero (h .peel) }
+
+  pub pairs-then : {ys zs : List Reference} {b a r : Requirement} → RequiredOf shifts peels xs ys b a → RequiredOf shifts peels xs zs a r
+      → RequiredOf shifts peels xs (ys ++ zs) b r
+  pairs-then {ys} {zs} g h =
+      let s = maximum-append (λ y. maximum (required backward shifts y) xs) ys zs in
+      let p = maximum-append (λ y. maximum (required forward peels y) xs) ys zs in
+      record { shift = omega (arith, g .shift, h .shift, s); peel = omega (arith, g .peel, h .peel, p) }
+
+-- what the destination and the reads up to row r of loop k require
+pub record Taken (shifts peels : List ℕ) (c : List ℕ) (k from past : ℕ) (b : Requirement) (r : ℕ) (a : Requirement) : Type 0 where
+  pub rest : (z : Requirement) → RequiredOf shifts peels (allRefs (tableIn c)) (readsIn c k r past) a z
+      → RequiredOf shifts peels (allRefs (tableIn c)) (refIn c k from true ∷ readsIn c k (from + 1) past) b z
+
+module _ (shifts peels : List ℕ) (c : List ℕ) (k from past : ℕ) (b : Requirement) where
+  pub taken-start : (a : Requirement) → Required shifts peels (refIn c k from true) (allRefs (tableIn c)) b a → Taken shifts peels c k from past b (from + 1) a
+  taken-start a h = record { rest = λ z g. pairs-then (pairs-one h) g }
+
+  pub taken-next : (r : ℕ) (a d : Requirement) → Taken shifts peels c k from past b r a → r < past
+      → RequiredOf shifts peels (allRefs (tableIn c)) (reads k (itemsFrom c r 1)) a d → Taken shifts peels c k from past b (r + 1) d
+  taken-next r a d i l h = record { rest = λ z g. i .rest z (rw (reads-next c k r past l) (pairs-then h g)) }
+
+  pub taken-end : (r : ℕ) (a : Requirement) → Taken shifts peels c k from past b r a → past ≤ r
+      → RequiredOf shifts peels (allRefs (tableIn c)) (refIn c k from true ∷ readsIn c k (from + 1) past) b a
+  taken-end r a i l = i .rest a (rw (reads-end c k r past l) pairs-no)
+
+-- THE NUMBERS OF ALL LOOPS
+module _ {c : List ℕ} (h : Held c) where
+  pub count-few : count (tableIn c) ≤ 16
+  count-few = omega (arith, count-held h, few-loops h)
+
+  pub destination-fits : (k : ℕ) → k < count (tableIn c) → ReferenceFits (refIn c k (startAt c k) true)
+  destination-fits k l =
+      row-fits c k (startAt c k) true (omega (arith, count-few)) (row-in h k l (startAt c k) (start-in h k l)) (omega (arith, opening-held h k l))
+
+  most-shift : AtMost 510 backward (allRefs (tableIn c))
+  most-shift x y from to = omega (arith, in-range h y to)
+
+  most-peel : AtMost 510 forward (allRefs (tableIn c))
+  most-peel x y from to = omega (arith, in-range h x from)
+
+  -- the walk over the references of loop k: its number grows to what is required of it
+  module _ (amount : Reference → Reference → ℕ) (most : AtMost 510 amount (allRefs (tableIn c))) (k : ℕ) (l : k < count (tableIn c)) (s : List ℕ)
+      (long : length s ≡ 16) (small : Small 510 s) where
+    after : List ℕ
+    after = walk amount (allRefs (tableIn c)) (refs (tableIn c) k) s
+
+    after-is : after ≡ set s k (max (getD s k 0) (ofPairs amount s (allRefs (tableIn c)) (refs (tableIn c) k)))
+    unfolding after
+    after-is = walk-loop amount (allRefs (tableIn c)) k (refs (tableIn c) k) s (omega (arith, long, l, count-few)) (refs-number (tableIn c) k)
+
+    after-small : Small 510 after
+    unfolding after
+    after-small =
+        walk-small amount (allRefs (tableIn c)) 510 most (refs (tableIn c) k) s
+        (λ y m. omega (arith, refs-number (tableIn c) k y m, long, l, count-few)) (λ y m. refs-allRefs (tableIn c) y k m l) small
+
+    after-fits : ofPairs amount s (allRefs (tableIn c)) (refs (tableIn c) k) < 4294967296
+    after-fits =
+        let top = rw after-is at (after-small k) in
+        let same = getD-set-same s k (max (getD s k 0) (ofPairs amount s (allRefs (tableIn c)) (refs (tableIn c) k))) 0 (omega (arith, long, l, count-few)) in
+        omega (arith, top, same, l, count-few)
+
+    after-set : (a n : ℕ) → a ≡ max 0 (ofPairs amount s (allRefs (tableIn c)) (refs (tableIn c) k)) → n ≡ max (getD s k 0) a
+        → set s k n ≡ walk amount (allRefs (tableIn c)) (refs (tableIn c) k) s
+    unfolding after
+    after-set a n e f = ap (set s k) (f ∙ ap (max (getD s k 0)) (e ∙ zero-max _)) ∙ sym after-is
+
+  module _ (k : ℕ) (l : k < count (tableIn c)) (s p : List ℕ) (b : Bounded s p) (a : Requirement)
+      (r : RequiredOf s p (allRefs (tableIn c)) (refs (tableIn c) k) (record { shift = 0; peel = 0 }) a) where
+    -- what is required fits 32 bits
+    pub required-fits : (a .shift < 4294967296) × (a .peel < 4294967296)
+    required-fits =
+        let us = after-fits backward most-shift k l s (b .shifts-long) (b .shifts-small) in
+        let up = after-fits forward most-peel k l p (b .peels-long) (b .peels-small) in
+        (omega (arith, us, r .shift), omega (arith, up, r .peel))
+
+    -- one loop more
+    pub walked-loop : (n o : ℕ) → n ≡ max (getD s k 0) (a .shift) → o ≡ max (getD p k 0) (a .peel)
+        → Walked (tableIn c) (refs (tableIn c) k) s p (set s k n) (set p k o)
+    unfolding after
+    walked-loop n o e f =
+        let es = after-set backward most-shift k l s (b .shifts-long) (b .shifts-small) (a .shift) n (r .shift) e in
+        let ep = after-set forward most-peel k l p (b .peels-long) (b .peels-small) (a .peel) o (r .peel) f in
+        record {
+          shifts = es;
+          peels = ep;
+          bounded = record {
+            shifts-long = length-set s k n ∙ b .shifts-long;
+            peels-long = length-set p k o ∙ b .peels-long;
+            shifts-small = rw es (after-small backward most-shift k l s (b .shifts-long) (b .shifts-small));
+            peels-small = rw ep (after-small forward most-peel k l p (b .peels-long) (b .peels-small));
+          };
+        }
+
+module _ {t : Table} where
+  pub walked-none : {s p : List ℕ} → Bounded s p → Walked t [] s p s p
+  unfolding walk
+  walked-none b = record { shifts = refl; peels = refl; bounded = b }
+
+  pub walked-then : {xs ys : List Reference} {s p u v q r : List ℕ} → Walked t xs s p u v → Walked t ys u v q r → Walked t (xs ++ ys) s p q r
+  walked-then {xs} {ys} {s} {p} g h = record {
+    shifts = h .shifts ∙ ap (walk backward (allRefs t) ys) (g .shifts) ∙ sym (walk-append backward (allRefs t) xs ys s);
+    peels = h .peels ∙ ap (walk forward (allRefs t) ys) (g .peels) ∙ sym (walk-append forward (allRefs t) xs ys p);
+    bounded = h .bounded;
   }
 
-  module _ (amount : Reference → Reference → ℕ) (formed : WellFormed c) (most : AtMost 65535 amount (refs c)) (i : ℕ) (h : i < length (c .loops)) (s : List ℕ)
-      (w : Walked amount i s) where
-    inside : getD (c .loops) i 0 < length s
-    inside = omega (arith, w .long, formed .sixteen i)
+  -- before the first loop
+  pub walked-start : Walked t [] (replicate 16 0) (replicate 16 0) (replicate 16 0) (replicate 16 0)
+  walked-start =
+      walked-none (record {
+        shifts-long = refl;
+        peels-long = refl;
+        shifts-small = λ k. rw (zeros 16 k) (omega arith);
+        peels-small = λ k. rw (zeros 16 k) (omega arith);
+      })
 
-    raised-fits : Small 65535 (raised amount (refs c) s (refAt c i))
-    raised-fits = raised-small amount (refs c) 65535 most s (refAt c i) inside (refs-mem c i h) (w .small)
+  -- one loop more
+  pub walked-next : (k : ℕ) {s p u v q r : List ℕ} → Walked t (joined k (refs t)) s p u v → Walked t (refs t k) u v q r
+      → Walked t (joined (k + 1) (refs t)) s p q r
+  walked-next k g h = rw (add-one k) (walked-then g h)
 
-    -- what is required of the loop of reference i fits 32 bits
-    pub walked-required : (a : ℕ) → a ≡ requiredAt amount c s i → a < 4294967296
-    walked-required a q =
-        let u = raised-fits (getD (c .loops) i 0) in
-        let e = raised-same amount (refs c) s (refAt c i) inside in
-        omega (arith, q, e, u, formed .sixteen i)
-
-    -- one reference more
-    pub walked-next : (a r : ℕ) → a ≡ requiredAt amount c s i → r ≡ max (getD s (getD (c .loops) i 0) 0) a
-        → Walked amount (i + 1) (set s (getD (c .loops) i 0) r)
-    unfolding walk refsFrom raised
-    walked-next a r qa qr =
-        let e : length (c .loops) - i ≡ suc (length (c .loops) - suc i) = omega arith in
-        let v = rw e at (w .value) in
-        let k = getD (c .loops) i 0 in
-        let q : set s k r ≡ raised amount (refs c) s (refAt c i) = ap (λ (n : ℕ). set s k n) (qr ∙ ap (λ (n : ℕ). max (getD s k 0) n) qa) in
-        record { value = rw (q, add-one) v; small = rw q raised-fits; long = length-set s k r ∙ w .long }
-
-  pub walked-end : (amount : Reference → Reference → ℕ) (i : ℕ) (s : List ℕ) → length (c .loops) ≤ i → Walked amount i s → s ≡ numbers amount (refs c)
-  unfolding walk refsFrom
-  walked-end amount i s h w =
-      let e : length (c .loops) - i ≡ 0 = omega arith in
-      rw e at (w .value)
+  -- after the last
+  pub walked-all : {s p : List ℕ} → Walked t (allRefs t) (replicate 16 0) (replicate 16 0) s p
+      → (s ≡ numbers backward (allRefs t)) × (p ≡ numbers forward (allRefs t))
+  unfolding numbers
+  walked-all w = (w .shifts, w .peels)

@@ -1,4 +1,4 @@
--- references as the code has them, a list for each field
-pub mod Columns
--- where the next store is
-pub mod Stores
+-- the references of a table in a store
+pub mod Rows
+-- what the walk over pairs of references has come to
+pub mod Walked

@@ -1,20 +1,25 @@
-// Shifts and peels: the largest totals of backward and of forward amounts over all chains of dependences that end at a loop.
+// Shifts and peels: the largest totals of backward and of forward amounts over all chains of dependences that end at a loop. The references
+// are read where the table is kept: a loop's destination stands in its first row, its reads among the rows after it.
 
 ghost use mathlib.Core.Path.{_≡_};
-ghost use mathlib.Core.Bool.{_||_};
-ghost use Prim.Native.Nat.{_+_, _-_, _<_, _≤_, max};
-ghost use lib.ListN.{length};
+ghost use mathlib.Core.Bool.{true, false, _||_};
+ghost use mathlib.Core.List.{[], _∷_};
+ghost use Prim.Native.Nat.{_+_, _-_, _<_, max};
+ghost use Rattle.model.specs.Table.{count};
+ghost use Rattle.model.specs.References.{reads, refs, allRefs};
+ghost use Rattle.reader.specs.Store.{itemsFrom, startAt, tableIn};
+ghost use Rattle.reader.specs.Stored.{Row};
+ghost use Rattle.reader.specs.Held.{Held};
 ghost use Rattle.chains.specs.Dependence.{dependence, backward, forward};
 ghost use Rattle.chains.specs.Walk.{required, shifts, peels};
 ghost use Rattle.chains.specs.Threshold.{threshold};
-ghost use Rattle.amounts.specs.Columns.{columns, refAt, refs, requiredAt, WellFormed};
-ghost use Rattle.amounts.specs.Stores.{NextStores, nextPlace};
+ghost use Rattle.amounts.specs.Rows.{refIn, readsIn};
+ghost use Rattle.amounts.specs.Walked.{ReferenceFits, Required, RequiredOf, Walked, Bounded};
 use arithmetic::above;
 use arithmetic::larger;
+use arithmetic::wide;
 use model::Reference;
-
-// How many references all loops have at most.
-const MOST_ROWS: usize = 528;
+use records::Store;
 
 // The amounts of shifting and peeling, for each loop a shift and a peel; 0 past the last loop.
 pub struct Amounts {
@@ -46,16 +51,16 @@ pub fn depends(x: Reference, y: Reference) -> bool
     false
 }
 
-// Reference i of a table; stores has 1 at a destination and 0 at a read.
-pub fn reference(loops: &[u8], arrays: &[u8], offsets: &[u16], stores: &[u8], i: usize) -> Reference
-    requires { ⌜ WellFormed (columns (now loops) (now arrays) (now offsets) (now stores)) × (i < length (now loops)) ⌝ }
-    ensures { λ r. ⌜ r ≡ refAt (columns (now (loops .entry)) (now (arrays .entry)) (now (offsets .entry)) (now (stores .entry))) i ⌝ }
+// The reference in row r of loop k.
+fn reference_at(store: &Store, k: usize, r: usize, stores: bool) -> Reference
+    requires { ⌜ r < 528 ⌝ }
+    ensures { λ x. ⌜ x ≡ refIn (now (store .entry)) k r stores ⌝ }
 {
     Reference {
-        number: loops[i] as usize,
-        array: arrays[i] as usize,
-        offset: offsets[i] as usize,
-        stores: stores[i] == 1,
+        number: k,
+        array: wide(reader::array_at(store, r)),
+        offset: wide(reader::value_at(store, r)),
+        stores,
     }
 }
 
@@ -88,61 +93,159 @@ fn take_up(
     before
 }
 
-// For each place the first from it on that stores. Where none does it is the last place of all, so that the walk can look at it.
-fn next_stores(stores: &[u8]) -> [u16; MOST_ROWS]
-    requires { ⌜ length (now stores) ≤ 528 ⌝ }
-    ensures { λ r. ⌜ NextStores (now (stores .entry)) r ⌝ }
-{
-    let mut nexts = [0u16; MOST_ROWS];
-    let mut next = above(stores.len(), 1);
-    let mut j = stores.len();
-    while 0 < j {
-        j -= 1;
-        if stores[j] == 1 {
-            next = j;
-        }
-        nexts[j] = next as u16;
-    }
-    nexts
-}
-
-fn wide(x: u16) -> usize
-    ensures { λ r. ⌜ r ≡ x ⌝ }
-{
-    x as usize
-}
-
-// Where the walk of a reference looks from place j on. Two reads make no dependence, so the walk of a read goes from store to store.
-fn next_place(store: bool, nexts: &[u16; MOST_ROWS], j: usize) -> usize
-    requires { ⌜ j < 528 ⌝ }
-    ensures { λ r. ⌜ r ≡ nextPlace store (now (nexts .entry)) j ⌝ }
-{
-    if store { j } else { wide(nexts[j]) }
-}
-
-// What the dependences that end at reference i require of its loop. Only references of earlier loops can start one.
-fn required_at(
-    loops: &[u8],
-    arrays: &[u8],
-    offsets: &[u16],
-    stores: &[u8],
-    i: usize,
-    nexts: &[u16; MOST_ROWS],
+// Takes up the pair of loop j's destination and y. References to different arrays make no dependence, so the arrays are asked first.
+fn take_destination(
+    store: &Store,
+    j: usize,
+    y: Reference,
     shifts: &[u32; 16],
     peels: &[u32; 16],
+    before: Requirement,
 ) -> Requirement
-    requires { ⌜ WellFormed (columns (now loops) (now arrays) (now offsets) (now stores)) × (i < length (now loops)) × NextStores (now stores) (now nexts) ⌝ }
-    ensures { λ r. ⌜ r .shift ≡ requiredAt backward (columns (now (loops .entry)) (now (arrays .entry)) (now (offsets .entry)) (now (stores .entry))) (now (shifts .entry)) i ⌝ }
-    ensures { λ r. ⌜ r .peel ≡ requiredAt forward (columns (now (loops .entry)) (now (arrays .entry)) (now (offsets .entry)) (now (stores .entry))) (now (peels .entry)) i ⌝ }
+    requires { ⌜ Held (now store) × (j < count (tableIn (now store))) × ReferenceFits y ⌝ }
+    ensures { λ a. ⌜ Required (now (shifts .entry)) (now (peels .entry)) y (refIn (now (store .entry)) j (startAt (now (store .entry)) j) true ∷ []) before a ⌝ }
 {
-    let y = reference(loops, arrays, offsets, stores, i);
-    let number = loops[i];
-    let mut a = Requirement { shift: 0, peel: 0 };
-    let mut j = next_place(y.stores, nexts, 0);
-    while loops[j] < number {
-        let x = reference(loops, arrays, offsets, stores, j);
-        a = take_up(x, y, shifts, peels, a);
-        j = next_place(y.stores, nexts, j + 1);
+    let from = reader::start_at(store, j);
+    if wide(reader::array_at(store, from)) == y.array {
+        let x = reference_at(store, j, from, true);
+        return take_up(x, y, shifts, peels, before);
+    }
+    before
+}
+
+// Takes up the pair of row r of loop j and y, if the row reads y's array.
+fn take_row(
+    store: &Store,
+    j: usize,
+    r: usize,
+    y: Reference,
+    shifts: &[u32; 16],
+    peels: &[u32; 16],
+    before: Requirement,
+) -> Requirement
+    requires { ⌜ (j < 16) × (r < 528) × Row (now store) r × ReferenceFits y ⌝ }
+    ensures { λ a. ⌜ Required (now (shifts .entry)) (now (peels .entry)) y (reads j (itemsFrom (now (store .entry)) r 1)) before a ⌝ }
+{
+    if reader::reads_array(store, r, y.array) {
+        let x = reference_at(store, j, r, false);
+        return take_up(x, y, shifts, peels, before);
+    }
+    before
+}
+
+// Takes up the pairs of the reads of loop j and y.
+fn take_reads(
+    store: &Store,
+    j: usize,
+    y: Reference,
+    shifts: &[u32; 16],
+    peels: &[u32; 16],
+    before: Requirement,
+) -> Requirement
+    requires { ⌜ Held (now store) × (j < count (tableIn (now store))) × ReferenceFits y ⌝ }
+    ensures { λ a. ⌜ Required (now (shifts .entry)) (now (peels .entry)) y (readsIn (now (store .entry)) j (startAt (now (store .entry)) j + 1) (startAt (now (store .entry)) (j + 1))) before a ⌝ }
+{
+    let past = reader::start_at(store, j + 1);
+    let mut r = reader::start_at(store, j) + 1;
+    let mut a = before;
+    while r < past {
+        a = take_row(store, j, r, y, shifts, peels, a);
+        r += 1;
+    }
+    a
+}
+
+// Takes up the pairs of the references of loop j and y.
+fn take_loop(
+    store: &Store,
+    j: usize,
+    y: Reference,
+    shifts: &[u32; 16],
+    peels: &[u32; 16],
+    before: Requirement,
+) -> Requirement
+    requires { ⌜ Held (now store) × (j < count (tableIn (now store))) × ReferenceFits y ⌝ }
+    ensures { λ a. ⌜ Required (now (shifts .entry)) (now (peels .entry)) y (refs (tableIn (now (store .entry))) j) before a ⌝ }
+{
+    let a = take_destination(store, j, y, shifts, peels, before);
+    take_reads(store, j, y, shifts, peels, a)
+}
+
+// Takes up the pairs whose later reference is y. Only references of earlier loops can start a dependence.
+fn take_earlier(
+    store: &Store,
+    y: Reference,
+    shifts: &[u32; 16],
+    peels: &[u32; 16],
+    before: Requirement,
+) -> Requirement
+    requires { ⌜ Held (now store) × (y .number < count (tableIn (now store))) × ReferenceFits y ⌝ }
+    ensures { λ a. ⌜ Required (now (shifts .entry)) (now (peels .entry)) y (allRefs (tableIn (now (store .entry)))) before a ⌝ }
+{
+    let k = y.number;
+    let mut a = before;
+    let mut j: usize = 0;
+    while j < k {
+        a = take_loop(store, j, y, shifts, peels, a);
+        j += 1;
+    }
+    a
+}
+
+// The same of a read. Two reads make no dependence, so it is paired with destinations alone.
+fn take_destinations(
+    store: &Store,
+    y: Reference,
+    shifts: &[u32; 16],
+    peels: &[u32; 16],
+    before: Requirement,
+) -> Requirement
+    requires { ⌜ Held (now store) × (y .number < count (tableIn (now store))) × ReferenceFits y × (y .stores ≡ false) ⌝ }
+    ensures { λ a. ⌜ Required (now (shifts .entry)) (now (peels .entry)) y (allRefs (tableIn (now (store .entry)))) before a ⌝ }
+{
+    let k = y.number;
+    let mut a = before;
+    let mut j: usize = 0;
+    while j < k {
+        a = take_destination(store, j, y, shifts, peels, a);
+        j += 1;
+    }
+    a
+}
+
+// Takes up the pairs whose later reference is row r of loop k, if the row is a read.
+fn take_later(
+    store: &Store,
+    k: usize,
+    r: usize,
+    shifts: &[u32; 16],
+    peels: &[u32; 16],
+    before: Requirement,
+) -> Requirement
+    requires { ⌜ Held (now store) × (k < count (tableIn (now store))) × (k < 16) × (r < startAt (now store) (k + 1)) ⌝ }
+    ensures { λ a. ⌜ RequiredOf (now (shifts .entry)) (now (peels .entry)) (allRefs (tableIn (now (store .entry)))) (reads k (itemsFrom (now (store .entry)) r 1)) before a ⌝ }
+{
+    if reader::kind_at(store, r) == reader::READ {
+        let y = reference_at(store, k, r, false);
+        return take_destinations(store, y, shifts, peels, before);
+    }
+    before
+}
+
+// What the dependences that end at loop k require of it: those of its destination, then those of its reads.
+fn required_of(store: &Store, k: usize, shifts: &[u32; 16], peels: &[u32; 16]) -> Requirement
+    requires { ⌜ Held (now store) × (k < count (tableIn (now store))) × (k < 16) ⌝ }
+    ensures { λ a. ⌜ RequiredOf (now (shifts .entry)) (now (peels .entry)) (allRefs (tableIn (now (store .entry)))) (refs (tableIn (now (store .entry))) k) (record { shift = 0; peel = 0 }) a ⌝ }
+{
+    let from = reader::start_at(store, k);
+    let past = reader::start_at(store, k + 1);
+    let none = Requirement { shift: 0, peel: 0 };
+    let y = reference_at(store, k, from, true);
+    let mut a = take_earlier(store, y, shifts, peels, none);
+    let mut r = from + 1;
+    while r < past {
+        a = take_later(store, k, r, shifts, peels, a);
+        r += 1;
     }
     a
 }
@@ -155,23 +258,31 @@ fn updated(number: u32, n: usize) -> u32
     larger(number as usize, n) as u32
 }
 
-// A single walk over pairs of references of two loops, each pair at most once: the later reference in byte order, and for each the
-// references of earlier loops. Pairs of two reads, which make no dependence, are left out: in a full table they are about 15 of 16. Of the
-// shifts and peels a step changes only the later loop's.
-pub fn shifts_and_peels(loops: &[u8], arrays: &[u8], offsets: &[u16], stores: &[u8]) -> Amounts
-    requires { ⌜ WellFormed (columns (now loops) (now arrays) (now offsets) (now stores)) ⌝ }
-    ensures { λ r. ⌜ (r .shifts ≡ shifts (refs (columns (now (loops .entry)) (now (arrays .entry)) (now (offsets .entry)) (now (stores .entry))))) × (r .peels ≡ peels (refs (columns (now (loops .entry)) (now (arrays .entry)) (now (offsets .entry)) (now (stores .entry))))) ⌝ }
+// The walk over the pairs whose later loop is k: of the shifts and peels it changes those of loop k.
+fn walk_loop(store: &Store, k: usize, shifts: &mut [u32; 16], peels: &mut [u32; 16])
+    requires { ⌜ Held (now store) × (k < count (tableIn (now store))) × (k < 16) × Bounded (now shifts) (now peels) ⌝ }
+    ensures { λ _. ⌜ Walked (tableIn (now (store .entry))) (refs (tableIn (now (store .entry))) k) (now (shifts .entry)) (now (peels .entry)) (now (shifts .exit)) (now (peels .exit)) ⌝ }
 {
-    let nexts = next_stores(stores);
+    let a = required_of(store, k, shifts, peels);
+    shifts[k] = updated(shifts[k], a.shift);
+    peels[k] = updated(peels[k], a.peel);
+}
+
+// A single walk over pairs of references of two loops, each pair at most once: the later reference in byte order, and for each the
+// references of earlier loops. Pairs of two reads, which make no dependence, are left out: in a full table they are about 8 of 9. Of the
+// shifts and peels a step changes only the later loop's.
+pub fn amounts_of(store: &Store) -> Amounts
+    requires { ⌜ Held (now store) ⌝ }
+    ensures { λ r. ⌜ r .shifts ≡ shifts (allRefs (tableIn (now (store .entry)))) ⌝ }
+    ensures { λ r. ⌜ r .peels ≡ peels (allRefs (tableIn (now (store .entry)))) ⌝ }
+{
+    let count = reader::loops_in(store);
     let mut ss = [0u32; 16];
     let mut ps = [0u32; 16];
-    let mut i = 0;
-    while i < loops.len() {
-        let a = required_at(loops, arrays, offsets, stores, i, &nexts, &ss, &ps);
-        let k = loops[i] as usize;
-        ss[k] = updated(ss[k], a.shift);
-        ps[k] = updated(ps[k], a.peel);
-        i += 1;
+    let mut k: usize = 0;
+    while k < count {
+        walk_loop(store, k, &mut ss, &mut ps);
+        k += 1;
     }
     Amounts {
         shifts: ss,

@@ -10,7 +10,7 @@ use lib.Dec.{ltb}
 use borrow.Author.Tests.{lt-ltb, le-ltb, le-leb, lt-leb, not-true, not-false}
 use Rattle.blocks.specs.Sums.{column, some, some-here, some-none}
 use Rattle.turns.specs.Row.{lowest, lowest-holds, lowest-none}
-use Rattle.barriers.specs.Code.{beforeBy, comeBy, leftBy, closedBy, openBy, lastOpenBy, beyondBy, wrongBy, readyBy, Small}
+use Rattle.barriers.specs.Code.{beforeBy, comeBy, leftBy, closedBy, openBy, lastOpenBy, beyondBy, wrongBy, readyBy, EndsFit}
 
 pub before-past : (ends : List ℕ) (n b : ℕ) → (n ≡ 0 → ⊥) → column ends (64 * (n - 1) + b) ≡ beforeBy ends n b
 before-past ends zero b z = absurd (z refl)
@@ -70,6 +70,6 @@ module _ (counts : List ℕ) (b at most x : ℕ) (e : at ≡ b) (q : x ≡ most)
   pub above-false : column counts at ≤ x → ltb most (column counts b) ≡ false
   above-false l = le-ltb most (column counts b) (omega (arith, ap (column counts) e))
 
-pub before-small : (ends : List ℕ) (n b : ℕ) → Small ends → beforeBy ends n b ≤ 3200000
+pub before-small : (ends : List ℕ) (n b : ℕ) → EndsFit ends → beforeBy ends n b ≤ 3200000
 before-small ends zero b s = omega arith
 before-small ends (suc n) b s = s (64 * n + b)

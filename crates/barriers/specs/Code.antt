@@ -60,8 +60,8 @@ abbrev pub listedBy : ℕ → List ℕ → ℕ → ℕ
 listedBy P ends phases = total P (beforeBy ends phases)
 
 -- so that no sum of 64 of them overflows
-abbrev pub Small : List ℕ → Type 0
-Small ends = (k : ℕ) → column ends k ≤ 3200000
+abbrev pub EndsFit : List ℕ → Type 0
+EndsFit ends = (k : ℕ) → column ends k ≤ 3200000
 
 -- the sizes that the code asks for: its columns are long enough
 pub record Sized (P phases : ℕ) (counts ends : List ℕ) : Type 0 where
@@ -73,7 +73,7 @@ pub record Sized (P phases : ℕ) (counts ends : List ℕ) : Type 0 where
 
 -- the numbers are where the phases of w end
 pub record Ended {A : Type 0} (w : Work A) (ends : List ℕ) : Type 0 where
-  pub small : Small ends
+  pub small : EndsFit ends
   pub is : (n b : ℕ) → n < w .phases → b < w .processors → column ends (64 * n + b) ≡ before w (suc n) b
   pub some-phase : 0 < w .phases
   pub few : w .phases ≤ 3

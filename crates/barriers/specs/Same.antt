@@ -13,14 +13,14 @@ use Rattle.turns.specs.Turn.{Work, Said, before, closed, comeTo, phaseOf, wrong
 use Rattle.turns.specs.TwoPhases.{closed-first}
 use Rattle.turns.specs.Row.{performing, listed}
 use Rattle.turns.specs.Reach.{Opened, before-up, closed-opened, opened-closed, Turn, does, halts, stops, turn-is}
-use Rattle.barriers.specs.Code.{beforeBy, comeBy, phaseBy, closedBy, openBy, lastOpenBy, beyondBy, wrongBy, readyBy, listedBy, Small, Ended}
+use Rattle.barriers.specs.Code.{beforeBy, comeBy, phaseBy, closedBy, openBy, lastOpenBy, beyondBy, wrongBy, readyBy, listedBy, EndsFit, Ended}
 
 or-right : (x y : Bool) → y ≡ true → (x || y) ≡ true
 or-right true y e = refl
 or-right false y e = e
 
 -- where nothing is written yet
-pub zeros-small : (n : ℕ) → Small (replicate n 0)
+pub zeros-small : (n : ℕ) → EndsFit (replicate n 0)
 zeros-small zero k = omega arith
 zeros-small (suc n) zero = omega arith
 zeros-small (suc n) (suc k) = zeros-small n k

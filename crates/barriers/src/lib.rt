@@ -5,7 +5,7 @@ ghost use mathlib.Core.Path.{_≡_};
 ghost use Prim.Native.Nat.{_≤_, _<_};
 ghost use lib.ListN.{length};
 ghost use Rattle.turns.specs.Row.{lowest};
-ghost use Rattle.barriers.specs.Code.{beforeBy, leftBy, closedBy, phaseBy, lastOpenBy, mostBy, wrongBy, readyBy, listedBy, Small, Sized};
+ghost use Rattle.barriers.specs.Code.{beforeBy, leftBy, closedBy, phaseBy, lastOpenBy, mostBy, wrongBy, readyBy, listedBy, EndsFit, Sized};
 
 // For each phase and processor how many iterations it has up to the end of that phase: processor b's at 64 * phase + b.
 pub const ENDS: usize = 192;
@@ -117,7 +117,7 @@ pub fn lowest_ready(counts: &[u32; 64], ends: &Ends, processors: u32, phases: u3
 
 // How many iterations all lists have together.
 pub fn listed(ends: &Ends, processors: u32, phases: u32) -> u32
-    requires { ⌜ (processors ≤ 64) × (0 < phases) × (phases ≤ 3) × (length (now ends) ≡ 192) × Small (now ends) ⌝ }
+    requires { ⌜ (processors ≤ 64) × (0 < phases) × (phases ≤ 3) × (length (now ends) ≡ 192) × EndsFit (now ends) ⌝ }
     ensures { λ r. ⌜ r ≡ listedBy processors (now (ends .entry)) phases ⌝ }
 {
     let mut sum: u32 = 0;

@@ -20,17 +20,17 @@ use Rattle.bodies.specs.Stack.{tops, waiting, Holds}
 use Rattle.bodies.specs.Workable.{Based, Element, ReadsWithin, Ready, next}
 
 -- WHICH ITEM IT IS
-item-read : (k q v : ℕ) → k ≡ 3 → itemOf k q v ≡ read q v
+item-read : (k q v : ℕ) → k ≡ 0 → itemOf k q v ≡ read q v
 unfolding itemOf
 item-read k q v e = rw e
 
-item-constant : (k q v : ℕ) → k ≡ 4 → itemOf k q v ≡ constant v
+item-constant : (k q v : ℕ) → k ≡ 2 → itemOf k q v ≡ constant v
 unfolding itemOf
 item-constant k q v e = rw e
 
-item-operation : (k q v : ℕ) → (k ≡ 3 → ⊥) → (k ≡ 4 → ⊥) → itemOf k q v ≡ operation v
+item-operation : (k q v : ℕ) → (k ≡ 0 → ⊥) → (k ≡ 2 → ⊥) → itemOf k q v ≡ operation v
 unfolding itemOf
-item-operation k q v e f = rw (ne-eqb k 3 e, ne-eqb k 4 f)
+item-operation k q v e f = rw (ne-eqb k 0 e, ne-eqb k 2 f)
 
 -- OPERATIONS
 pub five : (op d : ℕ) → op ≡ 5 → operands op ≤ d → (1 ≤ d) × (d - operands op + 1 ≡ d)
@@ -164,7 +164,7 @@ module _ (bs : List ℕ) (i : ℕ) (m : List Float) (k q v : ℕ) (w : List Floa
   abbrev Worked : List Float → ℕ → Type 0
   Worked vs e = ((length vs ≡ 8) × (e ≡ next (itemOf k q v) d)) × ((ns : List ℕ) → Based bs ns → tops vs e ≡ worked ns i m (itemOf k q v) w)
 
-  module _ (kind : k ≡ 3) where
+  module _ (kind : k ≡ 0) where
     pub read-asks : (d < 8) × Element bs i (length m) q v
     unfolding Ready
     read-asks = rw (item-read k q v kind) at ready
@@ -173,7 +173,7 @@ module _ (bs : List ℕ) (i : ℕ) (m : List Float) (k q v : ℕ) (w : List Floa
     unfolding next worked
     read-works x vs e f g = rw (item-read k q v kind) ((g .0, g .2), λ ns b. rw (g .1, f, b q (omega (arith, read-asks .1 .0))))
 
-  module _ (kind : k ≡ 4) where
+  module _ (kind : k ≡ 2) where
     pub constant-asks : d < 8
     unfolding Ready
     constant-asks = rw (item-constant k q v kind) at ready
@@ -182,11 +182,11 @@ module _ (bs : List ℕ) (i : ℕ) (m : List Float) (k q v : ℕ) (w : List Floa
     unfolding next worked
     constant-works x vs e f g = rw (item-constant k q v kind) ((g .0, g .2), λ ns b. rw (g .1, f))
 
-  module _ (not3 : k ≡ 3 → ⊥) (not4 : k ≡ 4 → ⊥) where
+  module _ (not-read : k ≡ 0 → ⊥) (not-constant : k ≡ 2 → ⊥) where
     pub operation-asks : (operands v ≤ d) × (d ≤ 8)
     unfolding Ready
-    operation-asks = let z = rw (item-operation k q v not3 not4) at ready in (z .2, z .3)
+    operation-asks = let z = rw (item-operation k q v not-read not-constant) at ready in (z .2, z .3)
 
     pub operation-works : (vs : List Float) (e : ℕ) → Holds vs e (applied v w) (d - operands v + 1) → Worked vs e
     unfolding next worked
-    operation-works vs e g = rw (item-operation k q v not3 not4) ((g .0, g .2), λ ns b. g .1)
+    operation-works vs e g = rw (item-operation k q v not-read not-constant) ((g .0, g .2), λ ns b. g .1)

@@ -91,7 +91,7 @@ fn apply(vs: &mut [f64; 8], n: usize, op: u32) -> usize
     combine(vs, n, op)
 }
 
-// Works one item, of its record's kind, in iteration i.
+// Works one item, of its row's kind, in iteration i.
 fn work_item(
     vs: &mut [f64; 8],
     n: usize,
@@ -107,10 +107,10 @@ fn work_item(
     ensures { λ r. ⌜ (length (now (vs .exit)) ≡ 8) × (r ≡ next (itemOf kind array value) n) ⌝ }
     ensures { λ r. ⌜ ((ns : List ℕ) → Based (now (bases .entry)) ns → tops (now (vs .exit)) r ≡ worked ns i (now (memory .entry)) (itemOf kind array value) (tops (now (vs .entry)) n)) ⌝ }
 {
-    if kind == 3 {
+    if kind == reader::READ {
         return push(vs, n, element(array, value, bases, i, memory));
     }
-    if kind == 4 {
+    if kind == reader::CONSTANT {
         return push(vs, n, constant(value));
     }
     apply(vs, n, value)

@@ -1,5 +1,5 @@
 -- How large shifts, peels and the threshold can be: a chain that ends at loop k has at most k dependences.
-use Prim.Native.Nat.{ℕ, _+_, _-_, _*_, _≤_, _<_}
+use Prim.Native.Nat.{ℕ, _+_, _*_, _≤_}
 use mathlib.Core.List.{List}
 use mathlib.Core.List.{List·Memᴰ as Mem}
 use native.Mathlib.Nat.{mul-le-mul-left, le-trans}
@@ -8,7 +8,7 @@ use native.Mathlib.Omega.{arith}
 use lib.ListN.{length, getD, List·getD-eq-default}
 use Rattle.model.specs.declared.Reference.{Reference}
 use Rattle.chains.specs.Dependence.{Dependence, backward, forward, earlier}
-use Rattle.chains.specs.Walk.{raised, raised-of, numbers, numbers-of, numbers-length, shifts, peels, Below}
+use Rattle.chains.specs.Walk.{walk, walk-of, numbers, numbers-of, numbers-length, shifts, peels, Below}
 use Rattle.chains.specs.Threshold.{threshold, threshold-bound}
 
 -- the number of loop k is at most m times k
@@ -27,8 +27,9 @@ module _ (amount : Reference → Reference → ℕ) (rs : List Reference) (m : �
   along : (x y : Reference) → Dependence rs x y → (n : ℕ) → n ≤ m * (x .number) → n + amount x y ≤ m * (y .number)
   along x y d n h = omega (arith, most x y (d .from) (d .to), mul-le-mul-left m (earlier x y (d .joined)))
 
-  pub raised-small : (s : List ℕ) (y : Reference) → y .number < length s → Mem y rs → Small m s → Small m (raised amount rs s y)
-  raised-small = raised-of amount rs (λ k n. n ≤ m * k) (λ k. omega arith) along
+  pub walk-small : (ys : List Reference) (s : List ℕ) → Below (length s) ys → ((y : Reference) → Mem y ys → Mem y rs) → Small m s
+      → Small m (walk amount rs ys s)
+  walk-small = walk-of amount rs (λ k n. n ≤ m * k) (λ k. omega arith) along
 
   module _ (below : Below 16 rs) where
     pub numbers-small : Small m (numbers amount rs)

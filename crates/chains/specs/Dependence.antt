@@ -6,7 +6,7 @@ use mathlib.Core.Bool.{Bool, true, false, _&&_, _||_, false≢true, or-true, and
 use mathlib.Core.List.{List}
 use mathlib.Core.List.{List·Memᴰ as Mem}
 use native.Mathlib.Omega.{arith}
-use borrow.Author.Tests.{ltb-true, lt-ltb, eqb-true, eq-eqb}
+use borrow.Author.Tests.{ltb-true, lt-ltb, eqb-true, eq-eqb, ne-eqb}
 use lib.Dec.{ltb, eqb}
 use Rattle.model.specs.declared.Reference.{Reference}
 use Rattle.model.specs.References.{touch, Touch}
@@ -60,6 +60,11 @@ earlier x y e = dependence-touch x y .0 e .0
 pub none-of-reads : (x y : Reference) → x .stores ≡ false → y .stores ≡ false → dependence x y ≡ false
 unfolding dependence
 none-of-reads x y e f = rw (e, f, and-false (eqb (x .array) (y .array))) (and-false (ltb (x .number) (y .number)))
+
+-- nor do references to different arrays
+pub none-apart : (x y : Reference) → (x .array ≡ y .array → ⊥) → dependence x y ≡ false
+unfolding dependence
+none-apart x y n = rw (ne-eqb _ _ n) (and-false (ltb (x .number) (y .number)))
 
 -- iteration i of x's loop and iteration j of y's are at one element where, and only where, j is i + d
 pub meet-amounts : (x y : Reference) (i j : ℕ) → (i + x .offset ≡ j + y .offset) ↔ (j + backward x y ≡ i + forward x y)

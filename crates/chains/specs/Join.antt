@@ -1,7 +1,7 @@
 -- References of later loops change no number of an earlier one: the numbers of a left table are the first of a joined one.
 use Prim.Native.Nat.{ℕ, _+_, _≤_, _<_}
 use mathlib.Core.Path.{_≡_, refl, ap, _∙_}
-use mathlib.Core.Logic.{_⊎_, inl, inr, ⊎-elim}
+use mathlib.Core.Logic.{inl, inr, ⊎-elim}
 use mathlib.Core.List.{List, _++_, Memᴰ·append-left, List·Memᴰ·append-cases}
 use mathlib.Core.List.{List·Memᴰ as Mem}
 use native.Mathlib.Omega.{arith}

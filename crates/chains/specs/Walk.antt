@@ -1,18 +1,19 @@
 -- One walk over the references of a table, in byte order, gives each loop a number: its shift, or its peel.
 use Prim.Native.Nat.{ℕ, zero, suc, _+_, max, _≤_, _<_}
-use mathlib.Core.Path.{_≡_, refl, _∙_}
+use mathlib.Core.Path.{_≡_, refl, sym, ap, _∙_}
 use mathlib.Core.Logic.{_≢_}
 use mathlib.Core.Bool.{Bool, true, false, cond}
-use mathlib.Core.List.{List, [], _∷_}
+use mathlib.Core.List.{List, [], _∷_, _++_}
 use mathlib.Core.List.{List·Memᴰ as Mem, List·Memᴰ·head as mhere, List·Memᴰ·tail as mthere}
 use native.Mathlib.Decide.{ℕ-discrete}
+use native.Mathlib.Nat.{max-zero}
 use native.Mathlib.Omega.{arith}
 use lib.ListN.{length, getD, set, length-set, replicate}
-use lib.Seq.{getD-set-same, getD-set-other}
+use lib.Seq.{getD-set-same, getD-set-other, set-set, set-getD}
 use Rattle.order.specs.Lists.{Before}
 use Rattle.model.specs.declared.Reference.{Reference}
 use Rattle.chains.specs.Dependence.{dependence, backward, forward, Dependence, earlier, none-of-reads}
-use Rattle.chains.specs.Maximum.{maximum, max-of, maximum-of}
+use Rattle.chains.specs.Maximum.{maximum, max-of, maximum-of, maximum-same, max-right}
 
 -- what the dependence from x to y, if it is one, requires of y's loop, where s has the numbers of the earlier loops
 unfoldable pub required : (Reference → Reference → ℕ) → List ℕ → Reference → Reference → ℕ
@@ -90,6 +91,39 @@ module _ (amount : Reference → Reference → ℕ) (rs : List Reference) where
   unfolding raised
   raised-same s y h = getD-set-same s _ _ 0 h
 
+  pub walk-append : (xs ys : List Reference) (s : List ℕ) → walk amount rs (xs ++ ys) s ≡ walk amount rs ys (walk amount rs xs s)
+  unfolding walk
+  walk-append [] ys s = refl
+  walk-append (x ∷ xs) ys s = walk-append xs ys (raised amount rs s x)
+
+  -- the number of a loop does not count where something is required of that loop
+  required-own : (s : List ℕ) (k v : ℕ) (y x : Reference) → y .number ≡ k → required amount (set s k v) y x ≡ required amount s y x
+  unfolding required
+  required-own s k v y x e = go (dependence x y) refl
+    where
+      go : (b : Bool) → dependence x y ≡ b → cond b (getD (set s k v) (x .number) 0 + amount x y) 0 ≡ cond b (getD s (x .number) 0 + amount x y) 0
+      go true d = let l = earlier x y d in rw (getD-set-other s k (x .number) v 0 (λ z. omega arith))
+      go false d = refl
+
+  -- the walk over references of one loop
+  pub walk-loop : (k : ℕ) (ys : List Reference) (s : List ℕ) → k < length s → ((y : Reference) → Mem y ys → y .number ≡ k)
+      → walk amount rs ys s ≡ set s k (max (getD s k 0) (maximum (λ y. maximum (required amount s y) rs) ys))
+  unfolding walk raised maximum
+  walk-loop k [] s l own = sym (rw (max-zero (getD s k 0)) (set-getD s k 0))
+  walk-loop k (y ∷ ys) s l own =
+      let e = own y (mhere refl) in
+      let v = max (getD s k 0) (maximum (required amount s y) rs) in
+      let d = set s k v in
+      let n = maximum (λ z. maximum (required amount s z) rs) ys in
+      let same : maximum (λ z. maximum (required amount d z) rs) ys ≡ n =
+      maximum-same _ _ ys (λ z m. maximum-same _ _ rs (λ x i. required-own s k v z x (own z (mthere m)))) in
+      ap (λ (i : ℕ). walk amount rs ys (set s i (max (getD s i 0) (maximum (required amount s y) rs)))) e
+      ∙ walk-loop k ys d (rw (length-set s k v) l) (λ z m. own z (mthere m))
+      ∙ set-set s k v (max (getD d k 0) (maximum (λ z. maximum (required amount d z) rs) ys))
+      ∙ ap (λ (i : ℕ). set s k (max i (maximum (λ z. maximum (required amount d z) rs) ys))) (getD-set-same s k v 0 l)
+      ∙ ap (λ (i : ℕ). set s k (max v i)) same
+      ∙ ap (set s k) (max-right (getD s k 0) (maximum (required amount s y) rs) n)
+
   walk-length : (ys : List Reference) (s : List ℕ) → length (walk amount rs ys s) ≡ length s
   unfolding walk
   walk-length [] s = refl
@@ -126,7 +160,7 @@ module _ (amount : Reference → Reference → ℕ) (rs : List Reference) where
         go (yes q) = rw q here
         go (no q) = rw (raised-other s y k q) (h k)
 
-    walk-of : (ys : List Reference) (s : List ℕ) → Below (length s) ys → ((y : Reference) → Mem y ys → Mem y rs) → Each s → Each (walk amount rs ys s)
+    pub walk-of : (ys : List Reference) (s : List ℕ) → Below (length s) ys → ((y : Reference) → Mem y ys → Mem y rs) → Each s → Each (walk amount rs ys s)
     unfolding walk
     walk-of [] s b i h = h
     walk-of (y ∷ ys) s b i h =

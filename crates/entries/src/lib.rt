@@ -64,7 +64,7 @@ fn give_amounts(out: &mut [u8], store: &Store) -> Outcome
     if out.len() < PAIR * loops {
         return refusal(BUFFER, 0, 0);
     }
-    let a = references::amounts_of(store);
+    let a = amounts::amounts_of(store);
     let n = write_amounts(out, loops, a);
     written(n)
 }
@@ -90,7 +90,7 @@ fn give_threshold(out: &mut [u8], store: &Store) -> Outcome
     if out.len() < NUMBER {
         return refusal(BUFFER, 0, 0);
     }
-    let a = references::amounts_of(store);
+    let a = amounts::amounts_of(store);
     let x = narrow(amounts::threshold_of(a));
     let n = numbers::put_number(out, 0, x);
     written(n)

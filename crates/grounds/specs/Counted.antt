@@ -1,7 +1,7 @@
 -- The summary that the tests look at, in the words of the statements; and what is known of records that met no ground.
 use Prim.Native.Nat.{ℕ, _+_, _≤_, _<_}
 use native.Mathlib.Omega.{arith}
-use mathlib.Core.Path.{_≡_, refl}
+use mathlib.Core.Path.{_≡_, refl, sym}
 use mathlib.Core.Bool.{Bool, true, false, cond}
 use mathlib.Core.List.{List, [], _∷_, _++_}
 use lib.ListN.{length-append}
@@ -12,6 +12,7 @@ use Rattle.records.specs.declared.Summary.{Summary}
 use Rattle.records.specs.History.{summary, lengths, advanced, blank, withArray, withLoop, operands}
 use Rattle.records.specs.History.{withItem as itemMore}
 use Rattle.records.specs.Clear.{Clear}
+use Rattle.reader.specs.Accepting.{arrays-counted as lengths-counted}
 use Rattle.grounds.specs.Statements.{arrays, sum, elements, loops, latest, items, waitingAfter, waiting}
 
 pub sum-append : (ns ms : List ℕ) → sum (ns ++ ms) ≡ sum ns + sum ms
@@ -19,15 +20,7 @@ sum-append [] ms = omega arith
 sum-append (n ∷ ns) ms = omega (arith, sum-append ns ms)
 
 pub arrays-counted : (rs : List Record) → summary rs .arrays ≡ arrays rs
-unfolding summary advanced blank withArray withLoop itemMore lengths
-arrays-counted [] = refl
-arrays-counted (Unknown ∷ rs) = arrays-counted rs
-arrays-counted (Array n ∷ rs) = omega (arith, arrays-counted rs, length-append (lengths rs) (n ∷ []))
-arrays-counted (Loop f l q o ∷ rs) = arrays-counted rs
-arrays-counted (Read q o ∷ rs) = arrays-counted rs
-arrays-counted (Constant n ∷ rs) = arrays-counted rs
-arrays-counted (Operation o ∷ rs) = arrays-counted rs
-arrays-counted (End ∷ rs) = arrays-counted rs
+arrays-counted rs = sym (lengths-counted rs)
 
 pub elements-counted : (rs : List Record) → summary rs .elements ≡ elements rs
 unfolding summary advanced blank withArray withLoop itemMore lengths

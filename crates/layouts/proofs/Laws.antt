@@ -11,7 +11,7 @@ use Rattle.blocks.specs.declared.Axis.{Axis}
 use Rattle.blocks.specs.Sums.{column}
 use Rattle.lists.specs.Fusion.{fusionIn, work}
 use Rattle.turns.specs.Turn.{before}
-use Rattle.barriers.specs.Code.{Ended, Small}
+use Rattle.barriers.specs.Code.{Ended, EndsFit}
 use Rattle.plans.specs.Code.{Laid}
 use Rattle.ranges.specs.Code.{Apart}
 use Rattle.ranges.specs.Listed.{few-blocks, list-short}
@@ -30,11 +30,11 @@ ends-put a c b xs own x y s e f g q =
 pub record Ending (a : Axis) (c : List ℕ) (ends : List ℕ) (b : ℕ) : Type 0 where
   pub below : b ≤ a .blocks
   pub size : length ends ≡ 192
-  pub small : Small ends
+  pub small : EndsFit ends
   pub are : (n d : ℕ) → n < 2 → d < b → column ends (64 * n + d) ≡ before (workIn a c) (suc n) d
 
 module _ (a : Axis) (c : List ℕ) (h : Laid a c) where
-  pub ending-none : (ends : List ℕ) → length ends ≡ 192 → Small ends → Ending a c ends 0
+  pub ending-none : (ends : List ℕ) → length ends ≡ 192 → EndsFit ends → Ending a c ends 0
   ending-none ends e s = record { below = omega arith; size = e; small = s; are = λ n d l i. absurd (omega arith) }
 
   pub ending-next : (ends fs : List ℕ) (b : ℕ) → Ending a c ends b → b < a .blocks → fs ≡ withEnds a c b ends → Ending a c fs (b + 1)

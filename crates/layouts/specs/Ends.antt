@@ -11,7 +11,7 @@ use Rattle.blocks.specs.declared.Axis.{Axis}
 use Rattle.blocks.specs.Sums.{column}
 use Rattle.lists.specs.Fusion.{fusionIn, work}
 use Rattle.turns.specs.Turn.{before}
-use Rattle.barriers.specs.Code.{Small}
+use Rattle.barriers.specs.Code.{EndsFit}
 use Rattle.layouts.specs.Layout.{workIn, withEnds}
 
 module _ (a : Axis) (c : List ℕ) (b : ℕ) where
@@ -33,7 +33,7 @@ module _ (a : Axis) (c : List ℕ) (b : ℕ) where
         getD-set-other (set xs b (before (workIn a c) 1 b)) (64 + b) i (before (workIn a c) 2 b) 0 q
         ∙ getD-set-other xs b i (before (workIn a c) 1 b) 0 p
 
-    pub ends-small : Small xs → length (work (tableIn c) (fusionIn a) 0 b) ≤ 1052656 → length (work (tableIn c) (fusionIn a) 1 b) ≤ 1052656 → Small (withEnds a c b xs)
+    pub ends-small : EndsFit xs → length (work (tableIn c) (fusionIn a) 0 b) ≤ 1052656 → length (work (tableIn c) (fusionIn a) 1 b) ≤ 1052656 → EndsFit (withEnds a c b xs)
     ends-small s f g i = go (ℕ-discrete i b) (ℕ-discrete i (64 + b))
       where
         go : Dec (i ≡ b) → Dec (i ≡ 64 + b) → column (withEnds a c b xs) i ≤ 3200000

@@ -14,7 +14,7 @@ use Rattle.blocks.specs.Sums.{column}
 use Rattle.lists.specs.Fusion.{fusionIn, phases, work, fused-list, peeled-list}
 use Rattle.turns.specs.Turn.{Work, before}
 use Rattle.plans.specs.Code.{Laid}
-use Rattle.ranges.specs.Code.{rangeOf, listOf, Kept, Apart}
+use Rattle.ranges.specs.Code.{rangeOf, listOf, RangesKept, Apart}
 use Rattle.ranges.specs.Listed.{few-loops, list-in, kept-apart, apart-twice}
 
 -- the work of the plan in an axis, of the table in a store
@@ -24,8 +24,8 @@ workIn a c = record { processors = a .blocks; phases = phases (tableIn c) (fusio
 module _ (a : Axis) (c : List ℕ) where
   -- processor b's lists stand from `at` on, phase after phase
   pub record Stands (xs : List ℕ) (at b : ℕ) : Type 0 where
-    pub fused : Kept xs at (loopsIn c) (rangeOf 0 a c b) (column (a .shifts))
-    pub peeled : Kept xs (at + 48) (loopsIn c) (rangeOf 1 a c b) (column (a .shifts))
+    pub fused : RangesKept xs at (loopsIn c) (rangeOf 0 a c b) (column (a .shifts))
+    pub peeled : RangesKept xs (at + 48) (loopsIn c) (rangeOf 1 a c b) (column (a .shifts))
 
   -- so do those of the first n processors, each from its own place on, in numbers that were `old`
   pub record Standing (old xs : List ℕ) (n : ℕ) : Type 0 where
@@ -61,8 +61,8 @@ module _ (a : Axis) (c : List ℕ) where
 
     -- one list after the other: the second leaves the first
     pub stands-both : (b : ℕ) (xs ys zs : List ℕ) (at later : ℕ) → later ≡ at + 48
-        → Kept ys at (loopsIn c) (rangeOf 0 a c b) (column (a .shifts)) → Apart xs ys at (at + 48)
-        → Kept zs later (loopsIn c) (rangeOf 1 a c b) (column (a .shifts)) → Apart ys zs later (later + 48)
+        → RangesKept ys at (loopsIn c) (rangeOf 0 a c b) (column (a .shifts)) → Apart xs ys at (at + 48)
+        → RangesKept zs later (loopsIn c) (rangeOf 1 a c b) (column (a .shifts)) → Apart ys zs later (later + 48)
         → Stands zs at b × Apart xs zs at (at + 96)
     stands-both b xs ys zs at later e k p l q = (
       record { fused = kept-apart ys zs at (loopsIn c) later (later + 48) (few-loops a c h) k q (inl (omega arith)); peeled = rw e at l },

@@ -7,7 +7,7 @@ use records::Store;
 ghost use mathlib.Core.Path.{_≡_};
 ghost use Prim.Native.Nat.{_+_, _^_, _≤_, _<_};
 ghost use lib.ListN.{length};
-ghost use Rattle.barriers.specs.Code.{Ended, Small};
+ghost use Rattle.barriers.specs.Code.{Ended, EndsFit};
 ghost use Rattle.plans.specs.Code.{Laid};
 ghost use Rattle.ranges.specs.Code.{Along, Apart};
 ghost use Rattle.layouts.specs.Layout.{workIn, Stands, Standing, withEnds};
@@ -38,7 +38,7 @@ fn put_end(
 
 // Where all phases end.
 pub fn put_ends(a: Axis, store: &Store, ends: &mut Ends)
-    requires { ⌜ Laid a (now store) × (length (now ends) ≡ 192) × Small (now ends) ⌝ }
+    requires { ⌜ Laid a (now store) × (length (now ends) ≡ 192) × EndsFit (now ends) ⌝ }
     ensures { λ _. ⌜ Ended (workIn a (now (store .entry))) (now (ends .exit)) × (length (now (ends .exit)) ≡ 192) ⌝ }
 {
     let shifts = a.shifts;

@@ -1,4 +1,5 @@
 // The plain run: the loops in table order, each from first to last, every iteration once. It knows nothing of a plan.
+use iterations::MEMORY;
 use records::STORE;
 use records::Store;
 use tables::Verdict;
@@ -15,9 +16,6 @@ ghost use Rattle.tables.specs.Verdict.{numberOf, Told};
 ghost use Rattle.iterations.specs.Memory.{total, remembered};
 ghost use Rattle.plain.specs.Plain.{plainAnswer, after, plainMemory};
 ghost use Rattle.plain.specs.Running.{Running};
-
-// Ground 12.
-const MEMORY: usize = 12;
 
 // One loop, from first to last.
 fn run_loop(number: usize, store: &Store, bases: &[u32; 17], memory: &mut [f64])

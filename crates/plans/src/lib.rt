@@ -93,7 +93,7 @@ fn plan_read(processors: u32, store: &Store) -> Plan
     requires { ⌜ Held (now store) × Valid (tableIn (now store)) ⌝ }
     ensures { λ r. ⌜ Chosen (fits (settings processors) (tableIn (now (store .entry)))) r (now (store .entry)) ⌝ }
 {
-    let found = references::amounts_of(store);
+    let found = amounts::amounts_of(store);
     let span = span_of(store);
     let threshold = amounts::threshold_of(found) as u32;
     if blocks::short(span.count, processors, threshold) {

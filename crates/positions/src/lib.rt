@@ -7,7 +7,7 @@ ghost use lib.ListN.{length, getD};
 ghost use Rattle.model.specs.Table.{iteration};
 ghost use Rattle.blocks.specs.Sums.{column};
 ghost use Rattle.lists.specs.Lists.{loopAt, sumAt, ranges, fusedColumns, peeledColumns};
-ghost use Rattle.lists.specs.Below.{clip, weighted, lengths};
+ghost use Rattle.lists.specs.Below.{clip, weighted};
 ghost use Rattle.positions.specs.Search.{belowColumns, boundColumns, Aligned, Sized, Bracket, Located};
 ghost use Rattle.positions.specs.Lines.{Extended, Linear, OnLine};
 use arithmetic::larger;
@@ -325,20 +325,6 @@ pub fn nth_at_sum(froms: &[u32], pasts: &[u32], shifts: &[u32], t: usize, n: usi
         number: 0,
         index: 0,
     }
-}
-
-// How long the fused list is, whatever the shifts, and the peeled list of the same ranges.
-pub fn total_length(froms: &[u32], pasts: &[u32]) -> usize
-    requires { ⌜ (length (now froms) ≤ 16) × (length (now froms) ≤ length (now pasts)) ⌝ }
-    ensures { λ r. ⌜ (r ≡ lengths (length (now (froms .entry))) (ranges (now (froms .entry)) (now (pasts .entry)))) × (r ≤ 2 ^ 36) ⌝ }
-{
-    let mut sum: usize = 0;
-    let mut k: usize = 0;
-    while k < froms.len() {
-        sum += length_of(froms[k], pasts[k]);
-        k += 1;
-    }
-    sum
 }
 
 // The n-th iteration of the fused list.

@@ -18,12 +18,12 @@ use Rattle.blocks.specs.Sums.{total-next}
 use Rattle.lists.specs.Below.{lengths}
 use Rattle.lists.specs.Lists.{fusedColumns, peeledColumns}
 use Rattle.positions.specs.Search.{Aligned}
-use Rattle.ranges.specs.Code.{partIn, rangeOf, Along, cut, listOf, Kept, Apart}
+use Rattle.ranges.specs.Code.{partIn, rangeOf, Along, cut, listOf, RangesKept, Apart}
 use Rattle.ranges.specs.Listed.{part-asks, range-small, kept-aligned}
 
 -- the first k loops' ranges are kept, and `sum` counts their indices
 pub record Filled (old xs : List ℕ) (at k : ℕ) (f : ℕ → Range) (s : ℕ → ℕ) (sum : ℕ) : Type 0 where
-  pub kept : Kept xs at k f s
+  pub kept : RangesKept xs at k f s
   pub apart : Apart old xs at (at + 48)
   pub sum-is : sum ≡ lengths k f
   pub small : sum ≤ k * 65791
@@ -136,9 +136,6 @@ module _ (xs : List ℕ) (at l n : ℕ) (few : l ≤ 16) (room : at + 48 ≤ len
   pub fused-is : (phase : ℕ) (x : Iteration) → phase ≡ 0 → x ≡ getD (fusedColumns (piece at) (piece (at + 16)) (piece (at + 32))) n (iteration 0 0)
       → x ≡ getD (listOf xs at l phase) n (iteration 0 0)
   fused-is phase x e q = rw e (rw (piece-is at, piece-is (at + 16), piece-is (at + 32)) at q)
-
-  pub peeled-asks : length (piece at) ≤ length (piece (at + 16))
-  peeled-asks = rw (piece-is at, piece-is (at + 16)) (kept-aligned xs at l few room .1 .pasts)
 
   pub peeled-is : (phase : ℕ) (x : Iteration) → (phase ≡ 0 → ⊥) → x ≡ getD (peeledColumns (piece at) (piece (at + 16))) n (iteration 0 0)
       → x ≡ getD (listOf xs at l phase) n (iteration 0 0)

@@ -54,7 +54,7 @@ listOf xs at l zero = fusedColumns (cut xs at l) (cut xs (at + 16) l) (cut xs (a
 listOf xs at l (suc n) = peeledColumns (cut xs at l) (cut xs (at + 16) l)
 
 -- the ranges f and the shifts s of the first l loops stand from `at` on
-pub record Kept (xs : List ℕ) (at l : ℕ) (f : ℕ → Range) (s : ℕ → ℕ) : Type 0 where
+pub record RangesKept (xs : List ℕ) (at l : ℕ) (f : ℕ → Range) (s : ℕ → ℕ) : Type 0 where
   pub room : at + 48 ≤ length xs
   pub from : (k : ℕ) → k < l → getD xs (at + k) 0 ≡ f k .from
   pub past : (k : ℕ) → k < l → getD xs (at + k + 16) 0 ≡ f k .past

@@ -29,7 +29,7 @@ use Rattle.lists.specs.Below.{lengths, by-sums-length, by-loops-length}
 use Rattle.lists.specs.Fusion.{fusionIn, fusedRange, peeledRange, work, fused-list, peeled-list, fused-columns, peeled-columns}
 use Rattle.positions.specs.Search.{Aligned}
 use Rattle.plans.specs.Code.{Laid}
-use Rattle.ranges.specs.Code.{partIn, rangeOf, cut, listOf, Kept, Apart}
+use Rattle.ranges.specs.Code.{partIn, rangeOf, cut, listOf, RangesKept, Apart}
 
 module _ (a : Axis) (c : List ℕ) (h : Laid a c) where
   -- WHAT THE CODE ASKS
@@ -146,7 +146,7 @@ module _ (xs : List ℕ) (at l : ℕ) (few : l ≤ 16) (room : at + 48 ≤ lengt
       let e = cut-long xs at l (omega arith) in
       (omega arith, record { pasts = omega (arith, cut-long xs (at + 16) l (omega arith)); shifts = omega (arith, cut-long xs (at + 32) l (omega arith)) })
 
-  module _ (f : ℕ → Range) (s : ℕ → ℕ) (kept : Kept xs at l f s) where
+  module _ (f : ℕ → Range) (s : ℕ → ℕ) (kept : RangesKept xs at l f s) where
     pub kept-range : (k : ℕ) → k < l → ranges (cut xs at l) (cut xs (at + 16) l) k ≡ f k
     kept-range k i =
         let e : at + 16 + k ≡ at + k + 16 = omega arith in
@@ -159,7 +159,7 @@ module _ (xs : List ℕ) (at l : ℕ) (few : l ≤ 16) (room : at + 48 ≤ lengt
         let e : at + 32 + k ≡ at + k + 32 = omega arith in
         cut-at xs (at + 32) l (omega arith) k i ∙ ap (λ (j : ℕ). getD xs j 0) e ∙ kept .shift k i
 
-pub list-in : (a : Axis) (c : List ℕ) (h : Laid a c) (n b : ℕ) (xs : List ℕ) (at : ℕ) → Kept xs at (loopsIn c) (rangeOf n a c b) (column (a .shifts))
+pub list-in : (a : Axis) (c : List ℕ) (h : Laid a c) (n b : ℕ) (xs : List ℕ) (at : ℕ) → RangesKept xs at (loopsIn c) (rangeOf n a c b) (column (a .shifts))
     → listOf xs at (loopsIn c) n ≡ work (tableIn c) (fusionIn a) n b
 list-in a c h n b xs at kept = go n (λ k l. rng k l ∙ range-in a c h n b k (omega (arith, loops-are a c h)))
   where
@@ -177,8 +177,8 @@ list-in a c h n b xs at kept = go n (λ k l. rng k l ∙ range-in a c h n b k (o
     go (suc m) e = peeled-columns (tableIn c) (fusionIn a) (cut xs at (loopsIn c)) (cut xs (at + 16) (loopsIn c)) b long e
 
 -- WHAT IS WRITTEN ELSEWHERE does not touch them
-pub kept-apart : {f : ℕ → Range} {s : ℕ → ℕ} (xs ys : List ℕ) (at l from past : ℕ) → l ≤ 16 → Kept xs at l f s → Apart xs ys from past
-    → (at + 48 ≤ from) ⊎ (past ≤ at) → Kept ys at l f s
+pub kept-apart : {f : ℕ → Range} {s : ℕ → ℕ} (xs ys : List ℕ) (at l from past : ℕ) → l ≤ 16 → RangesKept xs at l f s → Apart xs ys from past
+    → (at + 48 ≤ from) ⊎ (past ≤ at) → RangesKept ys at l f s
 kept-apart xs ys at l from past few kept apart away = record {
   room = omega (arith, kept .room, apart .long);
   from = λ k i. left away (at + k) (omega arith) (omega arith) ∙ kept .from k i;

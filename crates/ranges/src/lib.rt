@@ -14,7 +14,7 @@ ghost use Rattle.reader.specs.Store.{lastAt, loopsIn, tableIn};
 ghost use Rattle.blocks.specs.Sums.{column};
 ghost use Rattle.lists.specs.Fusion.{fusionIn, work};
 ghost use Rattle.plans.specs.Code.{Laid};
-ghost use Rattle.ranges.specs.Code.{partIn, partAt, rangeOf, Along, Measures, listOf, Kept, Apart};
+ghost use Rattle.ranges.specs.Code.{partIn, partAt, rangeOf, Along, Measures, listOf, RangesKept, Apart};
 
 // Past a phase's first indices stand the indices past its last ones, then the shifts.
 const PASTS: usize = 16;
@@ -112,7 +112,7 @@ pub fn lengths_of(
 pub fn put_list(phase: u32, a: Axis, b: u32, store: &Store, lists: &mut [u32], at: usize) -> usize
     requires { ⌜ Laid a (now store) × (b < a .blocks) × (at + 48 ≤ length (now lists)) × (at < 2 ^ 32) ⌝ }
     ensures { λ r. ⌜ (r ≡ length (work (tableIn (now (store .entry))) (fusionIn a) phase b)) × (r ≤ 1052656) ⌝ }
-    ensures { λ r. ⌜ Kept (now (lists .exit)) at (loopsIn (now (store .entry))) (rangeOf phase a (now (store .entry)) b) (column (a .shifts)) ⌝ }
+    ensures { λ r. ⌜ RangesKept (now (lists .exit)) at (loopsIn (now (store .entry))) (rangeOf phase a (now (store .entry)) b) (column (a .shifts)) ⌝ }
     ensures { λ r. ⌜ Apart (now (lists .entry)) (now (lists .exit)) at (at + 48) ⌝ }
 {
     let blk = blocks::block_of(a.first, a.count, a.blocks, b);

@@ -17,8 +17,8 @@ use Rattle.records.specs.Clear.{Room, clear-room}
 use Rattle.records.specs.Outcome.{Whole, passed-whole, tested-same}
 use Rattle.reader.specs.declared.Reading.the-variants.{Refused, Accepted}
 use Rattle.reader.specs.Reading.{accepted, follow, readFrom, reading, tableOf}
-use Rattle.reader.specs.Store.{Sized, startAt, answer, kept, rowsAfter, tableAt, withCounts, Places}
-use Rattle.reader.specs.Stored.{Stored, Kept, Filled, stored-all, stored-start, kept-stored, counted-table, counted-holds}
+use Rattle.reader.specs.Store.{Sized, startAt, answer, kept, rowsAfter, tableAt, withCounts, Places, ArrayFits}
+use Rattle.reader.specs.Stored.{Stored, InPlace, Filled, stored-all, stored-start, kept-small, kept-stored, counted-table, counted-holds}
 
 -- the records before `at` have been read, and the rest from there gives the whole reading
 pub record Inv (s : List ℕ) (c : List ℕ) (t : Summary) (at rows : ℕ) : Type 0 where
@@ -75,7 +75,7 @@ module _ (s : List ℕ) (c : List ℕ) (t : Summary) (at rows : ℕ) (inv : Inv 
     unfolding answer follow
     turn-ended n d e h f = rw f (ap accepted (counted-table c (t .arrays) (t .loops) rows (stored .sized) here-kept ∙ table) ∙ rw (le-ltb _ _ h) at (turn (found.Ended n) e), counted-holds c (t .arrays) (t .loops) rows (stored .sized) here-kept)
       where
-        here-kept : Kept c (t .arrays) (t .loops) rows
+        here-kept : InPlace c (t .arrays) (t .loops) rows
         here-kept = rw summed (stored .kept)
 
         table : tableAt c (t .arrays) (t .loops) ≡ tableOf rs
@@ -92,8 +92,10 @@ module _ (s : List ℕ) (c : List ℕ) (t : Summary) (at rows : ℕ) (inv : Inv 
       pub further : (at < n) × (n ≤ length s)
       further = let w = whole .0 in (omega (arith, w .next), w .fits)
 
-      pub passed-places : Places t rows × (rowsAfter r rows ≤ 528)
-      passed-places = (places, kept-stored c rs rows stored r (whole .0 .clear) (whole .1) .kept .few-rows)
+      pub passed-places : Places t rows × (rowsAfter r rows ≤ 528) × ArrayFits r
+      passed-places =
+          let clear = whole .0 .clear in
+          (places, kept-stored c rs rows stored r clear (whole .1) .kept .few-rows, kept-small c rs rows stored r clear)
 
       pub turn-passed : (d : List ℕ) (u : Summary) (m : ℕ) → d ≡ kept r t rows c → u ≡ advanced r t → m ≡ rowsAfter r rows → Inv s d u n m
       unfolding summary follow

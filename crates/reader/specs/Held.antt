@@ -1,5 +1,5 @@
 -- What is known of a store that holds a table: one law for each field.
-use Prim.Native.Nat.{ℕ, suc, _+_, _≤_, _<_}
+use Prim.Native.Nat.{ℕ, suc, _≤_, _<_}
 use native.Mathlib.Omega.{arith}
 use mathlib.Core.Path.{_≡_, refl, sym, ap, _∙_}
 use mathlib.Core.List.{List}
@@ -56,5 +56,5 @@ module _ {c : List ℕ} {t : Table} (h : Holds c t) where
   pub row-held : (k r : ℕ) → k ≤ count t → r < startAt c k → Row c r
   row-held k r l i = h .kept .each r (omega (arith, rows-end k l))
 
-  pub head-held : (k : ℕ) → k < count t → kindAt c (startAt c k) ≡ 2
-  head-held k l = h .kept .head k (omega (arith, count-held))
+  pub opening-held : (k : ℕ) → k < count t → kindAt c (startAt c k) ≡ 1
+  opening-held k l = h .kept .opening k (omega (arith, count-held))

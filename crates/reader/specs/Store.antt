@@ -1,8 +1,10 @@
 -- A table as it is kept: one run of numbers, with a row for each destination and each item, in byte order.
-use Prim.Native.Nat.{ℕ, zero, suc, _+_, _-_, _*_, _≤_, _<_}
-use mathlib.Core.Bool.{cond}
+use Prim.Native.Nat.{ℕ, zero, suc, _+_, _-_, _*_, _/_, _%_, _≤_, _<_}
+use mathlib.Core.Bool.{cond, _&&_}
 use mathlib.Core.List.{List, [], _∷_}
 use native.Mathlib.Omega.{arith}
+use native.Mathlib.Decide.{ℕ-discrete}
+use borrow.Author.Tests.{eq-eqb, ne-eqb}
 use mathlib.Core.Path.{_≡_, refl, ap, _∙_}
 use lib.ListN.{getD, set, take, length, length-set}
 use lib.Seq.{take-set-le, getD-set-same, getD-set-other}
@@ -16,7 +18,8 @@ use Rattle.reader.specs.declared.Reading.the-variants.{Refused, Accepted
 use Rattle.reader.specs.Reading.{Answer, accepted, refused}
 
 -- THE LAYOUT: the lengths of the arrays from 0 on; loop k has its bounds at k from 16 and from 32 on, and the rows from startAt k up to
--- startAt (k + 1): its destination, then its items; a row is three numbers; past all rows stand how many arrays and how many loops there are
+-- startAt (k + 1): its destination, then its items; a row is two numbers, its head and its value; the head is the row's kind times 16 and
+-- its array, which is below 16, so that both stand in one number; past all rows stand how many arrays and how many loops there are
 module _ (c : List ℕ) where
   abbrev pub firstAt : ℕ → ℕ
   firstAt k = getD c (16 + k) 0
@@ -28,26 +31,36 @@ module _ (c : List ℕ) where
   startAt k = getD c (48 + k) 0
 
   abbrev pub kindAt : ℕ → ℕ
-  kindAt r = getD c (65 + 3 * r) 0
+  kindAt r = getD c (65 + 2 * r) 0 / 16
 
   abbrev pub arrayAt : ℕ → ℕ
-  arrayAt r = getD c (65 + 3 * r + 1) 0
+  arrayAt r = getD c (65 + 2 * r) 0 % 16
 
   abbrev pub valueAt : ℕ → ℕ
-  valueAt r = getD c (65 + 3 * r + 2) 0
+  valueAt r = getD c (65 + 2 * r + 1) 0
 
   abbrev pub arraysIn : ℕ
-  arraysIn = getD c 1649 0
+  arraysIn = getD c 1121 0
 
   abbrev pub loopsIn : ℕ
-  loopsIn = getD c 1650 0
+  loopsIn = getD c 1122 0
 
 abbrev pub Sized : List ℕ → Type 0
-Sized c = length c ≡ 1651
+Sized c = length c ≡ 1123
 
--- the kind of a row is its record's: 2 a destination, 3 a read, 4 a constant, 5 an operation
+-- the kind of a row: 0 a read, whose head is then its array, 1 a destination, 2 a constant, 3 an operation
 unfoldable pub itemOf : ℕ → ℕ → ℕ → Item
-itemOf kind q v = cond (eqb kind 3) (read q v) (cond (eqb kind 4) (constant v) (operation v))
+itemOf kind q v = cond (eqb kind 0) (read q v) (cond (eqb kind 2) (constant v) (operation v))
+
+-- a head that is an array's number is that of a read of it
+pub head-read : (h q : ℕ) → q < 16 → eqb h q ≡ (eqb (h / 16) 0 && eqb (h % 16) q)
+head-read h q l = go (ℕ-discrete h q) (ℕ-discrete (h / 16) 0)
+  where
+    go : Dec (h ≡ q) → Dec (h / 16 ≡ 0) → eqb h q ≡ (eqb (h / 16) 0 && eqb (h % 16) q)
+    go (yes e) (yes f) = let g : h % 16 ≡ q = omega arith in rw (eq-eqb _ _ e, eq-eqb _ _ f, eq-eqb _ _ g)
+    go (yes e) (no f) = absurd (f (omega arith))
+    go (no e) (yes f) = let g : h % 16 ≡ q → ⊥ = λ z. e (omega arith) in rw (ne-eqb _ _ e, eq-eqb _ _ f, ne-eqb _ _ g)
+    go (no e) (no f) = rw (ne-eqb _ _ e, ne-eqb _ _ f)
 
 module _ (c : List ℕ) where
   abbrev pub itemAt : ℕ → Item
@@ -93,22 +106,22 @@ answer Accepted c = accepted (tableIn c)
 
 -- one row more
 unfoldable pub withRow : ℕ → ℕ → ℕ → ℕ → ℕ → List ℕ → List ℕ
-withRow k r kind q v c = set (set (set (set c (48 + k) (r + 1)) (65 + 3 * r) kind) (65 + 3 * r + 1) q) (65 + 3 * r + 2) v
+withRow k r kind q v c = set (set (set c (48 + k) (r + 1)) (65 + 2 * r) (kind * 16 + q)) (65 + 2 * r + 1) v
 
 unfoldable pub withBounds : ℕ → ℕ → ℕ → List ℕ → List ℕ
 withBounds k f l c = set (set c (16 + k) f) (32 + k) l
 
 unfoldable pub withCounts : ℕ → ℕ → List ℕ → List ℕ
-withCounts arrays loops c = set (set c 1649 arrays) 1650 loops
+withCounts arrays loops c = set (set c 1121 arrays) 1122 loops
 
 -- what a record adds, after records with the summary t, in row r
 unfoldable pub kept : Record → Summary → ℕ → List ℕ → List ℕ
 kept rec.Unknown t r c = c
 kept (rec.Array n) t r c = set c (t .arrays) n
-kept (rec.Loop f l q o) t r c = withRow (t .loops + 1) r 2 q o (withBounds (t .loops) f l c)
-kept (rec.Read q o) t r c = withRow (t .loops) r 3 q o c
-kept (rec.Constant n) t r c = withRow (t .loops) r 4 0 n c
-kept (rec.Operation o) t r c = withRow (t .loops) r 5 0 o c
+kept (rec.Loop f l q o) t r c = withRow (t .loops + 1) r 1 q o (withBounds (t .loops) f l c)
+kept (rec.Read q o) t r c = withRow (t .loops) r 0 q o c
+kept (rec.Constant n) t r c = withRow (t .loops) r 2 0 n c
+kept (rec.Operation o) t r c = withRow (t .loops) r 3 0 o c
 kept rec.End t r c = c
 
 -- how many rows then
@@ -126,6 +139,16 @@ pub record Places (t : Summary) (r : ℕ) : Type 0 where
   pub arrays : t .arrays ≤ 16
   pub loops : t .loops ≤ 16
   pub rows : r ≤ 528
+
+-- the array of a record is one of sixteen: a head has room for it
+abbrev pub ArrayFits : Record → Type 0
+ArrayFits rec.Unknown = Unit {0}
+ArrayFits (rec.Array n) = Unit {0}
+ArrayFits (rec.Loop f l q o) = q < 16
+ArrayFits (rec.Read q o) = q < 16
+ArrayFits (rec.Constant n) = Unit {0}
+ArrayFits (rec.Operation o) = Unit {0}
+ArrayFits rec.End = Unit {0}
 
 -- LAWS: the table in the store has so many loops, and each is where it is kept
 module _ (c : List ℕ) where
@@ -152,55 +175,48 @@ module _ (c : List ℕ) (k r kind q v : ℕ) where
   s1 = set c (48 + k) (r + 1)
 
   abbrev s2 : List ℕ
-  s2 = set s1 (65 + 3 * r) kind
-
-  abbrev s3 : List ℕ
-  s3 = set s2 (65 + 3 * r + 1) q
+  s2 = set s1 (65 + 2 * r) (kind * 16 + q)
 
   pub sized-row : Sized c → Sized (withRow k r kind q v c)
   unfolding withRow
   sized-row z = simp length-set z
 
-  pub row-leaves : (i : ℕ) → i < 65 + 3 * r → (i ≡ 48 + k → ⊥) → getD (withRow k r kind q v c) i 0 ≡ getD c i 0
+  pub row-leaves : (i : ℕ) → i < 65 + 2 * r → (i ≡ 48 + k → ⊥) → getD (withRow k r kind q v c) i 0 ≡ getD c i 0
   unfolding withRow
   row-leaves i l n =
-      getD-set-other s3 (65 + 3 * r + 2) i v 0 (λ e. omega arith)
-      ∙ getD-set-other s2 (65 + 3 * r + 1) i q 0 (λ e. omega arith)
-      ∙ getD-set-other s1 (65 + 3 * r) i kind 0 (λ e. omega arith)
+      getD-set-other s2 (65 + 2 * r + 1) i v 0 (λ e. omega arith)
+      ∙ getD-set-other s1 (65 + 2 * r) i (kind * 16 + q) 0 (λ e. omega arith)
       ∙ getD-set-other c (48 + k) i (r + 1) 0 n
 
   pub row-lengths : (n : ℕ) → n ≤ 16 → take n (withRow k r kind q v c) ≡ take n c
   unfolding withRow
   row-lengths n l =
-      take-set-le n s3 (65 + 3 * r + 2) v (omega arith)
-      ∙ take-set-le n s2 (65 + 3 * r + 1) q (omega arith)
-      ∙ take-set-le n s1 (65 + 3 * r) kind (omega arith)
+      take-set-le n s2 (65 + 2 * r + 1) v (omega arith)
+      ∙ take-set-le n s1 (65 + 2 * r) (kind * 16 + q) (omega arith)
       ∙ take-set-le n c (48 + k) (r + 1) (omega arith)
 
   module _ (z : Sized c) (few : r < 528) where
-    pub row-kind : kindAt (withRow k r kind q v c) r ≡ kind
+    row-head : getD (withRow k r kind q v c) (65 + 2 * r) 0 ≡ kind * 16 + q
     unfolding withRow
-    row-kind =
-        getD-set-other s3 (65 + 3 * r + 2) (65 + 3 * r) v 0 (λ e. omega arith)
-        ∙ getD-set-other s2 (65 + 3 * r + 1) (65 + 3 * r) q 0 (λ e. omega arith)
-        ∙ getD-set-same s1 (65 + 3 * r) kind 0 (simp length-set (omega (arith, z)))
+    row-head =
+        getD-set-other s2 (65 + 2 * r + 1) (65 + 2 * r) v 0 (λ e. omega arith)
+        ∙ getD-set-same s1 (65 + 2 * r) (kind * 16 + q) 0 (simp length-set (omega (arith, z)))
 
-    pub row-array : arrayAt (withRow k r kind q v c) r ≡ q
-    unfolding withRow
-    row-array =
-        getD-set-other s3 (65 + 3 * r + 2) (65 + 3 * r + 1) v 0 (λ e. omega arith)
-        ∙ getD-set-same s2 (65 + 3 * r + 1) q 0 (simp length-set (omega (arith, z)))
+    pub row-kind : q < 16 → kindAt (withRow k r kind q v c) r ≡ kind
+    row-kind small = rw row-head (omega arith)
+
+    pub row-array : q < 16 → arrayAt (withRow k r kind q v c) r ≡ q
+    row-array small = rw row-head (omega arith)
 
     pub row-value : valueAt (withRow k r kind q v c) r ≡ v
     unfolding withRow
-    row-value = getD-set-same s3 (65 + 3 * r + 2) v 0 (simp length-set (omega (arith, z)))
+    row-value = getD-set-same s2 (65 + 2 * r + 1) v 0 (simp length-set (omega (arith, z)))
 
     pub row-start : k < 17 → startAt (withRow k r kind q v c) k ≡ r + 1
     unfolding withRow
     row-start l =
-        getD-set-other s3 (65 + 3 * r + 2) (48 + k) v 0 (λ e. omega arith)
-        ∙ getD-set-other s2 (65 + 3 * r + 1) (48 + k) q 0 (λ e. omega arith)
-        ∙ getD-set-other s1 (65 + 3 * r) (48 + k) kind 0 (λ e. omega arith)
+        getD-set-other s2 (65 + 2 * r + 1) (48 + k) v 0 (λ e. omega arith)
+        ∙ getD-set-other s1 (65 + 2 * r) (48 + k) (kind * 16 + q) 0 (λ e. omega arith)
         ∙ getD-set-same c (48 + k) (r + 1) 0 (omega (arith, z))
 
 module _ (c : List ℕ) (k f l : ℕ) where
@@ -230,19 +246,19 @@ module _ (c : List ℕ) (a l : ℕ) where
   unfolding withCounts
   sized-counts z = simp length-set z
 
-  pub counts-leave : (i : ℕ) → i < 1649 → getD (withCounts a l c) i 0 ≡ getD c i 0
+  pub counts-leave : (i : ℕ) → i < 1121 → getD (withCounts a l c) i 0 ≡ getD c i 0
   unfolding withCounts
-  counts-leave i m = getD-set-other (set c 1649 a) 1650 i l 0 (λ e. omega arith) ∙ getD-set-other c 1649 i a 0 (λ e. omega arith)
+  counts-leave i m = getD-set-other (set c 1121 a) 1122 i l 0 (λ e. omega arith) ∙ getD-set-other c 1121 i a 0 (λ e. omega arith)
 
   pub counts-lengths : (n : ℕ) → n ≤ 16 → take n (withCounts a l c) ≡ take n c
   unfolding withCounts
-  counts-lengths n m = take-set-le n (set c 1649 a) 1650 l (omega arith) ∙ take-set-le n c 1649 a (omega arith)
+  counts-lengths n m = take-set-le n (set c 1121 a) 1122 l (omega arith) ∙ take-set-le n c 1121 a (omega arith)
 
   module _ (z : Sized c) where
     pub counts-arrays : arraysIn (withCounts a l c) ≡ a
     unfolding withCounts
-    counts-arrays = getD-set-other (set c 1649 a) 1650 1649 l 0 (λ e. omega arith) ∙ getD-set-same c 1649 a 0 (omega (arith, z))
+    counts-arrays = getD-set-other (set c 1121 a) 1122 1121 l 0 (λ e. omega arith) ∙ getD-set-same c 1121 a 0 (omega (arith, z))
 
     pub counts-loops : loopsIn (withCounts a l c) ≡ l
     unfolding withCounts
-    counts-loops = getD-set-same (set c 1649 a) 1650 l 0 (simp length-set (omega (arith, z)))
+    counts-loops = getD-set-same (set c 1121 a) 1122 l 0 (simp length-set (omega (arith, z)))

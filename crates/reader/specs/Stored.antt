@@ -1,5 +1,5 @@
 -- The store holds what was read.
-use Prim.Native.Nat.{ℕ, zero, suc, _+_, _-_, _*_, _≤_, _<_}
+use Prim.Native.Nat.{ℕ, zero, suc, _+_, _-_, _*_, _/_, _%_, _≤_, _<_}
 use native.Mathlib.Omega.{arith}
 use native.Mathlib.Decide.{ℕ-discrete}
 use native.Mathlib.Numerals.{add-one}
@@ -16,31 +16,30 @@ use Rattle.model.specs.Table.{Item, read, constant, operation, Loop, Table}
 use Rattle.reader.specs.declared.Reading.{Reading}
 use Rattle.reader.specs.declared.Reading.the-variants.{Refused, Accepted}
 use Rattle.reader.specs.Reading.{loopsOf}
-use Rattle.reader.specs.Store.{Sized, firstAt, lastAt, startAt, kindAt, arrayAt, valueAt, arraysIn, loopsIn, tableAt, tableIn, itemOf, itemAt, itemsFrom, statementAt, loopAt, loopsFrom, withRow, withBounds, withCounts, kept, rowsAfter}
+use Rattle.reader.specs.Store.{Sized, firstAt, lastAt, startAt, kindAt, arrayAt, valueAt, arraysIn, loopsIn, tableAt, tableIn, itemOf, itemAt, itemsFrom, statementAt, loopAt, loopsFrom, withRow, withBounds, withCounts, kept, rowsAfter, ArrayFits}
 use Rattle.reader.specs.Store.{sized-row, row-leaves, row-lengths, row-kind, row-array, row-value, row-start, sized-bounds, bounds-leave, bounds-lengths, bounds-first, bounds-last}
 use Rattle.reader.specs.Store.{sized-counts, counts-leave, counts-lengths, counts-arrays, counts-loops}
 
--- what holds of each row: its array is one of sixteen, and what a destination or a read has for an offset is one
+-- what holds of each row: what a destination or a read has for an offset is one
 pub record Row (c : List ℕ) (r : ℕ) : Type 0 where
-  pub array : arrayAt c r < 16
-  pub offset : kindAt c r < 4 → valueAt c r ≤ 510
+  pub offset : kindAt c r < 2 → valueAt c r ≤ 510
 
 -- a table of so many arrays, loops and rows in a store
-pub record Kept (c : List ℕ) (arrays loops rows : ℕ) : Type 0 where
+pub record InPlace (c : List ℕ) (arrays loops rows : ℕ) : Type 0 where
   pub few-arrays : arrays ≤ 16
   pub few-loops : loops ≤ 16
   pub few-rows : rows ≤ 528
   pub start : startAt c 0 ≡ 0
   pub rising : (k : ℕ) → k < loops → startAt c k < startAt c (suc k)
   pub end : startAt c loops ≡ rows
-  pub head : (k : ℕ) → k < loops → kindAt c (startAt c k) ≡ 2
+  pub opening : (k : ℕ) → k < loops → kindAt c (startAt c k) ≡ 1
   pub each : (r : ℕ) → r < rows → Row c r
 
 -- THE STORE HOLDS THE TABLE t: it is read off the store, and what is kept is in order
 pub record Holds (c : List ℕ) (t : Table) : Type 0 where
   pub is : tableIn c ≡ t
   pub sized : Sized c
-  pub kept : Kept c (arraysIn c) (loopsIn c) (startAt c (loopsIn c))
+  pub kept : InPlace c (arraysIn c) (loopsIn c) (startAt c (loopsIn c))
 
 -- of an accepted table
 abbrev pub Filled : Reading → List ℕ → Type 0
@@ -121,7 +120,7 @@ pub record Stored (c : List ℕ) (rs : List Record) (rows : ℕ) : Type 0 where
   pub sized : Sized c
   pub lens : take (summary rs .arrays) c ≡ lengths rs
   pub loops : (xs : List Item) → loopsOf rs xs ≡ shown c (summary rs .loops) rows xs
-  pub kept : Kept c (summary rs .arrays) (summary rs .loops) rows
+  pub kept : InPlace c (summary rs .arrays) (summary rs .loops) rows
   pub items : summary rs .items ≤ 32
   pub room : rows + 32 ≤ 33 * summary rs .loops + summary rs .items
 
@@ -142,7 +141,7 @@ pub stored-all : (c : List ℕ) (rs : List Record) (rows : ℕ) → Stored c rs 
 stored-all c rs rows s = s .loops [] ∙ shown-all c (summary rs .loops) rows (s .kept .end)
 
 -- the rows of an earlier loop start earlier
-pub starts-up : (c : List ℕ) (a n rows : ℕ) → Kept c a n rows → (j k : ℕ) → j ≤ k → k ≤ n → startAt c j ≤ startAt c k
+pub starts-up : (c : List ℕ) (a n rows : ℕ) → InPlace c a n rows → (j k : ℕ) → j ≤ k → k ≤ n → startAt c j ≤ startAt c k
 starts-up c a n rows h j zero l m = let e : j ≡ 0 = omega arith in rw e (omega arith)
 starts-up c a n rows h j (suc k) l m = go (ℕ-discrete j (suc k)) (starts-up c a n rows h j k)
   where
@@ -160,40 +159,37 @@ record Grown (c d : List ℕ) (j rows kind q v : ℕ) : Type 0 where
   value-is : valueAt d rows ≡ v
 
 module _ (c d : List ℕ) (j rows kind q v : ℕ) (g : Grown c d j rows kind q v) where
-  row-grown : q < 16 → (kind < 4 → v ≤ 510) → ((r : ℕ) → r < rows → Row c r) → (r : ℕ) → r < rows + 1 → Row d r
-  row-grown small offset old r l = go (ℕ-discrete r rows)
+  row-grown : (kind < 2 → v ≤ 510) → ((r : ℕ) → r < rows → Row c r) → (r : ℕ) → r < rows + 1 → Row d r
+  row-grown offset old r l = go (ℕ-discrete r rows)
     where
       go : Dec (r ≡ rows) → Row d r
       go (yes e) =
-          rw e (record { array = rw (g .array-is) small; offset = λ h. rw (g .value-is) (offset (rw (g .kind-is) at h)) })
+          rw e (record { offset = λ h. rw (g .value-is) (offset (rw (g .kind-is) at h)) })
       go (no e) =
           let m : r < rows = omega arith in
-          record {
-            array = rw (← (g .agree .arrays r m)) (old r m .array);
-            offset = λ h. rw (← (g .agree .values r m)) (old r m .offset (rw (← (g .agree .kinds r m)) at h));
-          }
+          record { offset = λ h. rw (← (g .agree .values r m)) (old r m .offset (rw (← (g .agree .kinds r m)) at h)) }
 
-  kept-grown : (a n : ℕ) → Kept c a n rows → (startAt c j ≡ rows → kind ≡ 2) → j ≤ n → suc j ≤ 16 → rows < 528 → q < 16 → (kind < 4 → v ≤ 510) → Kept d a (suc j) (rows + 1)
-  kept-grown a n h top l few room small offset = record {
+  kept-grown : (a n : ℕ) → InPlace c a n rows → (startAt c j ≡ rows → kind ≡ 1) → j ≤ n → suc j ≤ 16 → rows < 528 → (kind < 2 → v ≤ 510) → InPlace d a (suc j) (rows + 1)
+  kept-grown a n h top l few room offset = record {
     few-arrays = h .few-arrays;
     few-loops = few;
     few-rows = omega arith;
     start = rw (← (g .agree .starts 0 (omega arith))) (h .start);
     rising = λ k m. rise k m (ℕ-discrete k j);
     end = g .past;
-    head = λ k m. rw (← (g .agree .starts k (omega arith))) (heads k m (ℕ-discrete (startAt c k) rows));
-    each = row-grown small offset (h .each);
+    opening = λ k m. rw (← (g .agree .starts k (omega arith))) (heads k m (ℕ-discrete (startAt c k) rows));
+    each = row-grown offset (h .each);
   }
     where
-      heads : (k : ℕ) → k < suc j → Dec (startAt c k ≡ rows) → kindAt d (startAt c k) ≡ 2
+      heads : (k : ℕ) → k < suc j → Dec (startAt c k ≡ rows) → kindAt d (startAt c k) ≡ 1
       heads k m (yes e) = at (ℕ-discrete k j)
         where
-          at : Dec (k ≡ j) → kindAt d (startAt c k) ≡ 2
+          at : Dec (k ≡ j) → kindAt d (startAt c k) ≡ 1
           at (yes s) = rw (e, g .kind-is) (top (rw s at e))
           at (no s) = absurd (omega (arith, g .agree .inside k (omega arith)))
       heads k m (no e) =
           let low : startAt c k < rows = omega (arith, g .agree .within k (omega arith)) in
-          rw (← (g .agree .kinds (startAt c k) low)) (h .head k (before (ℕ-discrete k n)))
+          rw (← (g .agree .kinds (startAt c k) low)) (h .opening k (before (ℕ-discrete k n)))
         where
           before : Dec (k ≡ n) → k < n
           before (yes s) = absurd (e (rw s (h .end)))
@@ -234,10 +230,10 @@ shown-none c d rows xs = refl
 
 -- THE STEPS: an item, a loop, an array
 -- a row at the end of loop j: b is c but for the bounds of loop j
-row-more : (c b : List ℕ) (a n j rows kind q v : ℕ) → Sized b → Kept c a n rows → j ≤ n → suc j ≤ 16 → rows < 528
+row-more : (c b : List ℕ) (a n j rows kind q v : ℕ) → Sized b → InPlace c a n rows → j ≤ n → suc j ≤ 16 → rows < 528 → q < 16
     → ((i : ℕ) → (i ≡ 16 + j → ⊥) → (i ≡ 32 + j → ⊥) → getD b i 0 ≡ getD c i 0)
     → Grown c (withRow (suc j) rows kind q v b) j rows kind q v
-row-more c b a n j rows kind q v z h l few room same = record {
+row-more c b a n j rows kind q v z h l few room small same = record {
   sized = sized-row b (suc j) rows kind q v z;
   agree = record {
     firsts = λ k m. old (16 + k) (omega arith) (λ e. omega arith) (λ e. omega arith) (λ e. omega arith);
@@ -245,19 +241,22 @@ row-more c b a n j rows kind q v z h l few room same = record {
     starts = λ k m. old (48 + k) (omega arith) (λ e. omega arith) (λ e. omega arith) (λ e. omega arith);
     inside = λ k m. omega (arith, h .rising k (omega arith), starts-up c a n rows h (suc k) n (omega arith) (omega arith), h .end);
     within = λ k m. omega (arith, starts-up c a n rows h k n (omega arith) (omega arith), h .end);
-    kinds = λ r m. old (65 + 3 * r) (omega arith) (λ e. omega arith) (λ e. omega arith) (λ e. omega arith);
-    arrays = λ r m. old (65 + 3 * r + 1) (omega arith) (λ e. omega arith) (λ e. omega arith) (λ e. omega arith);
-    values = λ r m. old (65 + 3 * r + 2) (omega arith) (λ e. omega arith) (λ e. omega arith) (λ e. omega arith);
+    kinds = λ r m. ap (λ (n : ℕ). n / 16) (head r m);
+    arrays = λ r m. ap (λ (n : ℕ). n % 16) (head r m);
+    values = λ r m. old (65 + 2 * r + 1) (omega arith) (λ e. omega arith) (λ e. omega arith) (λ e. omega arith);
   };
   past = row-start b (suc j) rows kind q v z room (omega arith);
-  kind-is = row-kind b (suc j) rows kind q v z room;
-  array-is = row-array b (suc j) rows kind q v z room;
+  kind-is = row-kind b (suc j) rows kind q v z room small;
+  array-is = row-array b (suc j) rows kind q v z room small;
   value-is = row-value b (suc j) rows kind q v z room;
 }
   where
-    old : (i : ℕ) → i < 65 + 3 * rows → (i ≡ 48 + suc j → ⊥) → (i ≡ 16 + j → ⊥) → (i ≡ 32 + j → ⊥)
+    old : (i : ℕ) → i < 65 + 2 * rows → (i ≡ 48 + suc j → ⊥) → (i ≡ 16 + j → ⊥) → (i ≡ 32 + j → ⊥)
         → getD c i 0 ≡ getD (withRow (suc j) rows kind q v b) i 0
     old i low start first last = sym (row-leaves b (suc j) rows kind q v i low start ∙ same i first last)
+
+    head : (r : ℕ) → r < rows → getD c (65 + 2 * r) 0 ≡ getD (withRow (suc j) rows kind q v b) (65 + 2 * r) 0
+    head r m = old (65 + 2 * r) (omega arith) (λ e. omega arith) (λ e. omega arith) (λ e. omega arith)
 
 module _ (c : List ℕ) (rs : List Record) (rows : ℕ) (s : Stored c rs rows) where
   few : summary rs .items < 32 → rows < 528
@@ -267,18 +266,18 @@ module _ (c : List ℕ) (rs : List Record) (rows : ℕ) (s : Stored c rs rows) w
   module _ (r : Record) (x : Item) (kind q v w m : ℕ) (i : itemOf kind q v ≡ x)
       (counted : summary (r ∷ rs) ≡ withItem w (summary rs)) (same : lengths (r ∷ rs) ≡ lengths rs)
       (added : (xs : List Item) → loopsOf (r ∷ rs) xs ≡ loopsOf rs (x ∷ xs))
-      (open-loop : summary rs .loops ≡ suc m) (free : summary rs .items < 32) (small : q < 16) (offset : kind < 4 → v ≤ 510) where
+      (open-loop : summary rs .loops ≡ suc m) (free : summary rs .items < 32) (small : q < 16) (offset : kind < 2 → v ≤ 510) where
     d : List ℕ
     d = withRow (suc m) rows kind q v c
 
-    kept-then : Kept c (summary rs .arrays) (suc m) rows
-    kept-then = subst (λ (n : ℕ). Kept c (summary rs .arrays) n rows) open-loop (s .kept)
+    kept-then : InPlace c (summary rs .arrays) (suc m) rows
+    kept-then = subst (λ (n : ℕ). InPlace c (summary rs .arrays) n rows) open-loop (s .kept)
 
     grown : Grown c d m rows kind q v
     unfolding d
     grown =
         row-more c c (summary rs .arrays) (suc m) m rows kind q v (s .sized) kept-then (omega arith) (kept-then .few-loops) (few free)
-        (λ k f l. refl)
+        small (λ k f l. refl)
 
     latest : (xs : List Item) → shown c (suc m) rows (x ∷ xs) ≡ shown d (suc m) (rows + 1) xs
     unfolding d
@@ -302,7 +301,7 @@ module _ (c : List ℕ) (rs : List Record) (rows : ℕ) (s : Stored c rs rows) w
           kept =
               rw (arrays, loops)
               (kept-grown c d m rows kind q v grown (summary rs .arrays) (suc m) kept-then
-              (λ e. absurd (omega (arith, kept-then .rising m (omega arith), kept-then .end))) (omega arith) (kept-then .few-loops) (few free) small offset);
+              (λ e. absurd (omega (arith, kept-then .rising m (omega arith), kept-then .end))) (omega arith) (kept-then .few-loops) (few free) offset);
           items = omega arith;
           room = omega (arith, s .room);
         }
@@ -316,13 +315,13 @@ module _ (c : List ℕ) (rs : List Record) (rows : ℕ) (s : Stored c rs rows) w
     b = withBounds n f l c
 
     e : List ℕ
-    e = withRow (suc n) rows 2 q o b
+    e = withRow (suc n) rows 1 q o b
 
-    begun : Grown c e n rows 2 q o
+    begun : Grown c e n rows 1 q o
     unfolding e b n
     begun =
-        row-more c b (summary rs .arrays) n n rows 2 q o (sized-bounds c n f l (s .sized)) (s .kept) (omega arith) free (omega (arith, s .room, s .items))
-        (bounds-leave c n f l)
+        row-more c b (summary rs .arrays) n n rows 1 q o (sized-bounds c n f l (s .sized)) (s .kept) (omega arith) free (omega (arith, s .room, s .items))
+        small (bounds-leave c n f l)
 
     items-none : (r : ℕ) → itemsFrom e r 0 ≡ []
     unfolding itemsFrom
@@ -334,8 +333,8 @@ module _ (c : List ℕ) (rs : List Record) (rows : ℕ) (s : Stored c rs rows) w
         let at : startAt e n ≡ rows = sym (begun .agree .starts n (omega arith)) ∙ s .kept .end in
         let z : rows + 1 - suc rows ≡ 0 = omega arith in
         rw (
-          row-leaves b (suc n) rows 2 q o (16 + n) (omega arith) (λ z. omega arith) ∙ bounds-first c n f l (s .sized) free,
-          row-leaves b (suc n) rows 2 q o (32 + n) (omega arith) (λ z. omega arith) ∙ bounds-last c n f l (s .sized) free,
+          row-leaves b (suc n) rows 1 q o (16 + n) (omega arith) (λ z. omega arith) ∙ bounds-first c n f l (s .sized) free,
+          row-leaves b (suc n) rows 1 q o (32 + n) (omega arith) (λ z. omega arith) ∙ bounds-last c n f l (s .sized) free,
           at,
           begun .array-is,
           begun .value-is,
@@ -346,7 +345,7 @@ module _ (c : List ℕ) (rs : List Record) (rows : ℕ) (s : Stored c rs rows) w
     lens-begun : take (summary rs .arrays) e ≡ take (summary rs .arrays) c
     unfolding e b
     lens-begun =
-        row-lengths b (suc n) rows 2 q o (summary rs .arrays) (s .kept .few-arrays) ∙ bounds-lengths c n f l (summary rs .arrays) (s .kept .few-arrays)
+        row-lengths b (suc n) rows 1 q o (summary rs .arrays) (s .kept .few-arrays) ∙ bounds-lengths c n f l (summary rs .arrays) (s .kept .few-arrays)
 
     loops-begun : (xs : List Item)
         → loopsOf rs [] ++ (record { first = f; last = l; body = record { array = q; offset = o; items = xs } ∷ [] } ∷ []) ≡ shown e (suc n) (rows + 1) xs
@@ -364,7 +363,7 @@ module _ (c : List ℕ) (rs : List Record) (rows : ℕ) (s : Stored c rs rows) w
       loops = λ xs. rw (add-one (summary rs .loops)) (loops-begun xs);
       kept =
           rw (add-one (summary rs .loops))
-          (kept-grown c e n rows 2 q o begun (summary rs .arrays) n (s .kept) (λ e. refl) (omega arith) free (omega (arith, s .room, s .items)) small (λ h. offset));
+          (kept-grown c e n rows 1 q o begun (summary rs .arrays) n (s .kept) (λ e. refl) (omega arith) free (omega (arith, s .room, s .items)) (λ h. offset));
       items = omega arith;
       room = omega (arith, s .room, s .items);
     }
@@ -392,7 +391,7 @@ module _ (c : List ℕ) (rs : List Record) (rows : ℕ) (s : Stored c rs rows) w
       start = left 48 (omega arith) ∙ s .kept .start;
       rising = λ j h. absurd (omega arith);
       end = left (48 + summary rs .loops) (omega arith) ∙ s .kept .end;
-      head = λ j h. absurd (omega arith);
+      opening = λ j h. absurd (omega arith);
       each = λ r h. absurd (omega (arith, s .room, s .items));
     };
     items = s .items;
@@ -404,7 +403,7 @@ module _ (c : List ℕ) (rs : List Record) (rows : ℕ) (s : Stored c rs rows) w
 
   item-kept : (r : Record) (x : Item) (kind q v w : ℕ) → itemOf kind q v ≡ x → summary (r ∷ rs) ≡ withItem w (summary rs)
       → lengths (r ∷ rs) ≡ lengths rs → ((xs : List Item) → loopsOf (r ∷ rs) xs ≡ loopsOf rs (x ∷ xs))
-      → 0 < summary rs .loops → summary rs .items < 32 → q < 16 → (kind < 4 → v ≤ 510)
+      → 0 < summary rs .loops → summary rs .items < 32 → q < 16 → (kind < 2 → v ≤ 510)
       → Stored (withRow (summary rs .loops) rows kind q v c) (r ∷ rs) (rows + 1)
   unfolding d
   item-kept r x kind q v w i counted same added some free small offset =
@@ -412,20 +411,29 @@ module _ (c : List ℕ) (rs : List Record) (rows : ℕ) (s : Stored c rs rows) w
       subst (λ (k : ℕ). Stored (withRow k rows kind q v c) (r ∷ rs) (rows + 1)) (sym open-loop)
       (item-stored r x kind q v w (summary rs .loops - 1) i counted same added open-loop free small offset)
 
-  -- every record that meets no ground
+  -- every record that meets no ground; its array is one of those before it, of which there are at most sixteen
+  pub kept-small : (x : Record) → Clear x (summary rs) (lengths rs) → ArrayFits x
+  kept-small rec.Unknown clear = tt
+  kept-small (rec.Array k) clear = tt
+  kept-small (rec.Loop f l q o) clear = omega (arith, clear .4, s .kept .few-arrays)
+  kept-small (rec.Read q o) clear = omega (arith, clear .2, s .kept .few-arrays)
+  kept-small (rec.Constant k) clear = tt
+  kept-small (rec.Operation o) clear = tt
+  kept-small rec.End clear = tt
+
   pub kept-stored : (x : Record) → Clear x (summary rs) (lengths rs) → (x ≡ rec.End → ⊥) → Stored (kept x (summary rs) rows c) (x ∷ rs) (rowsAfter x rows)
   unfolding kept rowsAfter e b n itemOf summary advanced lengths loopsOf
   kept-stored rec.Unknown clear other = absurd clear
   kept-stored (rec.Array k) clear other = array-stored k (clear .0) (clear .1)
   kept-stored (rec.Loop f l q o) clear other =
-      rw (add-one (summary rs .loops)) (loop-stored f l q o (clear .1) (omega (arith, clear .4, s .kept .few-arrays)) (clear .5))
+      rw (add-one (summary rs .loops)) (loop-stored f l q o (clear .1) (kept-small (rec.Loop f l q o) clear) (clear .5))
   kept-stored (rec.Read q o) clear other =
-      item-kept (rec.Read q o) (read q o) 3 q o _ refl refl refl (λ xs. refl) (clear .0) (clear .1)
-      (omega (arith, clear .2, s .kept .few-arrays)) (λ h. clear .3)
+      item-kept (rec.Read q o) (read q o) 0 q o _ refl refl refl (λ xs. refl) (clear .0) (clear .1)
+      (kept-small (rec.Read q o) clear) (λ h. clear .3)
   kept-stored (rec.Constant k) clear other =
-      item-kept (rec.Constant k) (constant k) 4 0 k _ refl refl refl (λ xs. refl) (clear .0) (clear .1) (omega arith) (λ h. absurd (omega arith))
+      item-kept (rec.Constant k) (constant k) 2 0 k _ refl refl refl (λ xs. refl) (clear .0) (clear .1) (omega arith) (λ h. absurd (omega arith))
   kept-stored (rec.Operation o) clear other =
-      item-kept (rec.Operation o) (operation o) 5 0 o _ refl refl refl (λ xs. refl) (clear .0) (clear .1) (omega arith) (λ h. absurd (omega arith))
+      item-kept (rec.Operation o) (operation o) 3 0 o _ refl refl refl (λ xs. refl) (clear .0) (clear .1) (omega arith) (λ h. absurd (omega arith))
   kept-stored rec.End clear other = absurd (other refl)
 
 -- before the first record
@@ -442,7 +450,7 @@ stored-start c z e = record {
     start = e;
     rising = λ k h. absurd (omega arith);
     end = e;
-    head = λ k h. absurd (omega arith);
+    opening = λ k h. absurd (omega arith);
     each = λ r h. absurd (omega arith);
   };
   items = omega arith;
@@ -450,11 +458,11 @@ stored-start c z e = record {
 }
 
 -- AT THE END the counts are put beside the table
-module _ (c : List ℕ) (a l rows : ℕ) (z : Sized c) (h : Kept c a l rows) where
+module _ (c : List ℕ) (a l rows : ℕ) (z : Sized c) (h : InPlace c a l rows) where
   full : List ℕ
   full = withCounts a l c
 
-  unmoved : (i : ℕ) → i < 1649 → getD c i 0 ≡ getD full i 0
+  unmoved : (i : ℕ) → i < 1121 → getD c i 0 ≡ getD full i 0
   unfolding full
   unmoved i m = sym (counts-leave c a l i m)
 
@@ -468,9 +476,9 @@ module _ (c : List ℕ) (a l rows : ℕ) (z : Sized c) (h : Kept c a l rows) whe
     starts = λ k m. unmoved (48 + k) (omega (arith, h .few-loops));
     inside = λ k m. omega (arith, h .rising k m, before-end (suc k) m);
     within = before-end;
-    kinds = λ r m. unmoved (65 + 3 * r) (omega (arith, h .few-rows));
-    arrays = λ r m. unmoved (65 + 3 * r + 1) (omega (arith, h .few-rows));
-    values = λ r m. unmoved (65 + 3 * r + 2) (omega (arith, h .few-rows));
+    kinds = λ r m. ap (λ (n : ℕ). n / 16) (unmoved (65 + 2 * r) (omega (arith, h .few-rows)));
+    arrays = λ r m. ap (λ (n : ℕ). n % 16) (unmoved (65 + 2 * r) (omega (arith, h .few-rows)));
+    values = λ r m. unmoved (65 + 2 * r + 1) (omega (arith, h .few-rows));
   }
 
   pub counted-table : tableIn (withCounts a l c) ≡ tableAt c a l
@@ -479,12 +487,9 @@ module _ (c : List ℕ) (a l rows : ℕ) (z : Sized c) (h : Kept c a l rows) whe
       rw (counts-arrays c a l z, counts-loops c a l z, counts-lengths c a l a (h .few-arrays), ← (loops-agree c full l rows same 0 l (omega arith)))
 
   row-same : (r : ℕ) → r < rows → Row full r
-  row-same r m = record {
-    array = rw (← (same .arrays r m)) (h .each r m .array);
-    offset = λ k. rw (← (same .values r m)) (h .each r m .offset (rw (← (same .kinds r m)) at k));
-  }
+  row-same r m = record { offset = λ k. rw (← (same .values r m)) (h .each r m .offset (rw (← (same .kinds r m)) at k)) }
 
-  counted-kept : Kept (withCounts a l c) (arraysIn (withCounts a l c)) (loopsIn (withCounts a l c)) (startAt (withCounts a l c) (loopsIn (withCounts a l c)))
+  counted-kept : InPlace (withCounts a l c) (arraysIn (withCounts a l c)) (loopsIn (withCounts a l c)) (startAt (withCounts a l c) (loopsIn (withCounts a l c)))
   unfolding full
   counted-kept =
       let e : startAt full l ≡ rows = sym (same .starts l (omega arith)) ∙ h .end in
@@ -495,7 +500,7 @@ module _ (c : List ℕ) (a l rows : ℕ) (z : Sized c) (h : Kept c a l rows) whe
         start = sym (same .starts 0 (omega arith)) ∙ h .start;
         rising = λ k m. rw (← (same .starts k (omega arith)), ← (same .starts (suc k) m)) (h .rising k m);
         end = e;
-        head = λ k m. rw (← (same .starts k (omega arith)), ← (same .kinds (startAt c k) (same .inside k m))) (h .head k m);
+        opening = λ k m. rw (← (same .starts k (omega arith)), ← (same .kinds (startAt c k) (same .inside k m))) (h .opening k m);
         each = row-same;
       })
 

@@ -1,15 +1,20 @@
 // Reads a loop table into a store that the caller lends.
 use arithmetic::narrow;
 use arithmetic::wide;
+use records::MOST_ROWS;
+use records::ROW;
+use records::ROWS_AT;
 use records::Record;
 use records::Store;
 use records::Summary;
 use records::Tested;
 ghost use mathlib.Core.Path.{_≡_};
+ghost use mathlib.Core.Bool.{_&&_};
+ghost use lib.Dec.{eqb};
 ghost use Prim.Native.Nat.{_+_, _<_, _≤_};
 ghost use Rattle.records.specs.Clear.{Room};
 ghost use Rattle.reader.specs.Reading.{reading};
-ghost use Rattle.reader.specs.Store.{Sized, firstAt, lastAt, startAt, kindAt, arrayAt, valueAt, arraysIn, loopsIn, answer, kept, rowsAfter, withRow, withBounds, withCounts, Places};
+ghost use Rattle.reader.specs.Store.{Sized, firstAt, lastAt, startAt, kindAt, arrayAt, valueAt, arraysIn, loopsIn, answer, kept, rowsAfter, withRow, withBounds, withCounts, Places, ArrayFits};
 ghost use Rattle.reader.specs.Stored.{Filled};
 
 // A refusal with its number and its place, or that the store then holds the table.
@@ -28,11 +33,22 @@ const LASTS_AT: usize = 32;
 
 const STARTS_AT: usize = 48;
 
-const ROWS_AT: usize = 65;
+const ARRAYS_AT: usize = ROWS_AT + ROW * MOST_ROWS;
 
-const ARRAYS_AT: usize = 1649;
+const LOOPS_AT: usize = ARRAYS_AT + 1;
 
-const LOOPS_AT: usize = 1650;
+// A row is its head and its value. A head is the row's kind times this, and its array, which is below this. So both stand in one number: a
+// row has one number less to write, and there is less to set to 0 at each call.
+const SPLIT: u32 = 16;
+
+// The kinds of rows. A read's head is its array, so that one comparison finds the reads of an array.
+pub const READ: u32 = 0;
+
+const DESTINATION: u32 = 1;
+
+pub const CONSTANT: u32 = 2;
+
+const OPERATION: u32 = 3;
 
 // How many arrays and how many loops there are.
 pub fn arrays_in(store: &Store) -> usize
@@ -75,34 +91,41 @@ pub fn kind_at(store: &Store, r: usize) -> u32
     requires { ⌜ r < 528 ⌝ }
     ensures { λ x. ⌜ x ≡ kindAt (now (store .entry)) r ⌝ }
 {
-    store[ROWS_AT + 3 * r]
+    store[ROWS_AT + ROW * r] / SPLIT
 }
 
 pub fn array_at(store: &Store, r: usize) -> u32
     requires { ⌜ r < 528 ⌝ }
     ensures { λ x. ⌜ x ≡ arrayAt (now (store .entry)) r ⌝ }
 {
-    store[ROWS_AT + 3 * r + 1]
+    store[ROWS_AT + ROW * r] % SPLIT
 }
 
 pub fn value_at(store: &Store, r: usize) -> u32
     requires { ⌜ r < 528 ⌝ }
     ensures { λ x. ⌜ x ≡ valueAt (now (store .entry)) r ⌝ }
 {
-    store[ROWS_AT + 3 * r + 2]
+    store[ROWS_AT + ROW * r + 1]
+}
+
+// Whether row r is a read of array q.
+pub fn reads_array(store: &Store, r: usize, q: usize) -> bool
+    requires { ⌜ (r < 528) × (q < 16) ⌝ }
+    ensures { λ x. ⌜ x ≡ (eqb (kindAt (now (store .entry)) r) 0 && eqb (arrayAt (now (store .entry)) r) q) ⌝ }
+{
+    wide(store[ROWS_AT + ROW * r]) == q
 }
 
 // One row more: loop k begins past it.
 fn put_row(k: usize, r: usize, kind: u32, q: u32, v: u32, store: &mut Store) -> usize
-    requires { ⌜ (k < 17) × (r < 528) ⌝ }
+    requires { ⌜ (k < 17) × (r < 528) × (kind < 4) × (q < 16) ⌝ }
     ensures { λ n. ⌜ n ≡ r + 1 ⌝ }
     ensures { λ n. ⌜ now (store .exit) ≡ withRow k r kind q v (now (store .entry)) ⌝ }
 {
     store[STARTS_AT + k] = narrow(r + 1);
-    let at = ROWS_AT + 3 * r;
-    store[at] = kind;
-    store[at + 1] = q;
-    store[at + 2] = v;
+    let at = ROWS_AT + ROW * r;
+    store[at] = kind * SPLIT + q;
+    store[at + 1] = v;
     r + 1
 }
 
@@ -124,7 +147,7 @@ fn put_counts(arrays: u32, loops: u32, store: &mut Store)
 // Stores a record that met no ground, in row r; answers how many rows there are then.
 fn keep(x: Record, t: Summary, r: usize, store: &mut Store) -> usize
     requires { ⌜ Room x t ⌝ }
-    requires { ⌜ Places t r × (rowsAfter x r ≤ 528) ⌝ }
+    requires { ⌜ Places t r × (rowsAfter x r ≤ 528) × ArrayFits x ⌝ }
     ensures { λ n. ⌜ n ≡ rowsAfter x r ⌝ }
     ensures { λ n. ⌜ now (store .exit) ≡ kept x t r (now (store .entry)) ⌝ }
 {
@@ -143,11 +166,11 @@ fn keep(x: Record, t: Summary, r: usize, store: &mut Store) -> usize
             offset,
         } => {
             put_bounds(k, first, last, store);
-            put_row(k + 1, r, 2, array, offset, store)
+            put_row(k + 1, r, DESTINATION, array, offset, store)
         }
-        Record::Read { array, offset } => put_row(k, r, 3, array, offset, store),
-        Record::Constant(n) => put_row(k, r, 4, 0, n, store),
-        Record::Operation(o) => put_row(k, r, 5, 0, o, store),
+        Record::Read { array, offset } => put_row(k, r, READ, array, offset, store),
+        Record::Constant(n) => put_row(k, r, CONSTANT, 0, n, store),
+        Record::Operation(o) => put_row(k, r, OPERATION, 0, o, store),
         Record::End => r,
     }
 }

@@ -7,8 +7,13 @@ ghost use Rattle.records.specs.Clear.{Room};
 // How many rows all loops have: sixteen destinations, each with 32 items.
 pub const MOST_ROWS: usize = 528;
 
-// A table as it is kept (reader/specs/Store.antt), in so many numbers: the lengths of the arrays come first.
-pub const STORE: usize = 1651;
+// A table as it is kept (reader/specs/Store.antt): the lengths of the arrays come first, then what is known of the loops, then the rows, each
+// of so many numbers, and the counts of arrays and of loops come last.
+pub const ROWS_AT: usize = 65;
+
+pub const ROW: usize = 2;
+
+pub const STORE: usize = ROWS_AT + ROW * MOST_ROWS + 2;
 
 pub type Store = [u32; STORE];
 

@@ -1,7 +1,7 @@
 -- Demand 3 over the definitions. Take a table that grounds 5, 7 and 9 do not refuse, shifts and peels that keep every dependence, and
 -- blocks with the gaps. Every complete schedule of their lists leaves the memory that the plain run leaves. Assumes nothing.
 use mathlib.Core.Path.{_≡_, sym, _∙_}
-use mathlib.Core.Logic.{_⊎_, inl, inr, ⊎-elim, _≢_, _↔_}
+use mathlib.Core.Logic.{inl, inr, ⊎-elim, _≢_, _↔_}
 use mathlib.Core.List.{List}
 use mathlib.Core.List.{List·Memᴰ as Mem}
 use Prim.Native.Nat.{ℕ, zero, suc, _+_, _≤_, _<_}

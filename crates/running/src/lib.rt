@@ -3,6 +3,7 @@ use arithmetic::wide;
 use barriers::ENDS;
 use barriers::Ends;
 use blocks::Axis;
+use iterations::MEMORY;
 use layouts::ALL_LISTS;
 use layouts::LISTS;
 use ranges::PHASES;
@@ -24,9 +25,6 @@ ghost use Rattle.plans.specs.Plans.{Settings, settings, planned};
 ghost use Rattle.plans.specs.Code.{Laid, plannedIn};
 ghost use Rattle.running.specs.Code.{Step, Idles, called, Readies, Given, Left, Ordered, Rowed};
 ghost use Rattle.running.specs.Runs.{Runs};
-
-// Ground 12.
-const MEMORY: usize = 12;
 
 // What a run answers: the refusal, 0 without one, with its place and the read that 9 names; and how many calls were idle.
 pub struct Ran {

@@ -46,7 +46,7 @@ module _ (span a c : ℕ) (s : List ℕ) where
   unfolding itemsFrom
   split row past l = let e : past - row ≡ suc (past - (row + 1)) = omega arith in rw (e, add-one row)
 
-  at-read : (row : ℕ) → kindAt s row ≡ 3 → itemAt s row ≡ read (arrayAt s row) (valueAt s row)
+  at-read : (row : ℕ) → kindAt s row ≡ 0 → itemAt s row ≡ read (arrayAt s row) (valueAt s row)
   unfolding itemOf
   at-read row e = rw e
 
@@ -54,11 +54,11 @@ module _ (span a c : ℕ) (s : List ℕ) where
     here : (x : Item) → itemAt s row ≡ x → hit span a c (x ∷ itemsFrom s (row + 1) (past - (row + 1))) reads ≡ hitFrom from past 0
     here x e = ap (λ (xs : List Item). hit span a c xs reads) (sym (split row past l ∙ ap (λ (y : Item). y ∷ itemsFrom s (row + 1) (past - (row + 1))) e)) ∙ inv .rest
 
-    pub found : kindAt s row ≡ 3 → collides span a c (arrayAt s row) (valueAt s row) ≡ true → Read reads ≡ hitFrom from past 0
+    pub found : kindAt s row ≡ 0 → collides span a c (arrayAt s row) (valueAt s row) ≡ true → Read reads ≡ hitFrom from past 0
     unfolding hit
     found k e = rw e at (here (read (arrayAt s row) (valueAt s row)) (at-read row k))
 
-    pub passed : kindAt s row ≡ 3 → collides span a c (arrayAt s row) (valueAt s row) ≡ false → Inv from past (row + 1) (reads + 1)
+    pub passed : kindAt s row ≡ 0 → collides span a c (arrayAt s row) (valueAt s row) ≡ false → Inv from past (row + 1) (reads + 1)
     unfolding hit
     passed k e = record {
       low = omega (arith, inv .low);
@@ -66,11 +66,11 @@ module _ (span a c : ℕ) (s : List ℕ) where
       rest = rw e at (here (read (arrayAt s row) (valueAt s row)) (at-read row k));
     }
 
-    pub other : (kindAt s row ≡ 3 → ⊥) → Inv from past (row + 1) reads
+    pub other : (kindAt s row ≡ 0 → ⊥) → Inv from past (row + 1) reads
     unfolding hit itemOf
-    other k = record { low = omega (arith, inv .low); few = omega (arith, inv .few); rest = go (eqb (kindAt s row) 4) refl }
+    other k = record { low = omega (arith, inv .low); few = omega (arith, inv .few); rest = go (eqb (kindAt s row) 2) refl }
       where
-        go : (b : Bool) → eqb (kindAt s row) 4 ≡ b → hitFrom (row + 1) past reads ≡ hitFrom from past 0
+        go : (b : Bool) → eqb (kindAt s row) 2 ≡ b → hitFrom (row + 1) past reads ≡ hitFrom from past 0
         go true e = here (constant (valueAt s row)) (rw (ne-eqb _ _ k, e))
         go false e = here (operation (valueAt s row)) (rw (ne-eqb _ _ k, e))
 

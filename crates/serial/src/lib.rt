@@ -1,4 +1,5 @@
 // Ground 9: two different iterations of one loop meet at an element, one of them storing.
+use arithmetic::length_of;
 use arithmetic::wide;
 use reader::Reading;
 use records::Store;
@@ -49,7 +50,7 @@ fn first_hit(store: &Store, from: usize, past: usize, span: usize, a: u32, c: u3
     let mut row = from;
     let mut reads: usize = 0;
     while row < past {
-        if reader::kind_at(store, row) == 3 {
+        if reader::kind_at(store, row) == reader::READ {
             if collide(
                 span,
                 a,
@@ -66,13 +67,6 @@ fn first_hit(store: &Store, from: usize, past: usize, span: usize, a: u32, c: u3
     Collision::Nothing
 }
 
-// last - first, and 0 where last is the less.
-fn span_of(first: u32, last: u32) -> usize
-    ensures { λ r. ⌜ (r ≡ last - first) × (r < 4294967296) ⌝ }
-{
-    if last < first { 0 } else { wide(last - first) }
-}
-
 // The first read of loop k that collides.
 fn loop_hit(k: usize, store: &Store) -> Collision
     requires { ⌜ (k < 16) × (startAt (now store) k < 528) × (startAt (now store) (k + 1) ≤ 528) ⌝ }
@@ -80,7 +74,9 @@ fn loop_hit(k: usize, store: &Store) -> Collision
 {
     let from = reader::start_at(store, k);
     let past = reader::start_at(store, k + 1);
-    let span = span_of(reader::first_at(store, k), reader::last_at(store, k));
+    let first = reader::first_at(store, k);
+    let last = reader::last_at(store, k);
+    let span = length_of(first, last);
     first_hit(
         store,
         from + 1,

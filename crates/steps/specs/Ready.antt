@@ -1,6 +1,6 @@
 -- What the code of a turn is lent: any work in two phases, with processor b's lists and where all phases end in numbers, and the table's
 -- statements in a store; and what it leaves.
-use Prim.Native.Nat.{ℕ, _+_, _-_, _*_, _≤_, _<_}
+use Prim.Native.Nat.{ℕ, _+_, _*_, _≤_, _<_}
 use mathlib.Core.Path.{_≡_, refl}
 use mathlib.Core.List.{List}
 use mathlib.Core.List.{List·Memᴰ as Mem}

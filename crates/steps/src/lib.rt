@@ -3,6 +3,7 @@ use arithmetic::wide;
 use barriers::ENDS;
 use barriers::Ends;
 use blocks::Axis;
+use iterations::MEMORY;
 use layouts::LISTS;
 use ranges::PHASE;
 use ranges::PHASES;
@@ -26,9 +27,7 @@ ghost use Rattle.stepping.specs.Step.{reportOf, elements, steppedBy};
 ghost use Rattle.steps.specs.Ready.{Listed, Ready, Leaves};
 ghost use Rattle.steps.specs.Steps.{refusing, Steps};
 
-// Grounds 12 and 15.
-const MEMORY: usize = 12;
-
+// Ground 15.
 const STATE: usize = 15;
 
 // How many iterations each processor has done.

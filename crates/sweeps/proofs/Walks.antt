@@ -10,8 +10,7 @@ use Rattle.marks.specs.Marks.{marked, size, size-most, size-same, none-marked}
 use Rattle.model.specs.Table.{Table, count}
 use Rattle.model.specs.PlainRun.{upward-turn, upward-ended}
 use Rattle.reader.specs.Store.{startAt, kindAt, arrayAt, loopsIn, tableIn}
-use Rattle.reader.specs.Stored.{Row}
-use Rattle.reader.specs.Held.{Held, count-held, few-loops, rows-rise, few-rows, row-held}
+use Rattle.reader.specs.Held.{Held, count-held, few-loops, rows-rise, few-rows}
 use Rattle.sweeps.specs.declared.Totals.{Totals}
 use Rattle.sweeps.specs.Sweeps as Sweeps
 use Rattle.sweeps.specs.Sweeps.{touched, written, sumOver, unionOver, union, sweeps}
@@ -34,13 +33,13 @@ module _ (c : List ℕ) (from past : ℕ) where
       (record { rest = λ q. ap (λ (b : Bool). b || readRows c (suc from) (past - suc from) q) (alone m x e h q) })
 
   module _ (m row : ℕ) (inv : Inv m row) where
-    pub next : row < past → (n : ℕ) → ((q : ℕ) → marked n q ≡ (marked m q || (eqb (kindAt c row) 3 && eqb q (arrayAt c row)))) → Inv n (row + 1)
+    pub next : row < past → (n : ℕ) → ((q : ℕ) → marked n q ≡ (marked m q || (eqb (kindAt c row) 0 && eqb q (arrayAt c row)))) → Inv n (row + 1)
     unfolding readRows
     next l n h = rw (add-one row) (record { rest = one })
       where
         one : (q : ℕ) → (marked n q || readRows c (suc row) (past - suc row) q) ≡ touchedRows c from past q
         one q =
-            let b = eqb (kindAt c row) 3 && eqb q (arrayAt c row) in
+            let b = eqb (kindAt c row) 0 && eqb q (arrayAt c row) in
             let e : past - row ≡ suc (past - suc row) = omega arith in
             ap (λ (x : Bool). x || readRows c (suc row) (past - suc row) q) (h q)
             ∙ or-assoc (marked m q) b (readRows c (suc row) (past - suc row) q)
@@ -96,10 +95,10 @@ module _ (c : List ℕ) (h : Held c) (loops : ℕ) (all : loops ≡ loopsIn c) w
       there = omega (arith, count-held h)
 
       -- what the next loop asks
-      pub room : (s .before < 65536) × (startAt c k < startAt c (k + 1)) × (startAt c (k + 1) ≤ 528) × ((r : ℕ) → r < startAt c (k + 1) → Row c r)
+      pub room : (s .before < 65536) × (startAt c k < startAt c (k + 1)) × (startAt c (k + 1) ≤ 528)
       room =
           rw (add-one k)
-          (omega (arith, inv .small, loops-few), rows-rise h k there, few-rows h (suc k) there, λ r l. row-held h (suc k) r there l)
+          (omega (arith, inv .small, loops-few), rows-rise h k there, few-rows h (suc k) there)
 
       pub loops-next : (r : Totals) → Added s r c (startAt c k) (startAt c (k + 1)) → LoopInv c loops (k + 1) r
       loops-next r d = rw (add-one k) (further (rw (add-one k) at d))

@@ -21,7 +21,7 @@ module _ (c : List ℕ) where
   -- the arrays that are read in the n rows from row r on
   unfoldable pub readRows : ℕ → ℕ → Marks
   readRows r zero q = false
-  readRows r (suc n) q = (eqb (kindAt c r) 3 && eqb q (arrayAt c r)) || readRows (suc r) n q
+  readRows r (suc n) q = (eqb (kindAt c r) 0 && eqb q (arrayAt c r)) || readRows (suc r) n q
 
   unfoldable pub touchedRows : ℕ → ℕ → Marks
   touchedRows from past q = writtenRow from q || readRows (suc from) (past - suc from) q
@@ -33,7 +33,7 @@ pub record Added (s r : Totals) (c : List ℕ) (from past : ℕ) : Type 0 where
   pub written : (q : ℕ) → marked (r .written) q ≡ (marked (s .written) q || writtenRow c from q)
 
 -- LAWS
--- the references of the items in the rows: a row of kind 3 has one, a read, and no other has any
+-- the references of the items in the rows: a row of kind 0 has one, a read, and no other has any
 module _ (f : Reference → Bool) (k : ℕ) where
   some-row : (b d : Bool) (q v : ℕ) (xs : List Item)
       → some f (reads k (cond b (read q v) (cond d (constant v) (operation v)) ∷ xs))
@@ -48,15 +48,15 @@ module _ (c : List ℕ) (k q : ℕ) where
   unfolding some itemOf itemsFrom readRows
   some-reads r zero = refl
   some-reads r (suc n) =
-      some-row (λ z. eqb q (z .array)) k (eqb (kindAt c r) 3) (eqb (kindAt c r) 4) (arrayAt c r) (valueAt c r) (itemsFrom c (suc r) n)
-      ∙ ap (λ (b : Bool). (eqb (kindAt c r) 3 && eqb q (arrayAt c r)) || b) (some-reads (suc r) n)
+      some-row (λ z. eqb q (z .array)) k (eqb (kindAt c r) 0) (eqb (kindAt c r) 2) (arrayAt c r) (valueAt c r) (itemsFrom c (suc r) n)
+      ∙ ap (λ (b : Bool). (eqb (kindAt c r) 0 && eqb q (arrayAt c r)) || b) (some-reads (suc r) n)
 
   none-stores : (r n : ℕ) → some (λ z. eqb q (z .array) && z .stores) (reads k (itemsFrom c r n)) ≡ false
   unfolding some itemOf itemsFrom
   none-stores r zero = refl
   none-stores r (suc n) =
-      some-row (λ z. eqb q (z .array) && z .stores) k (eqb (kindAt c r) 3) (eqb (kindAt c r) 4) (arrayAt c r) (valueAt c r) (itemsFrom c (suc r) n)
-      ∙ rw (and-false (eqb q (arrayAt c r)), and-false (eqb (kindAt c r) 3)) (none-stores (suc r) n)
+      some-row (λ z. eqb q (z .array) && z .stores) k (eqb (kindAt c r) 0) (eqb (kindAt c r) 2) (arrayAt c r) (valueAt c r) (itemsFrom c (suc r) n)
+      ∙ rw (and-false (eqb q (arrayAt c r)), and-false (eqb (kindAt c r) 0)) (none-stores (suc r) n)
 
 -- the sets of loop k are those of its rows
 module _ (c : List ℕ) (h : Held c) (k : ℕ) (there : k < count (tableIn c)) where

@@ -7,7 +7,6 @@ ghost use Prim.Native.Nat.{ℕ, _<_, _≤_};
 ghost use lib.Dec.{eqb};
 ghost use Rattle.marks.specs.Marks.{marked};
 ghost use Rattle.reader.specs.Store.{tableIn};
-ghost use Rattle.reader.specs.Stored.{Row};
 ghost use Rattle.reader.specs.Held.{Held};
 ghost use Rattle.sweeps.specs.Sweeps.{sweeps};
 ghost use Rattle.sweeps.specs.Rows.{touchedRows, Added};
@@ -28,9 +27,9 @@ struct Totals {
 // The set m, with the array of a row that is a read.
 fn with_row(m: u16, kind: u32, array: u32) -> u16
     requires { ⌜ array < 16 ⌝ }
-    ensures { λ r. ⌜ ((q : ℕ) → marked r q ≡ (marked m q || (eqb kind 3 && eqb q array))) ⌝ }
+    ensures { λ r. ⌜ ((q : ℕ) → marked r q ≡ (marked m q || (eqb kind 0 && eqb q array))) ⌝ }
 {
-    if kind == 3 {
+    if kind == reader::READ {
         return marks::with_mark(m, wide(array));
     }
     m
@@ -38,7 +37,7 @@ fn with_row(m: u16, kind: u32, array: u32) -> u16
 
 // The arrays that a loop touches: `from` is its destination's row, and its items' rows go up to `past`.
 fn touched_in(from: usize, past: usize, store: &Store) -> u16
-    requires { ⌜ (from < past) × (past ≤ 528) × ((r : ℕ) → r < past → Row (now store) r) ⌝ }
+    requires { ⌜ (from < past) × (past ≤ 528) ⌝ }
     ensures { λ r. ⌜ ((q : ℕ) → marked r q ≡ touchedRows (now (store .entry)) from past q) ⌝ }
 {
     let mut m = marks::with_mark(0, wide(reader::array_at(store, from)));
@@ -52,7 +51,7 @@ fn touched_in(from: usize, past: usize, store: &Store) -> u16
 
 // The totals with one loop more, in the rows from `from` up to `past`.
 fn with_loop(s: Totals, from: usize, past: usize, store: &Store) -> Totals
-    requires { ⌜ (s .before < 65536) × (from < past) × (past ≤ 528) × ((r : ℕ) → r < past → Row (now store) r) ⌝ }
+    requires { ⌜ (s .before < 65536) × (from < past) × (past ≤ 528) ⌝ }
     ensures { λ r. ⌜ Added s r (now (store .entry)) from past ⌝ }
 {
     let touched = touched_in(from, past, store);

@@ -9,17 +9,17 @@ use Rattle.stepping.specs.declared.Report.the-variants.{Refused, Performed, Wai
 use Rattle.stepping.specs.Meaning.{performed-small}
 use Rattle.steps.specs.declared.Stepped.{Stepped}
 use Rattle.steps.specs.Steps.{Steps}
-use Rattle.vempaldi.specs.Answers.{reported, refusal, Small, reportAt, StepTold}
+use Rattle.vempaldi.specs.Answers.{reported, refusal, ReportFits, reportAt, StepTold}
 
 module _ (s : List ℕ) (w : Settings) (b : ℕ) (cs : List ℕ) (m : List Float) (r : Stepped) (left : List Float) (h : Steps s w b cs m r left) where
   report-is : r .report ≡ reportAt s w b cs m
   report-is = h .is .report-is
 
-  pub report-small : Small (r .report)
-  unfolding Small
-  report-small = subst Small (sym report-is) (go (reportAt s w b cs m) refl)
+  pub report-small : ReportFits (r .report)
+  unfolding ReportFits
+  report-small = subst ReportFits (sym report-is) (go (reportAt s w b cs m) refl)
     where
-      go : (x : Report) → reportAt s w b cs m ≡ x → Small x
+      go : (x : Report) → reportAt s w b cs m ≡ x → ReportFits x
       go (Refused n p) e = tt
       go (Performed k i) e = performed-small s w b cs m k i e
       go Waiting e = tt

@@ -66,11 +66,11 @@ refusal Waiting read w = answered 0 0 0 w
 refusal Finished read w = answered 0 0 0 w
 
 -- a report's numbers have room
-unfoldable pub Small : Report → Type 0
-Small (Refused number place) = Unit {0}
-Small (Performed number index) = (number < 16) × (index ≤ 65790)
-Small Waiting = Unit {0}
-Small Finished = Unit {0}
+unfoldable pub ReportFits : Report → Type 0
+ReportFits (Refused number place) = Unit {0}
+ReportFits (Performed number index) = (number < 16) × (index ≤ 65790)
+ReportFits Waiting = Unit {0}
+ReportFits Finished = Unit {0}
 
 -- what a step reports
 abbrev pub reportAt : List ℕ → Settings → ℕ → List ℕ → List Float → Report

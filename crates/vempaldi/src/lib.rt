@@ -11,7 +11,7 @@ use steps::Counts;
 ghost use Rattle.plain.specs.Plain.{plainAnswer, plainMemory};
 ghost use Rattle.plans.specs.Plans.{settings};
 ghost use Rattle.stepping.specs.Run.{runAnswer, runMemory, runIdle};
-ghost use Rattle.vempaldi.specs.Answers.{AnswerTold, written, reported, refusal, Small, StepTold, answered, JoinTold, EntryTold, ListingTold};
+ghost use Rattle.vempaldi.specs.Answers.{AnswerTold, written, reported, refusal, ReportFits, StepTold, answered, JoinTold, EntryTold, ListingTold};
 
 fn write_answer(answer: &mut [u64; 3], number: usize, place: usize, read: usize)
     ensures { λ _. ⌜ now (answer .exit) ≡ answered number place read (now (answer .entry)) ⌝ }
@@ -168,7 +168,7 @@ fn write_report(report: &mut [u32; 3], kind: u32, number: u32, index: u32)
 
 // What a call reports: 0, a loop and an iteration; 1 where its processor waits; 2 where it is finished. A refused call leaves it as found.
 fn tell_report(report: &mut [u32; 3], r: Report)
-    requires { ⌜ Small r ⌝ }
+    requires { ⌜ ReportFits r ⌝ }
     ensures { λ _. ⌜ now (report .exit) ≡ reported r (now (report .entry)) ⌝ }
 {
     match r {

@@ -44,6 +44,6 @@ returns c =
 pub threshold-of-spec : {M : Type 1} → statement M
 threshold-of-spec =
     tie.close (tie.spec
-      Inv-loop μ-loop loop-holds (λ c. search needs) (λ c. search needs) (λ c. search needs) (λ c. search needs)
-      (λ c. search needs) (λ c. search needs) add-larger larger-requires (λ c. search needs) (λ c. search needs)
-      loop-again returns)
+    Inv-loop μ-loop loop-holds (λ c. search needs) (λ c. search needs) (λ c. search needs) (λ c. search needs)
+    (λ c. search needs) (λ c. search needs) add-larger larger-requires (λ c. search needs) (λ c. search needs)
+    loop-again returns)

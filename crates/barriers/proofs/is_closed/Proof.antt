@@ -12,7 +12,9 @@ use Rattle.barriers.proofs.is_closed.Tie as tie
 returns : tie.Need-returns
 returns c =
     let a = c .before .args in
-    rw (c .if1 .taken) (sym (some-none (a .processors) (leftBy (now (a .ends)) (now (a .counts)) 0) (λ b l. le-ltb (column (now (a .counts)) b) 0 (omega arith))))
+    rw (c .if1 .taken)
+    (sym
+    (some-none (a .processors) (leftBy (now (a .ends)) (now (a .counts)) 0) (λ b l. le-ltb (column (now (a .counts)) b) 0 (omega arith))))
 
 returns-2 : tie.Need-returns-2
 returns-2 c =

@@ -22,7 +22,9 @@ returns c =
     let a = c .before .before .before .before .args in
     let l = c .before .before .before .loop in
     let shut = c .before .is-closed in
-    let here = open-here (a .processors) (now (a .ends)) (now (a .counts)) (shut .result) (l .n) (c .before .before .loop-test .taken) (shut .ensures) (c .if1 .taken) in
+    let here =
+    open-here (a .processors) (now (a .ends)) (now (a .counts)) (shut .result) (l .n) (c .before .before .loop-test .taken)
+    (shut .ensures) (c .if1 .taken) in
     (sym (l .inv .0 ∙ here), l .inv .1)
 
 loop-again : tie.Need-loop-again Inv-loop μ-loop
@@ -30,7 +32,9 @@ loop-again c =
     let a = c .before .before .before .before .args in
     let l = c .before .before .before .loop in
     let shut = c .before .is-closed in
-    let down = open-down (a .processors) (now (a .ends)) (now (a .counts)) (shut .result) (l .n) (c .before .before .loop-test .taken) (shut .ensures) (c .if1 .left) in
+    let down =
+    open-down (a .processors) (now (a .ends)) (now (a .counts)) (shut .result) (l .n) (c .before .before .loop-test .taken)
+    (shut .ensures) (c .if1 .left) in
     (l .inv .0 ∙ down, omega arith)
 
 returns-2 : tie.Need-returns-2 Inv-loop μ-loop
@@ -43,5 +47,5 @@ returns-2 c =
 pub last-open-spec : {M : Type 1} → statement M
 last-open-spec =
     tie.close (tie.spec
-      Inv-loop μ-loop (λ c. omega arith) loop-holds (λ c κs. search needs) returns (λ c. omega arith)
-      (λ c. omega arith) loop-again returns-2)
+    Inv-loop μ-loop (λ c. omega arith) loop-holds (λ c κs. search needs) returns (λ c. omega arith)
+    (λ c. omega arith) loop-again returns-2)

@@ -20,15 +20,20 @@ loop-holds c = (refl, omega arith, omega arith)
 
 add-sum : tie.Need-add-sum Inv-loop μ-loop
 add-sum c =
-    let a = c .before .before .before .args in
-    omega (arith, c .before-of .ensures, before-small (now (a .ends)) (a .phases) (c .before .before .loop .b) (c .before .before .before .pre .4))
+    let d = c .before .before .before in
+    let a = d .args in
+    omega (arith, c .before-of .ensures, before-small (now (a .ends)) (a .phases) (c .before .before .loop .b) (d .pre .4))
 
 loop-again : tie.Need-loop-again Inv-loop μ-loop
 loop-again c =
-    let a = c .before .before .before .args in
+    let d = c .before .before .before in
+    let a = d .args in
     let l = c .before .before .loop in
-    let small = before-small (now (a .ends)) (a .phases) (l .b) (c .before .before .before .pre .4) in
-    (total-next (l .b) (beforeBy (now (a .ends)) (a .phases)) (l .sum) (c .before-of .result) (l .inv .0) (c .before-of .ensures), omega (arith, c .before-of .ensures, small), omega arith)
+    let small = before-small (now (a .ends)) (a .phases) (l .b) (d .pre .4) in (
+      total-next (l .b) (beforeBy (now (a .ends)) (a .phases)) (l .sum) (c .before-of .result) (l .inv .0) (c .before-of .ensures),
+      omega (arith, c .before-of .ensures, small),
+      omega arith,
+    )
 
 returns : tie.Need-returns Inv-loop μ-loop
 returns c =
@@ -40,5 +45,5 @@ returns c =
 pub listed-spec : {M : Type 1} → statement M
 listed-spec =
     tie.close (tie.spec
-      Inv-loop μ-loop loop-holds (λ c κs. search needs) add-sum (λ c. omega arith) (λ c. omega arith) loop-again
-      returns)
+    Inv-loop μ-loop loop-holds (λ c κs. search needs) add-sum (λ c. omega arith) (λ c. omega arith) loop-again
+    returns)

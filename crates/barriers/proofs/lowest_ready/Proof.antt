@@ -8,7 +8,8 @@ returns : tie.Need-returns
 returns c =
     let a = c .before .before .args in
     let m = c .before .last-open in
-    ready-found (a .processors) (now (a .ends)) (now (a .counts)) (a .phases) (m .result) (m .ensures .0) (c .lowest-left .result) (c .lowest-left .ensures)
+    ready-found (a .processors) (now (a .ends)) (now (a .counts)) (a .phases) (m .result) (m .ensures .0) (c .lowest-left .result)
+    (c .lowest-left .ensures)
 
 pub lowest-ready-spec : {M : Type 1} → statement M
 lowest-ready-spec = tie.close (tie.spec (λ c κs. search needs) (λ c. search needs) (λ c κs. search needs) returns)

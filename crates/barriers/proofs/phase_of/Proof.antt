@@ -21,14 +21,18 @@ returns : tie.Need-returns Inv-loop μ-loop
 returns c =
     let a = c .before .before .before .before .args in
     let l = c .before .before .before .loop in
-    let here = come-here (now (a .ends)) (a .b) (a .done) (l .n) (c .before .before .loop-test .taken) (omega (arith, c .before .before-of .ensures, c .if1 .taken)) in
+    let here =
+    come-here (now (a .ends)) (a .b) (a .done) (l .n) (c .before .before .loop-test .taken)
+    (omega (arith, c .before .before-of .ensures, c .if1 .taken)) in
     (sym (l .inv .0 ∙ here), l .inv .1)
 
 loop-again : tie.Need-loop-again Inv-loop μ-loop
 loop-again c =
     let a = c .before .before .before .before .args in
     let l = c .before .before .before .loop in
-    let down = come-down (now (a .ends)) (a .b) (a .done) (l .n) (c .before .before .loop-test .taken) (omega (arith, c .before .before-of .ensures, c .if1 .left)) in
+    let down =
+    come-down (now (a .ends)) (a .b) (a .done) (l .n) (c .before .before .loop-test .taken)
+    (omega (arith, c .before .before-of .ensures, c .if1 .left)) in
     (l .inv .0 ∙ down, omega arith)
 
 returns-2 : tie.Need-returns-2 Inv-loop μ-loop
@@ -41,5 +45,5 @@ returns-2 c =
 pub phase-of-spec : {M : Type 1} → statement M
 phase-of-spec =
     tie.close (tie.spec
-      Inv-loop μ-loop (λ c. omega arith) loop-holds (λ c κs. search needs) returns (λ c. omega arith)
-      (λ c. omega arith) loop-again returns-2)
+    Inv-loop μ-loop (λ c. omega arith) loop-holds (λ c κs. search needs) returns (λ c. omega arith)
+    (λ c. omega arith) loop-again returns-2)

@@ -10,5 +10,5 @@ returns c = rw (c .before .start-of .ensures .0, c .start-of2 .ensures .0, add-o
 pub block-of-spec : {M : Type 1} → statement M
 block-of-spec =
     tie.close (tie.spec
-      (λ c κs. search needs) (λ c. search needs) (λ c. search needs) (λ c κs. search needs) (λ c. search needs)
-      returns)
+    (λ c κs. search needs) (λ c. search needs) (λ c. search needs) (λ c κs. search needs) (λ c. search needs)
+    returns)

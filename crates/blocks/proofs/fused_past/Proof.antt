@@ -14,4 +14,4 @@ returns-2 c = simp (ne-eqb _ _ (c .before .before .if1 .left)) (omega arith)
 pub fused-past-spec : {M : Type 1} → statement M
 fused-past-spec =
     tie.close (tie.spec
-      (λ c. search needs) (λ c κs. search needs) (λ c κs. search needs) returns returns-2)
+    (λ c. search needs) (λ c κs. search needs) (λ c κs. search needs) returns returns-2)

@@ -11,4 +11,4 @@ returns-2 c = rw (c .before .enum-told2 .given .1) (c .peeled-part .ensures)
 pub part-of-spec : {M : Type 1} → statement M
 part-of-spec =
     tie.close (tie.spec
-      (λ c. search needs) (λ c κs. search needs) (λ c. search needs) (λ c κs. search needs) returns returns-2)
+    (λ c. search needs) (λ c κs. search needs) (λ c. search needs) (λ c κs. search needs) returns returns-2)

@@ -18,5 +18,5 @@ returns-2 c =
 pub peeled-part-spec : {M : Type 1} → statement M
 peeled-part-spec =
     tie.close (tie.spec
-      (λ c. search needs) (λ c κs. search needs) (λ c κs. search needs) (λ c. search needs) (λ c κs. search needs)
-      returns returns-2)
+    (λ c. search needs) (λ c κs. search needs) (λ c κs. search needs) (λ c. search needs) (λ c κs. search needs)
+    returns returns-2)

@@ -26,4 +26,4 @@ returns c =
 pub start-of-spec : {M : Type 1} → statement M
 start-of-spec =
     tie.close (tie.spec
-      (λ c. search needs) mul-result (λ c. search needs) (λ c κs. search needs) add-result returns)
+    (λ c. search needs) mul-result (λ c. search needs) (λ c κs. search needs) add-result returns)

@@ -19,4 +19,4 @@ returns-2 c = sym (List·getD-eq-default lengths 0 (c .if1 .left))
 pub body-length-spec : {M : Type 1} → statement M
 body-length-spec =
     tie.close (tie.spec
-      (λ c κs. search needs) (λ c. search needs) (λ c. search needs) returns returns-2)
+    (λ c κs. search needs) (λ c. search needs) (λ c. search needs) returns returns-2)

@@ -23,14 +23,16 @@ returns c = simp (← (c .before .before .wide .ensures .0), ← (c .before .wid
 
 returns-2 : tie.Need-returns-2
 unfolding edge
-returns-2 c = simp (le-ltb _ _ (first-in (c .before .before .before .before .before .before .wide .ensures .0) (c .before .before .before .before .before .wide2 .ensures .0) (c .before .before .before .before .if1 .left)), le-leb _ _ (past-in (c .before .before .before .wide3 .ensures .0) (c .before .before .wide4 .ensures .0) (c .before .wide5 .ensures .0) (c .if2 .taken)))
+returns-2 c =
+    simp (le-ltb _ _ (first-in (c .before .before .before .before .before .before .wide .ensures .0) (c .before .before .before .before .before .wide2 .ensures .0) (c .before .before .before .before .if1 .left)), le-leb _ _ (past-in (c .before .before .before .wide3 .ensures .0) (c .before .before .wide4 .ensures .0) (c .before .wide5 .ensures .0) (c .if2 .taken)))
 
 returns-3 : tie.Need-returns-3
 unfolding edge
-returns-3 c = simp (le-ltb _ _ (first-in (c .before .before .before .before .before .before .wide .ensures .0) (c .before .before .before .before .before .wide2 .ensures .0) (c .before .before .before .before .if1 .left)), lt-leb _ _ (past-out (c .before .before .before .wide3 .ensures .0) (c .before .before .wide4 .ensures .0) (c .before .wide5 .ensures .0) (c .if2 .left)))
+returns-3 c =
+    simp (le-ltb _ _ (first-in (c .before .before .before .before .before .before .wide .ensures .0) (c .before .before .before .before .before .wide2 .ensures .0) (c .before .before .before .before .if1 .left)), lt-leb _ _ (past-out (c .before .before .before .wide3 .ensures .0) (c .before .before .wide4 .ensures .0) (c .before .wide5 .ensures .0) (c .if2 .left)))
 
 pub edge-ground-spec : {M : Type 1} → statement M
 edge-ground-spec =
     tie.close (tie.spec
-      (λ c κs. search needs) (λ c κs. search needs) (λ c. search needs) returns (λ c κs. search needs)
-      (λ c. search needs) (λ c κs. search needs) (λ c κs. search needs) (λ c. search needs) returns-2 returns-3)
+    (λ c κs. search needs) (λ c κs. search needs) (λ c. search needs) returns (λ c κs. search needs)
+    (λ c. search needs) (λ c κs. search needs) (λ c κs. search needs) (λ c. search needs) returns-2 returns-3)

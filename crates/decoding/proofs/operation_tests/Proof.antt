@@ -14,11 +14,13 @@ returns-2 c = simp (ne-eqb _ _ (c .before .if1 .left), lt-ltb _ _ (c .if2 .taken
 
 returns-3 : tie.Need-returns-3
 unfolding fields
-returns-3 c = simp (ne-eqb _ _ (c .before .before .before .before .if1 .left), le-ltb _ _ (c .before .before .before .if2 .left), ← (c .before .before .operands-of .ensures), lt-ltb _ _ (c .if3 .taken))
+returns-3 c =
+    simp (ne-eqb _ _ (c .before .before .before .before .if1 .left), le-ltb _ _ (c .before .before .before .if2 .left), ← (c .before .before .operands-of .ensures), lt-ltb _ _ (c .if3 .taken))
 
 returns-4 : tie.Need-returns-4
 unfolding fields
-returns-4 c = simp (ne-eqb _ _ (c .before .before .before .before .if1 .left), le-ltb _ _ (c .before .before .before .if2 .left), ← (c .before .before .operands-of .ensures), le-ltb _ _ (c .if3 .left))
+returns-4 c =
+    simp (ne-eqb _ _ (c .before .before .before .before .if1 .left), le-ltb _ _ (c .before .before .before .if2 .left), ← (c .before .before .operands-of .ensures), le-ltb _ _ (c .if3 .left))
 
 pub operation-tests-spec : {M : Type 1} → statement M
 operation-tests-spec = tie.close (tie.spec returns returns-2 (λ c κs. search needs) returns-3 returns-4)

@@ -14,14 +14,17 @@ returns-2 c = simp (lt-leb _ _ (c .before .if1 .left), lt-ltb _ _ (c .if2 .taken
 
 returns-3 : tie.Need-returns-3
 unfolding fields
-returns-3 c = simp (lt-leb _ _ (c .before .before .before .if1 .left), le-ltb _ _ (c .before .before .if2 .left), le-leb _ _ (c .if3 .taken))
+returns-3 c =
+    simp (lt-leb _ _ (c .before .before .before .if1 .left), le-ltb _ _ (c .before .before .if2 .left), le-leb _ _ (c .if3 .taken))
 
 returns-4 : tie.Need-returns-4
 unfolding fields
-returns-4 c = simp (lt-leb _ _ (c .before .before .before .before .before .before .if1 .left), le-ltb _ _ (c .before .before .before .before .before .if2 .left), lt-leb _ _ (c .before .before .before .if3 .left), ← (c .before .before .wide .ensures .0)) (c .edge-ground .ensures)
+returns-4 c =
+    simp (lt-leb _ _ (c .before .before .before .before .before .before .if1 .left), le-ltb _ _ (c .before .before .before .before .before .if2 .left), lt-leb _ _ (c .before .before .before .if3 .left), ← (c .before .before .wide .ensures .0))
+    (c .edge-ground .ensures)
 
 pub read-tests-spec : {M : Type 1} → statement M
 read-tests-spec =
     tie.close (tie.spec
-      returns returns-2 returns-3 (λ c κs. search needs) (λ c. search needs) (λ c. search needs)
-      (λ c κs. search needs) returns-4)
+    returns returns-2 returns-3 (λ c κs. search needs) (λ c. search needs) (λ c. search needs)
+    (λ c κs. search needs) returns-4)

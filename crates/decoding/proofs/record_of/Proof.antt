@@ -76,8 +76,8 @@ returns-7 c = rw (c .enum-told7 .given .1)
 pub record-of-spec : {M : Type 1} → statement M
 record-of-spec =
     tie.close (tie.spec
-      (λ c. search needs) (λ c. search needs) four-at-requires (λ c. search needs) four-at-requires-2 add-four-at
-      four-at-requires-3 add-one-at one-at-requires add-offset-at offset-at-requires (λ c. search needs)
-      one-at-requires-2 add-offset-at-2 offset-at-requires-2 (λ c. search needs) four-at-requires-4
-      (λ c. search needs) one-at-requires-3 (λ c. search needs) returns returns-2 returns-3 returns-4 returns-5
-      returns-6 returns-7)
+    (λ c. search needs) (λ c. search needs) four-at-requires (λ c. search needs) four-at-requires-2 add-four-at
+    four-at-requires-3 add-one-at one-at-requires add-offset-at offset-at-requires (λ c. search needs)
+    one-at-requires-2 add-offset-at-2 offset-at-requires-2 (λ c. search needs) four-at-requires-4
+    (λ c. search needs) one-at-requires-3 (λ c. search needs) returns returns-2 returns-3 returns-4 returns-5
+    returns-6 returns-7)

@@ -9,10 +9,13 @@ use Rattle.entries.proofs.blocks.Tie as tie
 
 returns : tie.Need-returns
 unfolding blocksGiven
-returns c = let a = c .before .before .before .before .before .before .before .args in
+returns c =
+    let a = c .before .before .before .before .before .before .before .args in
     let s = now (a .s) in
     let p = planned s (settings (a .processors)) in
-    rw (c .refusal .ensures) (entry-refused s p (λ q. blocksOf (q .plan)) (now (a .out)) _ _ _ (c .before .before .before .plan-table .ensures .tells) (c .before .if1 .taken))
+    rw (c .refusal .ensures)
+    (entry-refused s p (λ q. blocksOf (q .plan)) (now (a .out)) _ _ _ (c .before .before .before .plan-table .ensures .tells)
+    (c .before .if1 .taken))
 
 give-blocks-requires : tie.Need-give-blocks-requires
 give-blocks-requires c κs = let a = c .before .before .before .before .before .before .before .args in
@@ -21,12 +24,14 @@ give-blocks-requires c κs = let a = c .before .before .before .before .before .
 
 returns-2 : tie.Need-returns-2
 unfolding blocksGiven
-returns-2 c = let a = c .before .before .before .before .before .before .before .before .before .before .args in
+returns-2 c =
+    let a = c .before .before .before .before .before .before .before .before .before .before .args in
     let s = now (a .s) in
     let m = c .before .before .before .before .before .before .plan-table .ensures .made (c .before .before .before .before .if1 .left) in
-    entry-given s (planned s (settings (a .processors))) (λ q. blocksOf (q .plan)) (now (a .out)) (m .is) (c .before .before .give-blocks .ensures)
+    entry-given s (planned s (settings (a .processors))) (λ q. blocksOf (q .plan)) (now (a .out)) (m .is)
+    (c .before .before .give-blocks .ensures)
 
 pub blocks-spec : {M : Type 1} → statement M
 blocks-spec =
     tie.close (tie.spec
-      (λ c κs. search needs) (λ c κs. search needs) returns give-blocks-requires (λ c. search needs) returns-2)
+    (λ c κs. search needs) (λ c κs. search needs) returns give-blocks-requires (λ c. search needs) returns-2)

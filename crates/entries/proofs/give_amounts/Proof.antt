@@ -18,19 +18,23 @@ returns c = let a = c .before .before .before .before .args in
     rw (c .refusal .ensures) (numbers-short (amountsOf (tableIn st)) (now (a .out)) _ size (c .before .if1 .taken))
 
 write-amounts-requires : tie.Need-write-amounts-requires
-write-amounts-requires c κs = omega (arith, c .before .before .before .loops-in .ensures, few-loops (c .before .before .before .before .before .pre))
+write-amounts-requires c κs =
+    omega (arith, c .before .before .before .loops-in .ensures, few-loops (c .before .before .before .before .before .pre))
 
 returns-2 : tie.Need-returns-2
-returns-2 c = let a = c .before .before .before .before .before .before .before .before .before .args in
+returns-2 c =
+    let b = c .before .before .before .before .before .before .before .before .before in
+    let a = b .args in
     let st = now (a .store) in
     let e = c .before .before .before .before .before .before .before .loops-in .ensures in
     let m = c .before .before .before .before .before .amounts-of .ensures in
-    let size = amounts-size st (c .before .before .before .before .before .before .before .before .before .pre) _ e in
-    let p = rw (amounts-are st _ _ (c .before .before .before .before .before .before .before .before .before .pre) (m .0) (m .1) _ e) at (c .before .before .before .write-amounts .ensures) in
-    rw (c .written .ensures) (numbers-put (amountsOf (tableIn st)) (now (a .out)) _ size (c .before .before .before .before .before .before .if1 .left) p)
+    let size = amounts-size st (b .pre) _ e in
+    let p = rw (amounts-are st _ _ (b .pre) (m .0) (m .1) _ e) at (c .before .before .before .write-amounts .ensures) in
+    rw (c .written .ensures)
+    (numbers-put (amountsOf (tableIn st)) (now (a .out)) _ size (c .before .before .before .before .before .before .if1 .left) p)
 
 pub give-amounts-spec : {M : Type 1} → statement M
 give-amounts-spec =
     tie.close (tie.spec
-      (λ c κs. search needs) mul-if1 (λ c κs. search needs) returns (λ c κs. search needs) write-amounts-requires
-      (λ c κs. search needs) (λ c. search needs) returns-2)
+    (λ c κs. search needs) mul-if1 (λ c κs. search needs) returns (λ c κs. search needs) write-amounts-requires
+    (λ c κs. search needs) (λ c. search needs) returns-2)

@@ -13,13 +13,16 @@ returns c = let a = c .before .before .before .before .args in
     rw (c .refusal .ensures) (numbers-short xs (now (a .out)) _ (blocks-size (a .a)) (rw e at (c .before .if1 .taken)))
 
 returns-2 : tie.Need-returns-2
-returns-2 c = let a = c .before .before .before .before .before .before .before .before .args in
+returns-2 c =
+    let a = c .before .before .before .before .before .before .before .before .args in
     let e = c .before .before .before .before .before .before .wide .ensures .0 in
     let xs = blocksOf (fusionIn (a .a)) in
-    rw (c .written .ensures) (numbers-put xs (now (a .out)) _ (blocks-size (a .a)) (rw e at (c .before .before .before .before .before .if1 .left)) (c .before .before .before .write-blocks .ensures))
+    rw (c .written .ensures)
+    (numbers-put xs (now (a .out)) _ (blocks-size (a .a)) (rw e at (c .before .before .before .before .before .if1 .left))
+    (c .before .before .before .write-blocks .ensures))
 
 pub give-blocks-spec : {M : Type 1} → statement M
 give-blocks-spec =
     tie.close (tie.spec
-      (λ c κs. search needs) (λ c. search needs) (λ c κs. search needs) returns (λ c κs. search needs)
-      (λ c κs. search needs) (λ c. search needs) returns-2)
+    (λ c κs. search needs) (λ c. search needs) (λ c κs. search needs) returns (λ c κs. search needs)
+    (λ c κs. search needs) (λ c. search needs) returns-2)

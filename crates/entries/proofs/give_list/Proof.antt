@@ -26,17 +26,21 @@ write-list-requires c κs = let a = c .before .before .before .before .before .b
     (omega (arith, n, few-loops (p .0 .held)), rw n (list-fits (a .a) st (p .0) (a .phase) (a .b) (p .1) _ _ e (q .0)))
 
 returns-2 : tie.Need-returns-2
-returns-2 c = let a = c .before .before .before .before .before .before .before .before .before .before .before .before .args in
+returns-2 c =
+    let d = c .before .before .before .before .before .before .before .before .before .before .before .before in
+    let a = d .args in
     let st = now (a .store) in
     let q = c .before .before .before .before .before .before .before .before .before .put-list .ensures in
     let l = work (tableIn st) (fusionIn (a .a)) (a .phase) (a .b) in
     let size = list-size _ l (q .0 .0) in
-    let e = list-in (a .a) st (c .before .before .before .before .before .before .before .before .before .before .before .before .pre .0) (a .phase) (a .b) _ 0 (q .1 .0) in
-    let w = rw e at (rw (c .before .before .before .before .before .loops-in .ensures) at (c .before .before .before .write-list .ensures)) in
-    rw (c .written .ensures) (numbers-put (pairsOf l) (now (a .out)) _ size (c .before .before .before .before .before .before .before .if1 .left) w)
+    let e = list-in (a .a) st (d .pre .0) (a .phase) (a .b) _ 0 (q .1 .0) in
+    let w =
+    rw e at (rw (c .before .before .before .before .before .loops-in .ensures) at (c .before .before .before .write-list .ensures)) in
+    rw (c .written .ensures)
+    (numbers-put (pairsOf l) (now (a .out)) _ size (c .before .before .before .before .before .before .before .if1 .left) w)
 
 pub give-list-spec : {M : Type 1} → statement M
 give-list-spec =
     tie.close (tie.spec
-      (λ c. search needs) (λ c κs. search needs) (λ c. search needs) (λ c κs. search needs) returns
-      (λ c κs. search needs) write-list-requires (λ c κs. search needs) (λ c. search needs) returns-2)
+    (λ c. search needs) (λ c κs. search needs) (λ c. search needs) (λ c κs. search needs) returns
+    (λ c κs. search needs) write-list-requires (λ c κs. search needs) (λ c. search needs) returns-2)

@@ -10,20 +10,25 @@ use Rattle.entries.proofs.give_sweeps.Statement.{statement}
 use Rattle.entries.proofs.give_sweeps.Tie as tie
 
 returns : tie.Need-returns
-returns c = let a = c .before .before .before .args in
+returns c =
+    let a = c .before .before .before .args in
     let t = tableIn (now (a .store)) in
-    rw (c .refusal .ensures) (numbers-short (before t ∷ after t ∷ []) (now (a .out)) _ (two-size (before t) (after t)) (c .before .if1 .taken))
+    rw (c .refusal .ensures)
+    (numbers-short (before t ∷ after t ∷ []) (now (a .out)) _ (two-size (before t) (after t)) (c .before .if1 .taken))
 
 returns-2 : tie.Need-returns-2
 unfolding sweeps
-returns-2 c = let a = c .before .before .before .before .before .before .before .before .args in
+returns-2 c =
+    let a = c .before .before .before .before .before .before .before .before .args in
     let t = tableIn (now (a .store)) in
     let e = c .before .before .before .before .before .sweeps-of .ensures in
     let p = two-put (ap (λ (w : Sweeps). w .before) e) (ap (λ (w : Sweeps). w .after) e) (c .before .before .before .put-pair .ensures) in
-    rw (c .written .ensures) (numbers-put (before t ∷ after t ∷ []) (now (a .out)) _ (two-size (before t) (after t)) (c .before .before .before .before .before .before .if1 .left) p)
+    rw (c .written .ensures)
+    (numbers-put (before t ∷ after t ∷ []) (now (a .out)) _ (two-size (before t) (after t))
+    (c .before .before .before .before .before .before .if1 .left) p)
 
 pub give-sweeps-spec : {M : Type 1} → statement M
 give-sweeps-spec =
     tie.close (tie.spec
-      (λ c κs. search needs) returns (λ c κs. search needs) (λ c κs. search needs) (λ c κs. search needs)
-      (λ c. search needs) returns-2)
+    (λ c κs. search needs) returns (λ c κs. search needs) (λ c κs. search needs) (λ c κs. search needs)
+    (λ c. search needs) returns-2)

@@ -33,5 +33,5 @@ returns-2 c = let a = c .before .before .before .before .before .before .before 
 pub give-threshold-spec : {M : Type 1} → statement M
 give-threshold-spec =
     tie.close (tie.spec
-      (λ c κs. search needs) returns (λ c κs. search needs) (λ c κs. search needs) narrow-requires
-      (λ c κs. search needs) (λ c κs. search needs) (λ c. search needs) returns-2)
+    (λ c κs. search needs) returns (λ c κs. search needs) (λ c κs. search needs) narrow-requires
+    (λ c κs. search needs) (λ c κs. search needs) (λ c. search needs) returns-2)

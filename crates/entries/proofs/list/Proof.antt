@@ -21,13 +21,16 @@ give-list-requires c κs = let a = c .before .before .before .before .before .be
 
 returns-2 : tie.Need-returns-2
 unfolding listGiven
-returns-2 c = let a = c .before .before .before .before .before .before .before .before .before .before .before .args in
+returns-2 c =
+    let a = c .before .before .before .before .before .before .before .before .before .before .before .args in
     let s = now (a .s) in
     let p = plannedFor s (settings (a .processors)) (a .b) in
-    let m = c .before .before .before .before .before .before .before .plan-for .ensures .made (c .before .before .before .before .before .if1 .left) in
+    let m =
+    c .before .before .before .before .before .before .before .plan-for .ensures .made
+    (c .before .before .before .before .before .if1 .left) in
     entry-given s p (listedOf (a .phase) (a .b)) (now (a .out)) (m .is) (c .before .before .give-list .ensures)
 
 pub list-spec : {M : Type 1} → statement M
 list-spec =
     tie.close (tie.spec
-      (λ c κs. search needs) (λ c κs. search needs) returns give-list-requires (λ c. search needs) returns-2)
+    (λ c κs. search needs) (λ c κs. search needs) returns give-list-requires (λ c. search needs) returns-2)

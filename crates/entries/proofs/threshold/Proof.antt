@@ -11,9 +11,12 @@ use Rattle.entries.proofs.threshold.Tie as tie
 
 returns : tie.Need-returns
 unfolding thresholds
-returns c = let a = c .before .before .before .before .before .before .before .args in
+returns c =
+    let a = c .before .before .before .before .before .before .before .args in
     let s = now (a .s) in
-    rw (c .refusal .ensures) (entry-refused s (table s) (λ t. thresholdOf t ∷ []) (now (a .out)) _ _ _ (c .before .before .before .read-through .ensures .told) (c .before .if1 .taken))
+    rw (c .refusal .ensures)
+    (entry-refused s (table s) (λ t. thresholdOf t ∷ []) (now (a .out)) _ _ _ (c .before .before .before .read-through .ensures .told)
+    (c .before .if1 .taken))
 
 give-threshold-requires : tie.Need-give-threshold-requires
 give-threshold-requires c κs = let h = c .before .before .before .before .read-through .ensures .held (c .before .before .if1 .left) in
@@ -22,12 +25,15 @@ give-threshold-requires c κs = let h = c .before .before .before .before .read-
 
 returns-2 : tie.Need-returns-2
 unfolding thresholds
-returns-2 c = let a = c .before .before .before .before .before .before .before .before .before .before .before .args in
+returns-2 c =
+    let a = c .before .before .before .before .before .before .before .before .before .before .before .args in
     let s = now (a .s) in
-    let h = c .before .before .before .before .before .before .before .read-through .ensures .held (c .before .before .before .before .before .if1 .left) in
+    let h =
+    c .before .before .before .before .before .before .before .read-through .ensures .held
+    (c .before .before .before .before .before .if1 .left) in
     entry-given s (table s) (λ t. thresholdOf t ∷ []) (now (a .out)) (h .0) (c .before .before .give-threshold .ensures)
 
 pub threshold-spec : {M : Type 1} → statement M
 threshold-spec =
     tie.close (tie.spec
-      (λ c κs. search needs) (λ c κs. search needs) returns give-threshold-requires (λ c. search needs) returns-2)
+    (λ c κs. search needs) (λ c κs. search needs) returns give-threshold-requires (λ c. search needs) returns-2)

@@ -28,10 +28,12 @@ element-copy-out-put-pair-2 : tie.Need-element-copy-out-put-pair-2 Inv-loop μ-l
 element-copy-out-put-pair-2 c = omega (arith, c .before .before .before .before .before .pre, c .before .before .loop-test .taken)
 
 put-pair-requires : tie.Need-put-pair-requires Inv-loop μ-loop
-put-pair-requires c κs = omega (arith, rowed-at (c .before .before .before .before .loop .inv), c .before .before .before .before .before .before .pre, c .before .before .before .loop-test .taken)
+put-pair-requires c κs =
+    omega (arith, rowed-at (c .before .before .before .before .loop .inv), c .before .before .before .before .before .before .pre, c .before .before .before .loop-test .taken)
 
 add-k : tie.Need-add-k Inv-loop μ-loop
-add-k c = omega (arith, c .before .before .before .before .before .before .before .before .before .pre, c .before .before .before .before .before .before .loop-test .taken)
+add-k c =
+    omega (arith, c .before .before .before .before .before .before .before .before .before .pre, c .before .before .before .before .before .before .loop-test .taken)
 
 loop-less : tie.Need-loop-less Inv-loop μ-loop
 loop-less c = omega (arith, c .before .before .before .before .before .before .loop-test .taken)
@@ -49,5 +51,5 @@ returns c = rowed-end (c .before .loop .inv) (c .loop-test .left)
 pub write-amounts-spec : {M : Type 1} → statement M
 write-amounts-spec =
     tie.close (tie.spec
-      Inv-loop μ-loop loop-holds mul-put-pair element-copy-out-put-pair mul-put-pair-2 element-copy-out-put-pair-2
-      put-pair-requires add-k loop-less loop-again same-length returns)
+    Inv-loop μ-loop loop-holds mul-put-pair element-copy-out-put-pair mul-put-pair-2 element-copy-out-put-pair-2
+    put-pair-requires add-k loop-less loop-again same-length returns)

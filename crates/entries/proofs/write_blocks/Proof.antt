@@ -21,13 +21,16 @@ put-block-requires c κs = let p = c .before .before .before .before .before .pr
     (omega (arith, rowed-at (c .before .before .before .loop .inv), p .0), l, p .1)
 
 add-b : tie.Need-add-b Inv-loop μ-loop
-add-b c = omega (arith, c .before .before .before .before .before .before .before .before .pre .0, c .before .before .before .before .if1 .taken)
+add-b c =
+    omega (arith, c .before .before .before .before .before .before .before .before .pre .0, c .before .before .before .before .if1 .taken)
 
 loop-less : tie.Need-loop-less Inv-loop μ-loop
 loop-less c = omega (arith, c .before .before .before .before .if1 .taken)
 
 loop-again : tie.Need-loop-again Inv-loop μ-loop
-loop-again c = rowed-next (c .before .before .before .before .before .before .loop .inv) (c .before .before .before .before .if1 .taken) (c .before .before .put-block .ensures)
+loop-again c =
+    rowed-next (c .before .before .before .before .before .before .loop .inv) (c .before .before .before .before .if1 .taken)
+    (c .before .before .put-block .ensures)
 
 same-length : tie.Need-same-length Inv-loop μ-loop
 same-length c = put-length (c .before .before .loop .inv .put)
@@ -38,4 +41,4 @@ returns c = rowed-end (c .before .before .loop .inv) (c .if1 .left)
 pub write-blocks-spec : {M : Type 1} → statement M
 write-blocks-spec =
     tie.close (tie.spec
-      Inv-loop μ-loop loop-holds put-block-requires add-b loop-less loop-again same-length returns)
+    Inv-loop μ-loop loop-holds put-block-requires add-b loop-less loop-again same-length returns)

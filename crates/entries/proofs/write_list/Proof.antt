@@ -30,7 +30,8 @@ put-iteration-requires c κs = let p = c .before .before .before .before .before
     (omega (arith, rowed-at (c .before .before .before .before .loop .inv), p .few), rw e (p .loop n l), rw e (p .index n l))
 
 add-n : tie.Need-add-n Inv-loop μ-loop
-add-n c = omega (arith, c .before .before .before .before .before .before .before .before .before .pre .1 .few, c .before .before .before .before .before .before .loop-test .taken)
+add-n c =
+    omega (arith, c .before .before .before .before .before .before .before .before .before .pre .1 .few, c .before .before .before .before .before .before .loop-test .taken)
 
 loop-less : tie.Need-loop-less Inv-loop μ-loop
 loop-less c = omega (arith, c .before .before .before .before .before .before .loop-test .taken)
@@ -44,11 +45,14 @@ same-length : tie.Need-same-length Inv-loop μ-loop
 same-length c = put-length (c .before .loop .inv .put)
 
 returns : tie.Need-returns Inv-loop μ-loop
-returns c = let a = c .before .before .before .args in
-    list-put (a .size) (listOf (now (a .lists)) 0 (a .loops) (a .phase)) (c .before .before .before .pre .1 .sized) (rowed-end (c .before .loop .inv) (c .loop-test .left))
+returns c =
+    let b = c .before .before .before in
+    let a = b .args in
+    list-put (a .size) (listOf (now (a .lists)) 0 (a .loops) (a .phase)) (b .pre .1 .sized)
+    (rowed-end (c .before .loop .inv) (c .loop-test .left))
 
 pub write-list-spec : {M : Type 1} → statement M
 write-list-spec =
     tie.close (tie.spec
-      Inv-loop μ-loop loop-holds nth-of-requires put-iteration-requires add-n loop-less loop-again same-length
-      returns)
+    Inv-loop μ-loop loop-holds nth-of-requires put-iteration-requires add-n loop-less loop-again same-length
+    returns)

@@ -7,7 +7,9 @@ use Rattle.iterations.proofs.array_length.Statement.{statement}
 use Rattle.iterations.proofs.array_length.Tie as tie
 
 returns : tie.Need-returns
-returns c = sym (getD-take (c .before .before .args .arrays) (now (c .before .before .args .store)) (c .before .before .args .k) 0 (c .before .if1 .taken))
+returns c =
+    let b = c .before .before in
+    sym (getD-take (b .args .arrays) (now (b .args .store)) (b .args .k) 0 (c .before .if1 .taken))
 
 returns-2 : tie.Need-returns-2
 returns-2 c = untaken (c .before .args .arrays) (now (c .before .args .store)) (c .before .args .k) (c .if1 .left)

@@ -22,7 +22,9 @@ add-next c =
     let b = c .before .before .before in
     let l = c .before .before .loop in
     let e = rw (b .arrays-in .ensures) at (c .array-length .ensures) in
-    let most = filled-most (tableIn (now (b .before .args .store)) .lengths) (l .firsts) (l .next) (l .k) (l .inv) (c .before .loop-test .taken) (c .array-length .result) e in
+    let most =
+    filled-most (tableIn (now (b .before .args .store)) .lengths) (l .firsts) (l .next) (l .k) (l .inv) (c .before .loop-test .taken)
+    (c .array-length .result) e in
     omega (arith, most, b .before .pre)
 
 array-write-firsts : tie.Need-array-write-firsts Inv-loop μ-loop
@@ -33,7 +35,8 @@ loop-again c =
     let b = c .before .before .before in
     let l = c .before .before .loop in
     let e = rw (b .arrays-in .ensures) at (c .array-length .ensures) in
-    filled-next (tableIn (now (b .before .args .store)) .lengths) (l .firsts) (l .next) (l .k) (l .inv) (c .before .loop-test .taken) (c .array-length .result) e
+    filled-next (tableIn (now (b .before .args .store)) .lengths) (l .firsts) (l .next) (l .k) (l .inv) (c .before .loop-test .taken)
+    (c .array-length .result) e
 
 returns : tie.Need-returns Inv-loop μ-loop
 returns c =
@@ -43,5 +46,5 @@ returns c =
 pub bases-of-spec : {M : Type 1} → statement M
 bases-of-spec =
     tie.close (tie.spec
-      Inv-loop μ-loop (λ c κs. search needs) loop-holds (λ c κs. search needs) add-next (λ c. search needs)
-      (λ c. search needs) array-write-firsts (λ c. search needs) (λ c. omega arith) loop-again returns)
+    Inv-loop μ-loop (λ c κs. search needs) loop-holds (λ c κs. search needs) add-next (λ c. search needs)
+    (λ c. search needs) array-write-firsts (λ c. search needs) (λ c. omega arith) loop-again returns)

@@ -50,11 +50,12 @@ returns c =
     let s = w .before .before in
     let a = s .before .before .before .args in
     let x = rw (s .start-at2 .ensures, s .before .start-at .ensures) at (w .value-of .ensures) in
-    let y = rw (v .value-at .ensures, v .before .array-at .ensures, s .before .start-at .ensures) at (c .before .before .store-in .ensures) in
+    let y =
+    rw (v .value-at .ensures, v .before .array-at .ensures, s .before .start-at .ensures) at (c .before .before .store-in .ensures) in
     λ t l h. stored t (now (a .store)) (now (a .bases)) l (a .number) (a .index) h (now (a .memory)) _ (w .value-of .result) x y
 
 pub iterate-spec : {M : Type 1} → statement M
 iterate-spec =
     tie.close (tie.spec
-      (λ c κs. search needs) (λ c. search needs) (λ c κs. search needs) add-value-of value-of-requires
-      array-at-requires value-at-requires store-in-requires (λ c. search needs) returns)
+    (λ c κs. search needs) (λ c. search needs) (λ c κs. search needs) add-value-of value-of-requires
+    array-at-requires value-at-requires store-in-requires (λ c. search needs) returns)

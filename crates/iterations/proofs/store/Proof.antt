@@ -8,4 +8,4 @@ returns c = rw (c .canonical .ensures)
 pub store-spec : {M : Type 1} → statement M
 store-spec =
     tie.close (tie.spec
-      (λ c κs. search needs) (λ c. search needs) (λ c. search needs) (λ c. search needs) returns)
+    (λ c κs. search needs) (λ c. search needs) (λ c. search needs) (λ c. search needs) returns)

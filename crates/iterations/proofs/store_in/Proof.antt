@@ -11,11 +11,12 @@ returns c =
     let s = c .before .before in
     let b = s .before .before .before .before in
     let a = b .args in
-    rw (s .store .ensures) (part-stored (now (a .memory)) (getD (now (a .bases)) (a .array) 0) (a .i + a .offset - 255) (a .x) (b .pre .1 .2))
+    rw (s .store .ensures)
+    (part-stored (now (a .memory)) (getD (now (a .bases)) (a .array) 0) (a .i + a .offset - 255) (a .x) (b .pre .1 .2))
 
 pub store-in-spec : {M : Type 1} → statement M
 store-in-spec =
     tie.close (tie.spec
-      (λ c. search needs) (λ c. search needs) (λ c. search needs) (λ c. search needs) (λ c. search needs)
-      (λ c. search needs) (λ c. search needs) (λ c. search needs) (λ c. search needs) (λ c κs. search needs)
-      (λ c. search needs) returns)
+    (λ c. search needs) (λ c. search needs) (λ c. search needs) (λ c. search needs) (λ c. search needs)
+    (λ c. search needs) (λ c. search needs) (λ c. search needs) (λ c. search needs) (λ c κs. search needs)
+    (λ c. search needs) returns)

@@ -16,11 +16,12 @@ returns : tie.Need-returns
 returns c =
     let d = c .before .before .before in
     let a = d .before .before .before .before .before .args in
-    let h = refused-side (now (a .left)) (d .read-side .last .1 .0) (d .read-side .result) (d .read-side .ensures) _ (c .before .r .given .1) in
+    let h =
+    refused-side (now (a .left)) (d .read-side .last .1 .0) (d .read-side .result) (d .read-side .ensures) _ (c .before .r .given .1) in
     left-refused (now (a .left)) (now (a .right)) (now (a .out)) _ h
 
 pub join-spec : {M : Type 1} → statement M
 join-spec =
     tie.close (tie.spec
-      (λ c κs. search needs) (λ c. search needs) (λ c. search needs) join-right-requires returns (λ c. search needs)
-      (λ c. search needs))
+    (λ c κs. search needs) (λ c. search needs) (λ c. search needs) join-right-requires returns (λ c. search needs)
+    (λ c. search needs))

@@ -70,7 +70,9 @@ returns-3 : tie.Need-returns-3
 returns-3 c =
     let d = c .before .before .before in
     let b = d .before .before .before .before .before in
-    let h = refused-side (now (b .args .right)) (d .read-side .last .1 .0) (d .read-side .result) (d .read-side .ensures) _ (c .before .r .given .1) in
+    let h =
+    refused-side (now (b .args .right)) (d .read-side .last .1 .0) (d .read-side .result) (d .read-side .ensures) _
+    (c .before .r .given .1) in
     right-refused (now (b .args .left)) (now (b .args .right)) (now (b .args .out)) (now (b .args .ours)) (b .pre) _ h
 
 returns-4 : tie.Need-returns-4
@@ -93,6 +95,6 @@ returns-4 c =
 pub join-right-spec : {M : Type 1} → statement M
 join-right-spec =
     tie.close (tie.spec
-      (λ c κs. search needs) (λ c. search needs) (λ c. search needs) same-lengths-requires (λ c κs. search needs)
-      (λ c κs. search needs) add-total (λ c κs. search needs) returns (λ c κs. search needs) returns-2
-      (λ c κs. search needs) write-requires returns-3 (λ c. search needs) returns-4)
+    (λ c κs. search needs) (λ c. search needs) (λ c. search needs) same-lengths-requires (λ c κs. search needs)
+    (λ c κs. search needs) add-total (λ c κs. search needs) returns (λ c κs. search needs) returns-2
+    (λ c κs. search needs) write-requires returns-3 (λ c. search needs) returns-4)

@@ -17,17 +17,22 @@ returns c =
     let m = c .before in
     let n = m .before in
     let b = n .before in
-    unlike (now (b .args .ours)) (now (b .args .theirs)) (b .pre) (n .arrays-in .result) (m .arrays-in2 .result) (n .arrays-in .ensures) (m .arrays-in2 .ensures) (c .if1 .taken)
+    unlike (now (b .args .ours)) (now (b .args .theirs)) (b .pre) (n .arrays-in .result) (m .arrays-in2 .result) (n .arrays-in .ensures)
+    (m .arrays-in2 .ensures) (c .if1 .taken)
 
 loop-holds : tie.Need-loop-holds Inv-loop μ-loop
-loop-holds c = let b = c .before .before .before in start (now (b .args .ours)) (now (b .args .theirs)) (c .before .before .arrays-in .result)
+loop-holds c =
+    let b = c .before .before .before in
+    start (now (b .args .ours)) (now (b .args .theirs)) (c .before .before .arrays-in .result)
 
 mul-if2 : tie.Need-mul-if2 Inv-loop μ-loop
 mul-if2 c =
     let m = c .before .before .before in
     let n = m .before in
     let b = n .before in
-    let h = few (now (b .args .ours)) (now (b .args .theirs)) (b .pre) (n .arrays-in .result) (m .arrays-in2 .result) (n .arrays-in .ensures) (m .arrays-in2 .ensures) in
+    let h =
+    few (now (b .args .ours)) (now (b .args .theirs)) (b .pre) (n .arrays-in .result) (m .arrays-in2 .result) (n .arrays-in .ensures)
+    (m .arrays-in2 .ensures) in
     omega arith
 
 element-copy-out-if2 : tie.Need-element-copy-out-if2 Inv-loop μ-loop
@@ -35,7 +40,9 @@ element-copy-out-if2 c =
     let m = c .before .before .before in
     let n = m .before in
     let b = n .before in
-    let h = few (now (b .args .ours)) (now (b .args .theirs)) (b .pre) (n .arrays-in .result) (m .arrays-in2 .result) (n .arrays-in .ensures) (m .arrays-in2 .ensures) in
+    let h =
+    few (now (b .args .ours)) (now (b .args .theirs)) (b .pre) (n .arrays-in .result) (m .arrays-in2 .result) (n .arrays-in .ensures)
+    (m .arrays-in2 .ensures) in
     omega arith
 
 mul-if2-2 : tie.Need-mul-if2-2 Inv-loop μ-loop
@@ -43,7 +50,9 @@ mul-if2-2 c =
     let m = c .before .before .before .before in
     let n = m .before in
     let b = n .before in
-    let h = few (now (b .args .ours)) (now (b .args .theirs)) (b .pre) (n .arrays-in .result) (m .arrays-in2 .result) (n .arrays-in .ensures) (m .arrays-in2 .ensures) in
+    let h =
+    few (now (b .args .ours)) (now (b .args .theirs)) (b .pre) (n .arrays-in .result) (m .arrays-in2 .result) (n .arrays-in .ensures)
+    (m .arrays-in2 .ensures) in
     omega arith
 
 element-copy-out-if2-2 : tie.Need-element-copy-out-if2-2 Inv-loop μ-loop
@@ -51,7 +60,9 @@ element-copy-out-if2-2 c =
     let m = c .before .before .before .before in
     let n = m .before in
     let b = n .before in
-    let h = few (now (b .args .ours)) (now (b .args .theirs)) (b .pre) (n .arrays-in .result) (m .arrays-in2 .result) (n .arrays-in .ensures) (m .arrays-in2 .ensures) in
+    let h =
+    few (now (b .args .ours)) (now (b .args .theirs)) (b .pre) (n .arrays-in .result) (m .arrays-in2 .result) (n .arrays-in .ensures)
+    (m .arrays-in2 .ensures) in
     omega arith
 
 returns-2 : tie.Need-returns-2 Inv-loop μ-loop
@@ -62,8 +73,8 @@ returns-2 c =
     let m = s .before in
     let n = m .before in
     let b = n .before in
-    differ (now (b .args .ours)) (now (b .args .theirs)) (b .pre) (n .arrays-in .result) (m .arrays-in2 .result) (n .arrays-in .ensures) (m .arrays-in2 .ensures)
-    (s .if1 .left) (l .k) (l .inv) (t .loop-test .taken) (c .if2 .taken)
+    differ (now (b .args .ours)) (now (b .args .theirs)) (b .pre) (n .arrays-in .result) (m .arrays-in2 .result) (n .arrays-in .ensures)
+    (m .arrays-in2 .ensures) (s .if1 .left) (l .k) (l .inv) (t .loop-test .taken) (c .if2 .taken)
 
 loop-again : tie.Need-loop-again Inv-loop μ-loop
 loop-again c =
@@ -73,8 +84,8 @@ loop-again c =
     let m = s .before in
     let n = m .before in
     let b = n .before in
-    equal (now (b .args .ours)) (now (b .args .theirs)) (b .pre) (n .arrays-in .result) (m .arrays-in2 .result) (n .arrays-in .ensures) (m .arrays-in2 .ensures)
-    (s .if1 .left) (l .k) (l .inv) (t .loop-test .taken) (c .if2 .left)
+    equal (now (b .args .ours)) (now (b .args .theirs)) (b .pre) (n .arrays-in .result) (m .arrays-in2 .result) (n .arrays-in .ensures)
+    (m .arrays-in2 .ensures) (s .if1 .left) (l .k) (l .inv) (t .loop-test .taken) (c .if2 .left)
 
 returns-3 : tie.Need-returns-3 Inv-loop μ-loop
 returns-3 c =
@@ -83,11 +94,11 @@ returns-3 c =
     let m = s .before in
     let n = m .before in
     let b = n .before in
-    done (now (b .args .ours)) (now (b .args .theirs)) (b .pre) (n .arrays-in .result) (m .arrays-in2 .result) (n .arrays-in .ensures) (m .arrays-in2 .ensures)
-    (s .if1 .left) (l .k) (l .inv) (c .loop-test .left)
+    done (now (b .args .ours)) (now (b .args .theirs)) (b .pre) (n .arrays-in .result) (m .arrays-in2 .result) (n .arrays-in .ensures)
+    (m .arrays-in2 .ensures) (s .if1 .left) (l .k) (l .inv) (c .loop-test .left)
 
 pub same-lengths-spec : {M : Type 1} → statement M
 same-lengths-spec =
     tie.close (tie.spec
-      Inv-loop μ-loop (λ c κs. search needs) (λ c κs. search needs) returns loop-holds mul-if2 element-copy-out-if2
-      mul-if2-2 element-copy-out-if2-2 returns-2 (λ c. search needs) (λ c. omega arith) loop-again returns-3)
+    Inv-loop μ-loop (λ c κs. search needs) (λ c κs. search needs) returns loop-holds mul-if2 element-copy-out-if2
+    mul-if2-2 element-copy-out-if2-2 returns-2 (λ c. search needs) (λ c. omega arith) loop-again returns-3)

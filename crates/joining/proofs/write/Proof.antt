@@ -34,12 +34,13 @@ returns-2 c =
     let r = now (a .right) in
     let n = 5 * a .arrays in
     rw (c .written .ensures)
-    (wrote (now (a .left)) r (now (a .out)) (a .arrays) (b .pre .0) (one .copy .last .1 .0) (two .copy2 .last .1 .0) (take (length r - n) (drop n r))
-    (omega (arith, i .if1 .left)) (take-all (length r - n) (drop n r) (omega (arith, length-drop n r))) (one .copy .ensures) (two .copy2 .ensures))
+    (wrote (now (a .left)) r (now (a .out)) (a .arrays) (b .pre .0) (one .copy .last .1 .0) (two .copy2 .last .1 .0)
+    (take (length r - n) (drop n r)) (omega (arith, i .if1 .left)) (take-all (length r - n) (drop n r) (omega (arith, length-drop n r)))
+    (one .copy .ensures) (two .copy2 .ensures))
 
 pub write-spec : {M : Type 1} → statement M
 write-spec =
     tie.close (tie.spec
-      (λ c. search needs) (λ c. search needs) (λ c. search needs) (λ c. search needs) (λ c κs. search needs) returns
-      slice-aggregate-copy copy-requires (λ c. search needs) (λ c. search needs) (λ c. search needs)
-      (λ c κs. search needs) (λ c κs. search needs) (λ c. search needs) returns-2)
+    (λ c. search needs) (λ c. search needs) (λ c. search needs) (λ c. search needs) (λ c κs. search needs) returns
+    slice-aggregate-copy copy-requires (λ c. search needs) (λ c. search needs) (λ c. search needs)
+    (λ c κs. search needs) (λ c κs. search needs) (λ c. search needs) returns-2)

@@ -1,6 +1,6 @@
-use Prim.Native.Nat.{ℕ, _-_, _*_, _≤_, _<_}
+use Prim.Native.Nat.{ℕ, _-_, _*_, _≤_}
 use native.Mathlib.Omega.{arith}
-use mathlib.Core.Path.{_≡_, refl, ap}
+use mathlib.Core.Path.{refl, ap}
 use denote.Ref.{now}
 use Rattle.ranges.specs.Listed.{few-blocks}
 use Rattle.layouts.specs.Layout.{Standing}
@@ -27,10 +27,17 @@ mul-put-lists c = let a = c .before .before .before .before .before .before .arg
     omega (arith, few-blocks (a .a) st (p .0), c .wide .ensures .0, c .before .before .if1 .taken)
 
 put-lists-requires : tie.Need-put-lists-requires Inv-loop μ-loop
-put-lists-requires c κs = let a = c .before .before .before .before .before .before .args in
-    let p = c .before .before .before .before .before .before .pre in
-    let st = now (a .store) in
-    (p .0, c .before .before .if1 .taken, omega (arith, few-blocks (a .a) st (p .0), c .wide .ensures .0, c .before .before .if1 .taken, c .before .before .before .before .loop .inv .1 .long), omega (arith, few-blocks (a .a) st (p .0), c .wide .ensures .0, c .before .before .if1 .taken))
+put-lists-requires c κs =
+    let b = c .before .before in
+    let d = b .before .before .before .before in
+    let a = d .args in
+    let p = d .pre in
+    let st = now (a .store) in (
+      p .0,
+      b .if1 .taken,
+      omega (arith, few-blocks (a .a) st (p .0), c .wide .ensures .0, b .if1 .taken, b .before .before .loop .inv .1 .long),
+      omega (arith, few-blocks (a .a) st (p .0), c .wide .ensures .0, b .if1 .taken),
+    )
 
 add-b : tie.Need-add-b Inv-loop μ-loop
 add-b c = let a = c .before .before .before .before .before .before .before .before .before .args in
@@ -42,12 +49,17 @@ loop-less : tie.Need-loop-less Inv-loop μ-loop
 loop-less c = omega (arith, c .before .before .before .before .before .if1 .taken)
 
 loop-again : tie.Need-loop-again Inv-loop μ-loop
-loop-again c = let a = c .before .before .before .before .before .before .before .before .before .args in
-    let p = c .before .before .before .before .before .before .before .before .before .pre in
+loop-again c =
+    let d = c .before .before .before .before .before .before .before .before .before in
+    let a = d .args in
+    let p = d .pre in
     let st = now (a .store) in
     let l = c .before .before .before .before .before .before .before .loop in
-    let x = c .before .before .put-lists in
-    (omega (arith, c .before .before .before .before .before .if1 .taken), standing-next (a .a) st (p .0) (now (a .lists)) (l .lists) _ (l .b) _ (l .inv .1) (ap (λ (n : ℕ). 96 * n) (c .before .before .before .wide .ensures .0)) (x .ensures .0) (x .ensures .1))
+    let x = c .before .before .put-lists in (
+      omega (arith, c .before .before .before .before .before .if1 .taken),
+      standing-next (a .a) st (p .0) (now (a .lists)) (l .lists) _ (l .b) _ (l .inv .1)
+          (ap (λ (n : ℕ). 96 * n) (c .before .before .before .wide .ensures .0)) (x .ensures .0) (x .ensures .1),
+    )
 
 same-length : tie.Need-same-length Inv-loop μ-loop
 same-length c = c .before .before .loop .inv .1 .long
@@ -59,5 +71,5 @@ returns c = let l = c .before .before .loop in
 pub put-all-lists-spec : {M : Type 1} → statement M
 put-all-lists-spec =
     tie.close (tie.spec
-      Inv-loop μ-loop loop-holds wide-requires mul-put-lists put-lists-requires add-b loop-less loop-again
-      same-length returns)
+    Inv-loop μ-loop loop-holds wide-requires mul-put-lists put-lists-requires add-b loop-less loop-again
+    same-length returns)

@@ -1,6 +1,6 @@
 use Prim.Native.Nat.{_-_}
 use native.Mathlib.Omega.{arith}
-use mathlib.Core.Path.{_≡_, refl}
+use mathlib.Core.Path.{refl}
 use denote.Ref.{now}
 use Rattle.ranges.specs.Listed.{few-blocks, span-fits}
 use Rattle.layouts.proofs.Laws.{Ending, ending-none, ending-next, ending-all}
@@ -26,10 +26,19 @@ block-of-requires c κs = let a = c .before .before .before .before .before .arg
     (c .if1 .taken, omega (arith, span-fits (a .a) st (p .0)))
 
 put-end-requires : tie.Need-put-end-requires Inv-loop μ-loop
-put-end-requires c κs = let a = c .before .before .before .before .before .before .before .before .before .args in
-    let p = c .before .before .before .before .before .before .before .before .before .pre in
-    let st = now (a .store) in
-    ((a .a, p .0, c .before .before .before .before .if1 .taken, record { blocks-are = refl; block-is = c .before .before .before .block-of .ensures; shifts-are = refl; peels-are = refl }), c .before .before .before .before .before .before .loop .inv .size)
+put-end-requires c κs =
+    let b = c .before .before .before .before .before .before .before .before .before in
+    let a = b .args in
+    let p = b .pre in
+    let st = now (a .store) in (
+      (
+        a .a,
+        p .0,
+        c .before .before .before .before .if1 .taken,
+        record { blocks-are = refl; block-is = c .before .before .before .block-of .ensures; shifts-are = refl; peels-are = refl },
+      ),
+      c .before .before .before .before .before .before .loop .inv .size,
+    )
 
 add-b : tie.Need-add-b Inv-loop μ-loop
 add-b c = let a = c .before .before .before .before .before .before .before .before .before .before .args in
@@ -41,11 +50,15 @@ loop-less : tie.Need-loop-less Inv-loop μ-loop
 loop-less c = omega (arith, c .before .before .before .before .before .if1 .taken)
 
 loop-again : tie.Need-loop-again Inv-loop μ-loop
-loop-again c = let a = c .before .before .before .before .before .before .before .before .before .before .args in
-    let p = c .before .before .before .before .before .before .before .before .before .before .pre in
+loop-again c =
+    let d = c .before .before .before .before .before .before .before .before .before .before in
+    let a = d .args in
+    let p = d .pre in
     let st = now (a .store) in
     let l = c .before .before .before .before .before .before .before .loop in
-    ending-next (a .a) st (p .0) (l .ends) _ (l .b) (l .inv) (c .before .before .before .before .before .if1 .taken) (c .put-end .ensures (a .a) (p .0) (record { blocks-are = refl; block-is = c .before .before .before .before .block-of .ensures; shifts-are = refl; peels-are = refl }))
+    ending-next (a .a) st (p .0) (l .ends) _ (l .b) (l .inv) (c .before .before .before .before .before .if1 .taken)
+    (c .put-end .ensures (a .a) (p .0)
+    (record { blocks-are = refl; block-is = c .before .before .before .before .block-of .ensures; shifts-are = refl; peels-are = refl }))
 
 returns : tie.Need-returns Inv-loop μ-loop
 returns c = let a = c .before .before .before .before .before .args in
@@ -57,4 +70,4 @@ returns c = let a = c .before .before .before .before .before .args in
 pub put-ends-spec : {M : Type 1} → statement M
 put-ends-spec =
     tie.close (tie.spec
-      Inv-loop μ-loop loop-holds block-of-requires put-end-requires add-b loop-less loop-again returns)
+    Inv-loop μ-loop loop-holds block-of-requires put-end-requires add-b loop-less loop-again returns)

@@ -3,11 +3,12 @@ use Rattle.listing.proofs.put_block.Statement.{statement}
 use Rattle.listing.proofs.put_block.Tie as tie
 
 returns : tie.Need-returns
-returns c = let p = rw (c .before .before .before .before .before .before .minus .ensures) at (c .before .before .put-line-of-three .ensures) in
+returns c =
+    let p = rw (c .before .before .before .before .before .before .minus .ensures) at (c .before .before .put-line-of-three .ensures) in
     rw (c .before .before .before .before .before .before .before .block-of .ensures) at p
 
 pub put-block-spec : {M : Type 1} → statement M
 put-block-spec =
     tie.close (tie.spec
-      (λ c κs. search needs) (λ c κs. search needs) (λ c. search needs) (λ c. search needs) (λ c. search needs)
-      (λ c κs. search needs) (λ c. search needs) returns)
+    (λ c κs. search needs) (λ c κs. search needs) (λ c. search needs) (λ c. search needs) (λ c. search needs)
+    (λ c κs. search needs) (λ c. search needs) returns)

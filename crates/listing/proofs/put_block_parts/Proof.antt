@@ -62,5 +62,5 @@ returns c = let a = c .before .before .before .before .before .args in
 pub put-block-parts-spec : {M : Type 1} → statement M
 put-block-parts-spec =
     tie.close (tie.spec
-      Inv-loop μ-loop block-of-requires (λ c κs. search needs) loop-holds put-part-requires add-k loop-less
-      loop-again same-length returns)
+    Inv-loop μ-loop block-of-requires (λ c κs. search needs) loop-holds put-part-requires add-k loop-less
+    loop-again same-length returns)

@@ -24,7 +24,8 @@ put-block-requires c κs = let p = c .before .before .before .before .before .pr
     (omega (arith, l .place, l .few, p), i, p .2)
 
 add-b : tie.Need-add-b Inv-loop μ-loop
-add-b c = omega (arith, c .before .before .before .before .if1 .taken, c .before .before .before .before .before .before .before .before .pre)
+add-b c =
+    omega (arith, c .before .before .before .before .if1 .taken, c .before .before .before .before .before .before .before .before .pre)
 
 loop-less : tie.Need-loop-less Inv-loop μ-loop
 loop-less c = omega (arith, c .before .before .before .before .if1 .taken)
@@ -43,4 +44,4 @@ returns c = let p = c .before .before .before .before .pre in
 pub put-blocks-spec : {M : Type 1} → statement M
 put-blocks-spec =
     tie.close (tie.spec
-      Inv-loop μ-loop loop-holds put-block-requires add-b loop-less loop-again same-length returns)
+    Inv-loop μ-loop loop-holds put-block-requires add-b loop-less loop-again same-length returns)

@@ -31,13 +31,17 @@ element-copy-out-put-loop c = let a = c .before .before .before .before .before 
     omega (arith, c .before .loop-test .taken, c .before .before .before .loops-in .ensures, few-loops (a .t3) (now (a .store)) h)
 
 mul-put-loop-2 : tie.Need-mul-put-loop-2 Inv-loop μ-loop
-mul-put-loop-2 c = let a = c .before .before .before .before .before .before .args in
-    let h = c .before .before .before .before .before .before .pre .1 in
+mul-put-loop-2 c =
+    let b = c .before .before .before .before .before .before in
+    let a = b .args in
+    let h = b .pre .1 in
     omega (arith, c .before .before .loop-test .taken, c .before .before .before .before .loops-in .ensures, few-loops (a .t3) (now (a .store)) h)
 
 element-copy-out-put-loop-2 : tie.Need-element-copy-out-put-loop-2 Inv-loop μ-loop
-element-copy-out-put-loop-2 c = let a = c .before .before .before .before .before .before .args in
-    let h = c .before .before .before .before .before .before .pre .1 in
+element-copy-out-put-loop-2 c =
+    let b = c .before .before .before .before .before .before in
+    let a = b .args in
+    let h = b .pre .1 in
     omega (arith, c .before .before .loop-test .taken, c .before .before .before .before .loops-in .ensures, few-loops (a .t3) (now (a .store)) h)
 
 put-loop-requires : tie.Need-put-loop-requires Inv-loop μ-loop
@@ -49,9 +53,11 @@ put-loop-requires c κs = let a = c .before .before .before .before .before .bef
     omega (arith, l .place, l .few, h .0, few-loops (a .t3) (now (a .store)) (h .1))
 
 add-k : tie.Need-add-k Inv-loop μ-loop
-add-k c = let a = c .before .before .before .before .before .before .before .before .before .before .args in
+add-k c =
+    let b = c .before .before .before .before .before .before .before .before .before .before in
+    let a = b .args in
     let i = c .before .before .before .before .before .before .loop-test .taken in
-    let h = c .before .before .before .before .before .before .before .before .before .before .pre .1 in
+    let h = b .pre .1 in
     omega (arith, c .before .before .before .before .before .before .before .before .loops-in .ensures, few-loops (a .t3) (now (a .store)) h)
 
 loop-less : tie.Need-loop-less Inv-loop μ-loop
@@ -73,5 +79,5 @@ returns c = let a = c .before .before .before .before .args in
 pub put-loops-spec : {M : Type 1} → statement M
 put-loops-spec =
     tie.close (tie.spec
-      Inv-loop μ-loop (λ c κs. search needs) loop-holds mul-put-loop element-copy-out-put-loop mul-put-loop-2
-      element-copy-out-put-loop-2 put-loop-requires add-k loop-less loop-again same-length returns)
+    Inv-loop μ-loop (λ c κs. search needs) loop-holds mul-put-loop element-copy-out-put-loop mul-put-loop-2
+    element-copy-out-put-loop-2 put-loop-requires add-k loop-less loop-again same-length returns)

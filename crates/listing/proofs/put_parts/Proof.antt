@@ -28,8 +28,10 @@ put-block-parts-requires c κs = let a = c .before .before .before .before .befo
     (omega (arith, l .place, l .few, p .0, few-blocks (a .a) (now (a .store)) (p .1)), i, p .1)
 
 add-b : tie.Need-add-b Inv-loop μ-loop
-add-b c = let a = c .before .before .before .before .before .before .before .before .args in
-    omega (arith, c .before .before .before .before .if1 .taken, few-blocks (a .a) (now (a .store)) (c .before .before .before .before .before .before .before .before .pre .1))
+add-b c =
+    let b = c .before .before .before .before .before .before .before .before in
+    let a = b .args in
+    omega (arith, c .before .before .before .before .if1 .taken, few-blocks (a .a) (now (a .store)) (b .pre .1))
 
 loop-less : tie.Need-loop-less Inv-loop μ-loop
 loop-less c = omega (arith, c .before .before .before .before .if1 .taken)
@@ -49,4 +51,4 @@ returns c = let a = c .before .before .before .before .args in
 pub put-parts-spec : {M : Type 1} → statement M
 put-parts-spec =
     tie.close (tie.spec
-      Inv-loop μ-loop loop-holds put-block-parts-requires add-b loop-less loop-again same-length returns)
+    Inv-loop μ-loop loop-holds put-block-parts-requires add-b loop-less loop-again same-length returns)

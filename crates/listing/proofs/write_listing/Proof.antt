@@ -24,30 +24,48 @@ put-parts-requires c κs = let p = past-most 0 (le-refl 0) (c .before .before .b
     (lt-of-le-of-lt q (lit< tt), c .before .before .before .before .before .before .before .before .before .before .pre)
 
 put-parts-requires-2 : tie.Need-put-parts-requires-2
-put-parts-requires-2 c κs = let p = past-most 0 (le-refl 0) (c .before .before .before .before .before .before .before .before .before .before .before .put-loops .ensures) in
+put-parts-requires-2 c κs =
+    let p =
+    past-most 0 (le-refl 0)
+    (c .before .before .before .before .before .before .before .before .before .before .before .put-loops .ensures) in
     let q = past-most 1600 p (c .before .before .before .before .before .before .before .put-blocks .ensures) in
-    let r = past-most 8000 q (c .before .before .before .put-parts .ensures) in
-    (lt-of-le-of-lt r (lit< tt), c .before .before .before .before .before .before .before .before .before .before .before .before .before .before .pre)
+    let r = past-most 8000 q (c .before .before .before .put-parts .ensures) in (
+      lt-of-le-of-lt r (lit< tt),
+      c .before .before .before .before .before .before .before .before .before .before .before .before .before .before .pre,
+    )
 
 put-line-of-two-requires : tie.Need-put-line-of-two-requires
-put-line-of-two-requires c κs = let l = c .before .before .before .before .before .before .before .before .before .before .before .before .before .before .before .before .put-loops .ensures in
+put-line-of-two-requires c κs =
+    let l =
+    c .before .before .before .before .before .before .before .before .before .before .before .before .before .before .before .before
+    .put-loops .ensures in
     let p = past-most 0 (le-refl 0) l in
-    let q = past-most 1600 p (c .before .before .before .before .before .before .before .before .before .before .before .before .put-blocks .ensures) in
+    let q =
+    past-most 1600 p
+    (c .before .before .before .before .before .before .before .before .before .before .before .before .put-blocks .ensures) in
     let r = past-most 8000 q (c .before .before .before .before .before .before .before .before .put-parts .ensures) in
     let s = past-most 110400 r (c .before .before .before .before .put-parts2 .ensures) in
     (lt-of-le-of-lt s (lit< tt), lit≤ tt)
 
 same-length : tie.Need-same-length
-same-length c = let p = c .before .before .before .before .before .before .before .before .before .before .before .before .before .before .before .before .before .before .before .put-loops .kept .0 in
-    let q = c .before .before .before .before .before .before .before .before .before .before .before .before .before .before .before .put-blocks .kept .0 in
+same-length c =
+    let p =
+    c .before .before .before .before .before .before .before .before .before .before .before .before .before .before .before .before
+    .before .before .before .put-loops .kept .0 in
+    let q =
+    c .before .before .before .before .before .before .before .before .before .before .before .before .before .before .before
+    .put-blocks .kept .0 in
     let r = c .before .before .before .before .before .before .before .before .before .before .before .put-parts .kept .0 in
     let s = c .before .before .before .before .before .before .before .put-parts2 .kept .0 in
     c .before .before .put-line-of-two .kept .0 ∙ s ∙ r ∙ q ∙ p
 
 returns : tie.Need-returns
-returns c = let d = c .before .before .before .before .before .before .before in
-    let a = d .before .before .before .before .before .before .before .before .before .before .before .before .before .before .before .args in
-    let h = d .before .before .before .before .before .before .before .before .before .before .before .before .before .before .before .pre in
+returns c =
+    let d = c .before .before .before .before .before .before .before in
+    let a =
+    d .before .before .before .before .before .before .before .before .before .before .before .before .before .before .before .args in
+    let h =
+    d .before .before .before .before .before .before .before .before .before .before .before .before .before .before .before .pre in
     let p = d .before .before .before .before .before .before .before .before .before .before .before .before .put-loops .ensures in
     let q = d .before .before .before .before .before .before .before .before .put-blocks .ensures in
     let r = d .before .before .before .before .put-parts .ensures in
@@ -58,5 +76,5 @@ returns c = let d = c .before .before .before .before .before .before .before in
 pub write-listing-spec : {M : Type 1} → statement M
 write-listing-spec =
     tie.close (tie.spec
-      put-loops-requires put-blocks-requires put-parts-requires put-parts-requires-2 (λ c. refl)
-      put-line-of-two-requires same-length returns)
+    put-loops-requires put-blocks-requires put-parts-requires put-parts-requires-2 (λ c. refl)
+    put-line-of-two-requires same-length returns)

@@ -32,8 +32,8 @@ iterate-requires c κs =
     let l = c .before .before .loop in
     let d = c .before .before .before .before in
     let b = d .before .before in
-    loop-asks (now (b .args .store)) (now (b .args .bases)) (now (b .args .memory)) (b .args .number) (b .pre .0) (b .pre .1) (l .i) (l .memory) (l .inv)
-    (omega (arith, c .before .loop-test .taken, d .last-at .ensures))
+    loop-asks (now (b .args .store)) (now (b .args .bases)) (now (b .args .memory)) (b .args .number) (b .pre .0) (b .pre .1) (l .i)
+    (l .memory) (l .inv) (omega (arith, c .before .loop-test .taken, d .last-at .ensures))
 
 loop-less : tie.Need-loop-less Inv-loop μ-loop
 loop-less c = omega (arith, c .before .before .before .before .loop-test .taken)
@@ -44,8 +44,8 @@ loop-again c =
     let l = t .before .loop in
     let d = t .before .before .before in
     let b = d .before .before in
-    loop-next (now (b .args .store)) (now (b .args .bases)) (now (b .args .memory)) (b .args .number) (b .pre .0) (b .pre .1) (l .i) (l .memory) (l .inv)
-    (omega (arith, t .loop-test .taken, d .last-at .ensures)) _ (c .before .before .iterate .ensures)
+    loop-next (now (b .args .store)) (now (b .args .bases)) (now (b .args .memory)) (b .args .number) (b .pre .0) (b .pre .1) (l .i)
+    (l .memory) (l .inv) (omega (arith, t .loop-test .taken, d .last-at .ensures)) _ (c .before .before .iterate .ensures)
 
 same-length : tie.Need-same-length Inv-loop μ-loop
 same-length c = c .before .loop .inv .long
@@ -55,11 +55,11 @@ returns c =
     let l = c .before .loop in
     let d = c .before .before .before in
     let b = d .before .before in
-    loop-end (now (b .args .store)) (now (b .args .bases)) (now (b .args .memory)) (b .args .number) (b .pre .0) (b .pre .1) (l .i) (l .memory) (l .inv)
-    (omega (arith, c .loop-test .left, d .last-at .ensures))
+    loop-end (now (b .args .store)) (now (b .args .bases)) (now (b .args .memory)) (b .args .number) (b .pre .0) (b .pre .1) (l .i)
+    (l .memory) (l .inv) (omega (arith, c .loop-test .left, d .last-at .ensures))
 
 pub run-loop-spec : {M : Type 1} → statement M
 run-loop-spec =
     tie.close (tie.spec
-      Inv-loop μ-loop last-at-requires (λ c. search needs) first-at-requires (λ c. search needs) loop-holds
-      iterate-requires (λ c. search needs) loop-less loop-again same-length returns)
+    Inv-loop μ-loop last-at-requires (λ c. search needs) first-at-requires (λ c. search needs) loop-holds
+    iterate-requires (λ c. search needs) loop-less loop-again same-length returns)

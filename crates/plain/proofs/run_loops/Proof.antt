@@ -48,5 +48,5 @@ returns c =
 pub run-loops-spec : {M : Type 1} → statement M
 run-loops-spec =
     tie.close (tie.spec
-      Inv-loop μ-loop (λ c κs. search needs) loop-holds run-loop-requires (λ c. search needs) (λ c. omega arith)
-      loop-again same-length returns)
+    Inv-loop μ-loop (λ c κs. search needs) loop-holds run-loop-requires (λ c. search needs) (λ c. omega arith)
+    loop-again same-length returns)

@@ -14,7 +14,8 @@ run-loops-requires : tie.Need-run-loops-requires
 run-loops-requires c κs =
     let d = c .before .before .before .before in
     let b = d .before .before in
-    held-asks (now (b .args .store)) (b .pre) (d .bases-of .result .firsts) (d .bases-of .ensures) (now (b .args .memory)) (c .before .before .if1 .left)
+    held-asks (now (b .args .store)) (b .pre) (d .bases-of .result .firsts) (d .bases-of .ensures) (now (b .args .memory))
+    (c .before .before .if1 .left)
 
 returns-2 : tie.Need-returns-2
 returns-2 c =
@@ -27,5 +28,5 @@ returns-2 c =
 pub run-table-spec : {M : Type 1} → statement M
 run-table-spec =
     tie.close (tie.spec
-      (λ c κs. search needs) (λ c. search needs) (λ c. search needs) returns run-loops-requires (λ c. search needs)
-      returns-2)
+    (λ c κs. search needs) (λ c. search needs) (λ c. search needs) returns run-loops-requires (λ c. search needs)
+    returns-2)

@@ -1,13 +1,13 @@
 -- the walk has seen the first k loops
-use mathlib.Core.Path.{_≡_, refl, ap, _∙_}
+use mathlib.Core.Path.{_≡_, refl, _∙_}
 use Prim.Native.Nat.{_≤_, _<_, _-_, _^_}
 use native.Mathlib.Omega.{arith}
 use denote.Ref.{now}
 use borrow.Author.Needs.{needs}
-use Rattle.reader.specs.Store.{firstAt, lastAt, loopsIn}
+use Rattle.reader.specs.Store.{firstAt, lastAt}
 use Rattle.reader.specs.Held.{few-loops}
 use Rattle.blocks.specs.Sums.{least, largest, least-next, largest-next}
-use Rattle.plans.proofs.Laws.{some-loops, last-small, span-end}
+use Rattle.plans.proofs.Laws.{last-small, span-end}
 use Rattle.plans.proofs.span_of.Statement.{statement}
 use Rattle.plans.proofs.span_of.Tie as tie
 
@@ -61,6 +61,6 @@ returns c =
 pub span-of-spec : {M : Type 1} → statement M
 span-of-spec =
     tie.close (tie.spec
-      Inv-loop μ-loop (λ c κs. search needs) (λ c κs. omega arith) loop-holds first-at-requires-2 lesser-requires
-      last-at-requires greater-requires add-k (λ c. omega arith) loop-again (λ c. omega arith) minus-requires
-      returns)
+    Inv-loop μ-loop (λ c κs. search needs) (λ c κs. omega arith) loop-holds first-at-requires-2 lesser-requires
+    last-at-requires greater-requires add-k (λ c. omega arith) loop-again (λ c. omega arith) minus-requires
+    returns)

@@ -34,14 +34,17 @@ loop-again c =
 
 returns : tie.Need-returns Inv-loop μ-loop
 returns c =
-    let a = c .before .before .before .before .before .before .args in
+    let b = c .before .before .before .before .before .before in
+    let a = b .args in
     let l = c .before .loop in (
-      l .inv .2 ∙ below-all (length (now (a .froms))) (ranges (now (a .froms)) (now (a .pasts))) (column (now (a .shifts))) (column (now (a .weights))) (a .t) (l .k) (c .loop-test .left) (l .inv .0),
-      omega (arith, c .before .before .before .before .before .before .pre .loops),
+      l .inv .2
+          ∙ below-all (length (now (a .froms))) (ranges (now (a .froms)) (now (a .pasts))) (column (now (a .shifts)))
+          (column (now (a .weights))) (a .t) (l .k) (c .loop-test .left) (l .inv .0),
+      omega (arith, b .pre .loops),
     )
 
 pub below-sum-spec : {M : Type 1} → statement M
 below-sum-spec =
     tie.close (tie.spec
-      Inv-loop μ-loop loop-holds weighted-at-requires add-sum (λ c. omega arith) (λ c. omega arith) loop-again
-      returns)
+    Inv-loop μ-loop loop-holds weighted-at-requires add-sum (λ c. omega arith) (λ c. omega arith) loop-again
+    returns)

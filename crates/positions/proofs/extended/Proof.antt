@@ -17,18 +17,26 @@ smaller-requires : tie.Need-smaller-requires
 smaller-requires c κs = tt
 
 mul-t15 : tie.Need-mul-t15
-mul-t15 c = let a = c .before .before .before .before .args in omega (arith, weight-product (a .w) (a .f + a .s) (2 ^ 33) (c .before .before .before .before .pre .0) (omega arith))
+mul-t15 c =
+    let b = c .before .before .before .before in
+    let a = b .args in
+    omega (arith, weight-product (a .w) (a .f + a .s) (2 ^ 33) (b .pre .0) (omega arith))
 
 add-t16 : tie.Need-add-t16
-add-t16 c = let a = c .before .before .before .before .before .args in omega (arith, weight-product (a .w) (a .f + a .s) (2 ^ 33) (c .before .before .before .before .before .pre .0) (omega arith))
+add-t16 c =
+    let b = c .before .before .before .before .before in
+    let a = b .args in
+    omega (arith, weight-product (a .w) (a .f + a .s) (2 ^ 33) (b .pre .0) (omega arith))
 
 returns-2 : tie.Need-returns-2
 returns-2 c =
-    let a = c .before .before .before .before .before .args in
-    extended-more (a .l) _ (record { from = a .f; past = a .p }) (a .s) (a .w) (omega arith) (c .before .before .before .before .before .pre .0) (c .before .before .before .larger .ensures) (c .before .before .smaller .ensures) refl refl
+    let b = c .before .before .before .before .before in
+    let a = b .args in
+    extended-more (a .l) _ (record { from = a .f; past = a .p }) (a .s) (a .w) (omega arith) (b .pre .0)
+    (c .before .before .before .larger .ensures) (c .before .before .smaller .ensures) refl refl
 
 pub extended-spec : {M : Type 1} → statement M
 extended-spec =
     tie.close (tie.spec
-      returns (λ c. omega arith) larger-requires (λ c. omega arith) smaller-requires (λ c. omega arith) mul-t15
-      add-t16 returns-2)
+    returns (λ c. omega arith) larger-requires (λ c. omega arith) smaller-requires (λ c. omega arith) mul-t15
+    add-t16 returns-2)

@@ -19,21 +19,20 @@ abbrev μ-loop : tie.MeasureT-loop
 
 loop-holds : tie.Need-loop-holds Inv-loop μ-loop
 loop-holds c =
-    let a = c .before .before .before .before .args in
-    let p = c .before .before .before .before .pre .1 in
-    let z = below-zero (length (now (a .froms))) (ranges (now (a .froms)) (now (a .pasts))) (column (now (a .shifts))) (column (now (a .weights))) in (
-      record {
-        rising = below-first (length (now (a .froms))) (ranges (now (a .froms)) (now (a .pasts))) (column (now (a .shifts))) (column (now (a .weights))) 0 (a .most) (a .n) (omega arith) (p .0);
-        inside = p .1;
-        value = sym z;
-        before = omega arith;
-        after = p .0;
-      },
+    let b = c .before .before .before .before in
+    let a = b .args in
+    let p = b .pre .1 in
+    let z =
+    below-zero (length (now (a .froms))) (ranges (now (a .froms)) (now (a .pasts))) (column (now (a .shifts)))
+    (column (now (a .weights))) in (
+      record
+          { rising = below-first (length (now (a .froms))) (ranges (now (a .froms)) (now (a .pasts))) (column (now (a .shifts))) (column (now (a .weights))) 0 (a .most) (a .n) (omega arith) (p .0); inside = p .1; value = sym z; before = omega arith; after = p .0 },
       omega arith,
     )
 
 narrow-requires : tie.Need-narrow-requires Inv-loop μ-loop
-narrow-requires c κs = (c .before .before .before .before .before .before .before .before .pre .0, (c .before .before .before .loop .inv .0, c .if1 .taken))
+narrow-requires c κs =
+    (c .before .before .before .before .before .before .before .before .pre .0, (c .before .before .before .loop .inv .0, c .if1 .taken))
 
 loop-less : tie.Need-loop-less Inv-loop μ-loop
 loop-less c = c .narrow .ensures .1
@@ -50,4 +49,4 @@ returns c =
 pub find-spec : {M : Type 1} → statement M
 find-spec =
     tie.close (tie.spec
-      Inv-loop μ-loop loop-holds (λ c. omega arith) narrow-requires loop-less loop-again (λ c. omega arith) returns)
+    Inv-loop μ-loop loop-holds (λ c. omega arith) narrow-requires loop-less loop-again (λ c. omega arith) returns)

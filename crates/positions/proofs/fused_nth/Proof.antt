@@ -15,9 +15,11 @@ position-of-requires c κs =
 
 returns : tie.Need-returns
 returns c =
-    let a = c .before .before .before .before .before .before .args in
+    let b = c .before .before .before .before .before .before in
+    let a = b .args in
     let p = c .before .position-of in
-    ones-found (now (a .froms)) (now (a .pasts)) (now (a .shifts)) (c .before .before .before .before .before .before .pre .0 .0) (a .n) (p .result) (c .nth-at-sum .result) (p .ensures) (c .nth-at-sum .ensures)
+    ones-found (now (a .froms)) (now (a .pasts)) (now (a .shifts)) (b .pre .0 .0) (a .n) (p .result) (c .nth-at-sum .result) (p .ensures)
+    (c .nth-at-sum .ensures)
 
 pub fused-nth-spec : {M : Type 1} → statement M
 fused-nth-spec = tie.close (tie.spec (λ c. search needs) position-of-requires (λ c κs. search needs) returns)

@@ -15,6 +15,6 @@ add-back c = let a = c .before .before .before .args in omega (arith, div-le-sel
 pub interpolated-spec : {M : Type 1} → statement M
 interpolated-spec =
     tie.close (tie.spec
-      (λ c. search needs) (λ c. search needs) (λ c. search needs) (λ c. search needs) add-result (λ c. search needs)
-      (λ c. search needs) (λ c. search needs) (λ c. search needs) add-back (λ c. search needs) (λ c. search needs)
-      (λ c. search needs) (λ c. search needs))
+    (λ c. search needs) (λ c. search needs) (λ c. search needs) (λ c. search needs) add-result (λ c. search needs)
+    (λ c. search needs) (λ c. search needs) (λ c. search needs) add-back (λ c. search needs) (λ c. search needs)
+    (λ c. search needs) (λ c. search needs))

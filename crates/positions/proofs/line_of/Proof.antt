@@ -20,7 +20,9 @@ loop-holds : tie.Need-loop-holds Inv-loop μ-loop
 loop-holds c = (omega arith, omega arith, omega arith, λ t g h. omega arith)
 
 extended-requires : tie.Need-extended-requires Inv-loop μ-loop
-extended-requires c κs = let p = c .before .before .before .before .before .before .before .before .before .before .pre in (p .small (c .before .before .before .before .before .loop .k), omega (arith, p .loops), omega (arith, p .loops))
+extended-requires c κs =
+    let p = c .before .before .before .before .before .before .before .before .before .before .pre in
+    (p .small (c .before .before .before .before .before .loop .k), omega (arith, p .loops), omega (arith, p .loops))
 
 loop-again : tie.Need-loop-again Inv-loop μ-loop
 loop-again c =
@@ -30,21 +32,21 @@ loop-again c =
       omega arith,
       omega (arith, e .ensures .slope),
       omega (arith, e .ensures .offset),
-      line-next (ranges (now (a .froms)) (now (a .pasts))) (column (now (a .shifts))) (column (now (a .weights))) (l .l) (e .result) (l .k) (e .ensures) (l .inv .3),
+      line-next (ranges (now (a .froms)) (now (a .pasts))) (column (now (a .shifts))) (column (now (a .weights))) (l .l) (e .result) (l .k)
+          (e .ensures) (l .inv .3),
     )
 
 returns : tie.Need-returns Inv-loop μ-loop
 returns c =
-    let a = c .before .before .before .before .before .before .args in
+    let b = c .before .before .before .before .before .before in
+    let a = b .args in
     let l = c .before .loop in
-    record {
-      count = line-end (length (now (a .froms))) (ranges (now (a .froms)) (now (a .pasts))) (column (now (a .shifts))) (column (now (a .weights))) (l .l) (l .k) (c .loop-test .left) (l .inv .0) (l .inv .3);
-      small = omega (arith, c .before .before .before .before .before .before .pre .loops);
-    }
+    record
+    { count = line-end (length (now (a .froms))) (ranges (now (a .froms)) (now (a .pasts))) (column (now (a .shifts))) (column (now (a .weights))) (l .l) (l .k) (c .loop-test .left) (l .inv .0) (l .inv .3); small = omega (arith, b .pre .loops) }
 
 pub line-of-spec : {M : Type 1} → statement M
 line-of-spec =
     tie.close (tie.spec
-      Inv-loop μ-loop loop-holds (λ c. omega arith) (λ c. omega arith) (λ c. omega arith) (λ c. omega arith)
-      (λ c. omega arith) (λ c. omega arith) (λ c. omega arith) (λ c. omega arith) extended-requires
-      (λ c. omega arith) (λ c. omega arith) loop-again returns)
+    Inv-loop μ-loop loop-holds (λ c. omega arith) (λ c. omega arith) (λ c. omega arith) (λ c. omega arith)
+    (λ c. omega arith) (λ c. omega arith) (λ c. omega arith) (λ c. omega arith) extended-requires
+    (λ c. omega arith) (λ c. omega arith) loop-again returns)

@@ -32,36 +32,38 @@ sub-t23 c =
     let a = c .before .before .before .before .before .before .before .before .before .before .before .before .args in
     let l = c .before .before .before .before .before .before .before .before .loop in
     let h = c .before .before .before .held in
-    omega (
-      arith,
-      at-sum-fits (length (now (a .froms))) (ranges (now (a .froms)) (now (a .pasts))) (column (now (a .shifts))) (a .t) (l .k) (a .n) (l .left) (h .result) (c .before .before .if1 .taken) (h .ensures (l .k)),
-      c .wide .ensures .0,
-    )
+    omega (arith, at-sum-fits (length (now (a .froms))) (ranges (now (a .froms)) (now (a .pasts))) (column (now (a .shifts))) (a .t) (l .k) (a .n) (l .left) (h .result) (c .before .before .if1 .taken) (h .ensures (l .k)), c .wide .ensures .0)
 
 returns : tie.Need-returns Inv-loop μ-loop
 returns c =
     let a = c .before .before .before .before .before .before .before .before .before .before .before .before .args in
     let l = c .before .before .before .before .before .before .before .before .loop in
     let h = c .before .before .before .held in
-    at-sum-here (length (now (a .froms))) (ranges (now (a .froms)) (now (a .pasts))) (column (now (a .shifts))) (a .t) (l .k) (a .n) (l .left) (h .result) (c .wide .result)
-    (c .before .before .before .before .before .before .before .loop-test .taken) (l .inv .1) (c .before .before .if1 .taken) (h .ensures (l .k)) (c .wide .ensures .0)
+    at-sum-here (length (now (a .froms))) (ranges (now (a .froms)) (now (a .pasts))) (column (now (a .shifts))) (a .t) (l .k) (a .n)
+    (l .left) (h .result) (c .wide .result) (c .before .before .before .before .before .before .before .loop-test .taken) (l .inv .1)
+    (c .before .before .if1 .taken) (h .ensures (l .k)) (c .wide .ensures .0)
 
 loop-again : tie.Need-loop-again Inv-loop μ-loop
 loop-again c =
     let a = c .before .before .before .before .before .before .before .before .before .before .args in
     let l = c .before .before .before .before .before .before .loop in
-    let q = c .before .held .ensures (l .k) in
-    (omega arith, rw q (walk-next (here (ranges (now (a .froms)) (now (a .pasts))) (column (now (a .shifts))) (a .t)) (l .k) (a .n) (l .left) (l .inv .1) (omega arith)))
+    let q = c .before .held .ensures (l .k) in (
+      omega arith,
+      rw q
+          (walk-next (here (ranges (now (a .froms)) (now (a .pasts))) (column (now (a .shifts))) (a .t)) (l .k) (a .n) (l .left) (l .inv .1)
+          (omega arith)),
+    )
 
 returns-2 : tie.Need-returns-2 Inv-loop μ-loop
 returns-2 c =
     let a = c .before .before .before .before .before .args in
     let l = c .before .loop in
-    at-sum-past (length (now (a .froms))) (ranges (now (a .froms)) (now (a .pasts))) (column (now (a .shifts))) (a .t) (l .k) (a .n) (l .left) (c .loop-test .left) (l .inv .0) (l .inv .1)
+    at-sum-past (length (now (a .froms))) (ranges (now (a .froms)) (now (a .pasts))) (column (now (a .shifts))) (a .t) (l .k) (a .n)
+    (l .left) (c .loop-test .left) (l .inv .0) (l .inv .1)
 
 pub nth-at-sum-spec : {M : Type 1} → statement M
 nth-at-sum-spec =
     tie.close (tie.spec
-      Inv-loop μ-loop loop-holds (λ c. omega arith) (λ c. omega arith) (λ c. omega arith) (λ c. omega arith)
-      (λ c. omega arith) (λ c. omega arith) held-requires (λ c. omega arith) (λ c. omega arith) wide-requires
-      sub-t23 returns (λ c. omega arith) (λ c. omega arith) loop-again returns-2)
+    Inv-loop μ-loop loop-holds (λ c. omega arith) (λ c. omega arith) (λ c. omega arith) (λ c. omega arith)
+    (λ c. omega arith) (λ c. omega arith) held-requires (λ c. omega arith) (λ c. omega arith) wide-requires
+    sub-t23 returns (λ c. omega arith) (λ c. omega arith) loop-again returns-2)

@@ -10,4 +10,4 @@ returns c = λ h. record { whole = div-add-mod' _ _; rest = mod-lt _ (c .before 
 pub on-line-spec : {M : Type 1} → statement M
 on-line-spec =
     tie.close (tie.spec
-      (λ c. search needs) (λ c. search needs) (λ c. search needs) returns (λ c. search needs) (λ c. search needs))
+    (λ c. search needs) (λ c. search needs) (λ c. search needs) returns (λ c. search needs) (λ c. search needs))

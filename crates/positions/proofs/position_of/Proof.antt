@@ -9,12 +9,14 @@ use Rattle.positions.proofs.position_of.Tie as tie
 
 returns : tie.Need-returns
 returns c =
-    let a = c .before .before .before .before .before .before .before .before .before .before .before .before .args in
-    let p = c .before .before .before .before .before .before .before .before .before .before .before .before .pre in
+    let b = c .before .before .before .before .before .before .before .before .before .before .before .before in
+    let a = b .args in
+    let p = b .pre in
     let l = c .before .before .before .before .before .before .before .line-of in
     let o = c .before .before .before .before .before .before .on-line in
-    line-located (now (a .froms)) (now (a .pasts)) (now (a .shifts)) (now (a .weights)) (boundColumns (now (a .froms)) (now (a .pasts)) (now (a .shifts))) (a .n) (l .result) (o .result)
-    (l .ensures) (o .ensures (omega arith)) (omega arith) (omega arith) (p .1)
+    line-located (now (a .froms)) (now (a .pasts)) (now (a .shifts)) (now (a .weights))
+    (boundColumns (now (a .froms)) (now (a .pasts)) (now (a .shifts))) (a .n) (l .result) (o .result) (l .ensures)
+    (o .ensures (omega arith)) (omega arith) (omega arith) (p .1)
 
 find-requires : tie.Need-find-requires
 find-requires c κs =
@@ -25,4 +27,4 @@ find-requires c κs =
 pub position-of-spec : {M : Type 1} → statement M
 position-of-spec =
     tie.close (tie.spec
-      (λ c κs. search needs) (λ c κs. search needs) returns (λ c κs. search needs) find-requires (λ c. search needs))
+    (λ c κs. search needs) (λ c κs. search needs) returns (λ c κs. search needs) find-requires (λ c. search needs))

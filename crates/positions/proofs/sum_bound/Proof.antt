@@ -31,17 +31,22 @@ loop-again c =
       omega arith,
       omega arith,
       c .larger .ensures
-          ∙ largest-next _ (λ j. column (now (a .pasts)) j + column (now (a .shifts)) j) _ _ (c .before .before .before .loop .inv .2) (c .before .past-sum .ensures .0),
+          ∙ largest-next _ (λ j. column (now (a .pasts)) j + column (now (a .shifts)) j) _ _ (c .before .before .before .loop .inv .2)
+          (c .before .past-sum .ensures .0),
     )
 
 returns : tie.Need-returns Inv-loop μ-loop
 returns c =
     let a = c .before .before .before .before .before .args in
-    let l = c .before .loop in
-    (l .inv .2 ∙ bound-all (length (now (a .froms))) (ranges (now (a .froms)) (now (a .pasts))) (column (now (a .shifts))) (column (now (a .shifts))) (l .k) (c .loop-test .left) (l .inv .0), omega arith)
+    let l = c .before .loop in (
+      l .inv .2
+          ∙ bound-all (length (now (a .froms))) (ranges (now (a .froms)) (now (a .pasts))) (column (now (a .shifts))) (column (now (a .shifts)))
+          (l .k) (c .loop-test .left) (l .inv .0),
+      omega arith,
+    )
 
 pub sum-bound-spec : {M : Type 1} → statement M
 sum-bound-spec =
     tie.close (tie.spec
-      Inv-loop μ-loop loop-holds past-sum-requires larger-requires (λ c. omega arith) (λ c. omega arith) loop-again
-      returns)
+    Inv-loop μ-loop loop-holds past-sum-requires larger-requires (λ c. omega arith) (λ c. omega arith) loop-again
+    returns)

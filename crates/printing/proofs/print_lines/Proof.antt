@@ -19,5 +19,5 @@ returns-2 c = let out = now (c .before .before .before .before .before .before .
 pub print-lines-spec : {M : Type 1} → statement M
 print-lines-spec =
     tie.close (tie.spec
-      (λ c. search needs) (λ c. search needs) (λ c κs. search needs) (λ c κs. search needs) (λ c. search needs)
-      returns (λ c κs. search needs) (λ c κs. search needs) (λ c. search needs) returns-2)
+    (λ c. search needs) (λ c. search needs) (λ c κs. search needs) (λ c κs. search needs) (λ c. search needs)
+    returns (λ c κs. search needs) (λ c κs. search needs) (λ c. search needs) returns-2)

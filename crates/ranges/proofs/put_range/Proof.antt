@@ -10,5 +10,5 @@ slice-write-lists-2 c = simp length-set (omega arith)
 pub put-range-spec : {M : Type 1} → statement M
 put-range-spec =
     tie.close (tie.spec
-      (λ c. search needs) (λ c. search needs) (λ c. search needs) (λ c. search needs) slice-write-lists-2
-      (λ c. search needs) (λ c. search needs) (λ c. search needs) (λ c. search needs) (λ c. search needs))
+    (λ c. search needs) (λ c. search needs) (λ c. search needs) (λ c. search needs) slice-write-lists-2
+    (λ c. search needs) (λ c. search needs) (λ c. search needs) (λ c. search needs) (λ c. search needs))

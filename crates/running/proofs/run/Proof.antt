@@ -17,9 +17,11 @@ run-planned-requires c κs = let a = c .before .before .before .before .before .
     made-laid (now (a .s)) (settings (a .processors)) (x .result) _ (x .ensures .made (c .before .before .before .if1 .left))
 
 returns-2 : tie.Need-returns-2
-returns-2 c = let a = c .before .before .before .before .before .before .before .before .before .before .before .before .before .args in
+returns-2 c =
+    let a = c .before .before .before .before .before .before .before .before .before .before .before .before .before .args in
     let x = c .before .before .before .before .before .before .before .before .plan-table in
-    c .before .before .run-planned .ensures (now (a .s)) (settings (a .processors)) (x .ensures .made (c .before .before .before .before .before .before .if1 .left) .is)
+    c .before .before .run-planned .ensures (now (a .s)) (settings (a .processors))
+    (x .ensures .made (c .before .before .before .before .before .before .if1 .left) .is)
 
 pub run-spec : {M : Type 1} → statement M
 run-spec = tie.close (tie.spec (λ c κs. search needs) returns run-planned-requires (λ c. search needs) returns-2)

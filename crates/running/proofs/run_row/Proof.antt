@@ -1,4 +1,3 @@
-use mathlib.Core.Path.{_≡_}
 use Rattle.running.proofs.Calls.{rowed}
 use borrow.Author.Needs.{needs}
 use Rattle.running.proofs.run_row.Statement.{statement}
@@ -13,11 +12,12 @@ close-requires c κs = let p = c .before .before .before .before .before .before
     ((w, (step, g, o .reachable)), o .long)
 
 returns : tie.Need-returns
-returns c = λ w step g.
-    let o = c .before .before .before .before .before .before .before .before .take-order .ensures w step g in
-    rowed g o (c .before .before .before .before .before .listed .result) (c .before .before .before .before .before .listed .ensures) (c .before .before .close .ensures w step g (o .reachable))
+returns c =
+    let b = c .before .before .before .before .before in
+    λ w step g. let o = b .before .before .before .take-order .ensures w step g in rowed g o (b .listed .result) (b .listed .ensures)
+    (c .before .before .close .ensures w step g (o .reachable))
 
 pub run-row-spec : {M : Type 1} → statement M
 run-row-spec =
     tie.close (tie.spec
-      (λ c κs. search needs) (λ c κs. search needs) close-requires (λ c. search needs) returns)
+    (λ c κs. search needs) (λ c κs. search needs) close-requires (λ c. search needs) returns)

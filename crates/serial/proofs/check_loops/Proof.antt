@@ -33,7 +33,8 @@ loop-again c =
     let d = c .before .before in
     let l = d .before .before .loop in
     let b = d .before .before .before .before in
-    loop-passed (now (b .args .store)) (b .pre) _ (l .k) (l .inv) (d .before .loop-test .taken) (d .loop-hit .result) (d .loop-hit .ensures) (c .enum-told .given .1)
+    loop-passed (now (b .args .store)) (b .pre) _ (l .k) (l .inv) (d .before .loop-test .taken) (d .loop-hit .result) (d .loop-hit .ensures)
+    (c .enum-told .given .1)
 
 returns : tie.Need-returns Inv-loop μ-loop
 returns c =
@@ -41,7 +42,8 @@ returns c =
     let l = d .before .before .loop in
     let b = d .before .before .before .before in
     let g = c .before .hit .given in
-    loop-collides (now (b .args .store)) (b .pre) _ (l .k) (l .inv) (d .before .loop-test .taken) (d .loop-hit .result) (d .loop-hit .ensures) (g .0 .0) (g .1)
+    loop-collides (now (b .args .store)) (b .pre) _ (l .k) (l .inv) (d .before .loop-test .taken) (d .loop-hit .result)
+    (d .loop-hit .ensures) (g .0 .0) (g .1)
 
 returns-2 : tie.Need-returns-2 Inv-loop μ-loop
 returns-2 c =
@@ -52,5 +54,5 @@ returns-2 c =
 pub check-loops-spec : {M : Type 1} → statement M
 check-loops-spec =
     tie.close (tie.spec
-      Inv-loop μ-loop (λ c κs. search needs) loop-holds loop-hit-requires (λ c. search needs) add-k
-      (λ c. omega arith) loop-again (λ c. search needs) returns returns-2)
+    Inv-loop μ-loop (λ c κs. search needs) loop-holds loop-hit-requires (λ c. search needs) add-k
+    (λ c. omega arith) loop-again (λ c. search needs) returns returns-2)

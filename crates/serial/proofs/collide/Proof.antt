@@ -48,5 +48,5 @@ returns-5 c =
 pub collide-spec : {M : Type 1} → statement M
 collide-spec =
     tie.close (tie.spec
-      returns returns-2 (λ c κs. search needs) (λ c. search needs) (λ c κs. search needs) returns-3
-      (λ c κs. search needs) (λ c. search needs) (λ c κs. search needs) returns-4 returns-5)
+    returns returns-2 (λ c κs. search needs) (λ c. search needs) (λ c κs. search needs) returns-3
+    (λ c κs. search needs) (λ c. search needs) (λ c κs. search needs) returns-4 returns-5)

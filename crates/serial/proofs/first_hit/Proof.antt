@@ -36,10 +36,12 @@ returns c =
     let a = k .before .before .before .args in
     let three = sym (k .kind-at .ensures) ∙ f .if1 .taken in
     found (a .span) (a .a) (a .c) (now (a .store)) (a .from) (a .past) (l .row) (l .reads) (l .inv) (k .before .loop-test .taken) three
-    (rw (c .before .before .before .array-at .ensures, c .before .before .value-at .ensures) at (sym (c .before .collide .ensures) ∙ c .if2 .taken))
+    (rw (c .before .before .before .array-at .ensures, c .before .before .value-at .ensures)
+    at (sym (c .before .collide .ensures) ∙ c .if2 .taken))
 
 add-reads : tie.Need-add-reads Inv-loop μ-loop
-add-reads c = omega (arith, c .before .before .before .before .before .before .before .before .pre .0, c .before .before .before .before .before .before .before .loop .inv .few)
+add-reads c =
+    omega (arith, c .before .before .before .before .before .before .before .before .pre .0, c .before .before .before .before .before .before .before .loop .inv .few)
 
 add-row : tie.Need-add-row Inv-loop μ-loop
 add-row c = omega (arith, c .before .before .before .before .pre .0)
@@ -69,5 +71,5 @@ returns-2 c =
 pub first-hit-spec : {M : Type 1} → statement M
 first-hit-spec =
     tie.close (tie.spec
-      Inv-loop μ-loop loop-holds kind-at-requires array-at-requires value-at-requires collide-requires returns
-      add-reads add-row (λ c. omega arith) loop-again returns-2)
+    Inv-loop μ-loop loop-holds kind-at-requires array-at-requires value-at-requires collide-requires returns
+    add-reads add-row (λ c. omega arith) loop-again returns-2)

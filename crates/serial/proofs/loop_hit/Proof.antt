@@ -15,7 +15,7 @@ returns c =
     rw (
       c .before .value-at .ensures,
       c .before .before .array-at .ensures,
-      c .before .before .before .span-of .ensures .0,
+      c .before .before .before .length-of .ensures .0,
       l .last-at .ensures,
       l .before .first-at .ensures,
       s .start-at2 .ensures,
@@ -27,6 +27,6 @@ returns c =
 pub loop-hit-spec : {M : Type 1} → statement M
 loop-hit-spec =
     tie.close (tie.spec
-      (λ c κs. search needs) (λ c. search needs) (λ c κs. search needs) (λ c κs. search needs)
-      (λ c κs. search needs) (λ c κs. search needs) (λ c. search needs) (λ c κs. search needs)
-      (λ c κs. search needs) (λ c κs. search needs) returns)
+    (λ c κs. search needs) (λ c. search needs) (λ c κs. search needs) (λ c κs. search needs)
+    (λ c κs. search needs) (λ c κs. search needs) (λ c. search needs) (λ c κs. search needs)
+    (λ c κs. search needs) (λ c κs. search needs) returns)

@@ -36,15 +36,17 @@ with-loop-requires c κs =
     let l = t .before .loop in
     let n = t .before .before in
     rw (c .start-at2 .ensures, c .before .start-at .ensures)
-    (room (now (n .before .args .store)) (n .before .pre) (n .loops-in .result) (n .loops-in .ensures) (l .k) (l .s) (l .inv) (t .loop-test .taken))
+    (room (now (n .before .args .store)) (n .before .pre) (n .loops-in .result) (n .loops-in .ensures) (l .k) (l .s) (l .inv)
+    (t .loop-test .taken))
 
 loop-again : tie.Need-loop-again Inv-loop μ-loop
 loop-again c =
     let t = c .before .before .before in
     let l = t .before .loop in
     let n = t .before .before in
-    loops-next (now (n .before .args .store)) (n .before .pre) (n .loops-in .result) (n .loops-in .ensures) (l .k) (l .s) (l .inv) (t .loop-test .taken)
-    (c .with-loop .result) (rw (c .before .start-at2 .ensures, c .before .before .start-at .ensures) at (c .with-loop .ensures))
+    loops-next (now (n .before .args .store)) (n .before .pre) (n .loops-in .result) (n .loops-in .ensures) (l .k) (l .s) (l .inv)
+    (t .loop-test .taken) (c .with-loop .result)
+    (rw (c .before .start-at2 .ensures, c .before .before .start-at .ensures) at (c .with-loop .ensures))
 
 add-after : tie.Need-add-after Inv-loop μ-loop
 add-after c = omega (arith, c .before .size-of .ensures .1, c .size-of2 .ensures .1)
@@ -55,12 +57,12 @@ returns c =
     let t = x .before in
     let l = t .before .loop in
     let n = t .before .before in
-    loops-done (now (n .before .args .store)) (n .before .pre) (n .loops-in .result) (n .loops-in .ensures) (l .k) (l .s) (l .inv) (t .loop-test .left)
-    (x .size-of .result) (c .size-of2 .result) (x .size-of .ensures .0) (c .size-of2 .ensures .0)
+    loops-done (now (n .before .args .store)) (n .before .pre) (n .loops-in .result) (n .loops-in .ensures) (l .k) (l .s) (l .inv)
+    (t .loop-test .left) (x .size-of .result) (c .size-of2 .result) (x .size-of .ensures .0) (c .size-of2 .ensures .0)
 
 pub sweeps-of-spec : {M : Type 1} → statement M
 sweeps-of-spec =
     tie.close (tie.spec
-      Inv-loop μ-loop (λ c κs. search needs) loop-holds start-at-requires add-start-at start-at-requires-2
-      with-loop-requires (λ c. search needs) (λ c. omega arith) loop-again (λ c κs. search needs)
-      (λ c κs. search needs) add-after returns)
+    Inv-loop μ-loop (λ c κs. search needs) loop-holds start-at-requires add-start-at start-at-requires-2
+    with-loop-requires (λ c. search needs) (λ c. omega arith) loop-again (λ c κs. search needs)
+    (λ c κs. search needs) add-after returns)

@@ -18,8 +18,7 @@ array-at-requires c κs = omega (arith, c .pre .0, c .pre .1)
 
 with-mark-requires : tie.Need-with-mark-requires Inv-loop μ-loop
 with-mark-requires c κs =
-    let b = c .before .before in
-    omega (arith, c .wide .ensures .0, c .before .array-at .ensures, b .pre .2 (b .args .from) (b .pre .0) .array)
+    omega (arith, c .wide .ensures .0, c .before .array-at .ensures)
 
 add-row : tie.Need-add-row Inv-loop μ-loop
 add-row c = omega (arith, c .before .before .before .pre .0, c .before .before .before .pre .1)
@@ -28,7 +27,8 @@ loop-holds : tie.Need-loop-holds Inv-loop μ-loop
 loop-holds c =
     let w = c .before in
     let a = w .before .before .args in
-    start (now (a .store)) (a .from) (a .past) (c .with-mark .result) (w .wide .result) (w .wide .ensures .0 ∙ w .before .array-at .ensures) (c .with-mark .ensures)
+    start (now (a .store)) (a .from) (a .past) (c .with-mark .result) (w .wide .result) (w .wide .ensures .0 ∙ w .before .array-at .ensures)
+    (c .with-mark .ensures)
 
 kind-at-requires : tie.Need-kind-at-requires Inv-loop μ-loop
 kind-at-requires c κs = omega (arith, c .before .before .before .before .before .pre .1)
@@ -40,7 +40,7 @@ with-row-requires : tie.Need-with-row-requires Inv-loop μ-loop
 with-row-requires c κs =
     let t = c .before .before in
     let b = t .before .before .before .before .before in
-    omega (arith, c .array-at2 .ensures, b .pre .2 (t .before .loop .row) (t .loop-test .taken) .array)
+    omega (arith, c .array-at2 .ensures)
 
 add-row-2 : tie.Need-add-row-2 Inv-loop μ-loop
 add-row-2 c = omega (arith, c .before .before .before .before .before .before .before .before .pre .1)
@@ -62,5 +62,5 @@ returns c =
 pub touched-in-spec : {M : Type 1} → statement M
 touched-in-spec =
     tie.close (tie.spec
-      Inv-loop μ-loop array-at-requires (λ c κs. search needs) with-mark-requires add-row loop-holds
-      kind-at-requires array-at-requires-2 with-row-requires add-row-2 (λ c. omega arith) loop-again returns)
+    Inv-loop μ-loop array-at-requires (λ c κs. search needs) with-mark-requires add-row loop-holds
+    kind-at-requires array-at-requires-2 with-row-requires add-row-2 (λ c. omega arith) loop-again returns)

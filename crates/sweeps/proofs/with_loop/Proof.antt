@@ -8,8 +8,7 @@ use Rattle.sweeps.proofs.with_loop.Tie as tie
 
 with-mark-requires : tie.Need-with-mark-requires
 with-mark-requires c κs =
-    let b = c .before .before .before in
-    omega (arith, c .wide .ensures .0, c .before .array-at .ensures, b .pre .3 (b .args .from) (b .pre .1) .array)
+    omega (arith, c .wide .ensures .0, c .before .array-at .ensures)
 
 returns : tie.Need-returns
 returns c =
@@ -20,13 +19,13 @@ returns c =
     let t = w .before .before in
     let a = t .before .args in
     let one = alone (m .with-mark .result) (w .wide .result) (w .wide .ensures .0 ∙ w .before .array-at .ensures) (m .with-mark .ensures) in
-    added (now (a .store)) (a .from) (a .past) (a .s) (t .touched-in .result) (m .with-mark .result) (x .size-of .result) (y .size-of2 .result)
-    (c .before .union .result) (c .union2 .result) (t .touched-in .ensures) one (x .size-of .ensures .0) (y .size-of2 .ensures .0)
-    (c .before .union .ensures) (c .union2 .ensures)
+    added (now (a .store)) (a .from) (a .past) (a .s) (t .touched-in .result) (m .with-mark .result) (x .size-of .result)
+    (y .size-of2 .result) (c .before .union .result) (c .union2 .result) (t .touched-in .ensures) one (x .size-of .ensures .0)
+    (y .size-of2 .ensures .0) (c .before .union .ensures) (c .union2 .ensures)
 
 pub with-loop-spec : {M : Type 1} → statement M
 with-loop-spec =
     tie.close (tie.spec
-      (λ c κs. search needs) (λ c κs. search needs) (λ c κs. search needs) with-mark-requires (λ c κs. search needs)
-      (λ c κs. search needs) (λ c. search needs) (λ c. search needs) (λ c κs. search needs) (λ c κs. search needs)
-      returns)
+    (λ c κs. search needs) (λ c κs. search needs) (λ c κs. search needs) with-mark-requires (λ c κs. search needs)
+    (λ c κs. search needs) (λ c. search needs) (λ c. search needs) (λ c κs. search needs) (λ c κs. search needs)
+    returns)

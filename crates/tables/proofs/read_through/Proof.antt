@@ -10,7 +10,8 @@ returns c =
     let b = d .before .before in
     let s = now (b .before .before .before .args .s) in
     rw (c .refusal .ensures)
-    (through-refused s (b .check-table .last .1 .0) (b .check-table .result) (b .check-table .ensures) _ _ _ (d .r .given .1) (c .before .wide .ensures .0))
+    (through-refused s (b .check-table .last .1 .0) (b .check-table .result) (b .check-table .ensures) _ _ _ (d .r .given .1)
+    (c .before .wide .ensures .0))
 
 returns-2 : tie.Need-returns-2
 returns-2 c =
@@ -29,5 +30,5 @@ returns-3 c =
 pub read-through-spec : {M : Type 1} → statement M
 read-through-spec =
     tie.close (tie.spec
-      (λ c κs. search needs) (λ c. search needs) (λ c κs. search needs) (λ c κs. search needs) (λ c. search needs)
-      (λ c κs. search needs) (λ c. search needs) returns returns-2 returns-3)
+    (λ c κs. search needs) (λ c. search needs) (λ c κs. search needs) (λ c κs. search needs) (λ c. search needs)
+    (λ c κs. search needs) (λ c. search needs) returns returns-2 returns-3)

@@ -10,4 +10,4 @@ returns c = (sym (set-out _ _ _ (c .if1 .taken)), refl)
 pub put-byte-spec : {M : Type 1} → statement M
 put-byte-spec =
     tie.close (tie.spec
-      (λ c. search needs) returns (λ c. search needs) (λ c. search needs) (λ c. search needs) (λ c. search needs))
+    (λ c. search needs) returns (λ c. search needs) (λ c. search needs) (λ c. search needs) (λ c. search needs))

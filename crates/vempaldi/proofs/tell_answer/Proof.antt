@@ -22,5 +22,5 @@ returns-4 c = rw (c .before .before .enum-told2 .given .1) (c .write-answer4 .en
 pub tell-answer-spec : {M : Type 1} → statement M
 tell-answer-spec =
     tie.close (tie.spec
-      (λ c. search needs) (λ c κs. search needs) (λ c. search needs) (λ c κs. search needs) (λ c. search needs)
-      (λ c κs. search needs) (λ c. search needs) (λ c κs. search needs) returns returns-2 returns-3 returns-4)
+    (λ c. search needs) (λ c κs. search needs) (λ c. search needs) (λ c κs. search needs) (λ c. search needs)
+    (λ c κs. search needs) (λ c. search needs) (λ c κs. search needs) returns returns-2 returns-3 returns-4)

@@ -1,4 +1,4 @@
-use Rattle.vempaldi.specs.Answers.{reported, Small}
+use Rattle.vempaldi.specs.Answers.{reported, ReportFits}
 use native.Mathlib.Omega.{arith}
 use mathlib.Core.Path.{subst}
 use Rattle.stepping.specs.declared.Report.{Report}
@@ -7,12 +7,16 @@ use Rattle.vempaldi.proofs.tell_report.Statement.{statement}
 use Rattle.vempaldi.proofs.tell_report.Tie as tie
 
 cast-write-report : tie.Need-cast-write-report
-unfolding Small
-cast-write-report c = let z = subst (λ (x : Report). Small x) (c .before .before .r2 .given .1) (c .before .before .before .before .pre) in omega (arith, z .0)
+unfolding ReportFits
+cast-write-report c =
+    let z = subst (λ (x : Report). ReportFits x) (c .before .before .r2 .given .1) (c .before .before .before .before .pre) in
+    omega (arith, z .0)
 
 cast-write-report-2 : tie.Need-cast-write-report-2
-unfolding Small
-cast-write-report-2 c = let z = subst (λ (x : Report). Small x) (c .before .before .r2 .given .1) (c .before .before .before .before .pre) in omega (arith, z .1)
+unfolding ReportFits
+cast-write-report-2 c =
+    let z = subst (λ (x : Report). ReportFits x) (c .before .before .r2 .given .1) (c .before .before .before .before .pre) in
+    omega (arith, z .1)
 
 returns : tie.Need-returns
 unfolding reported
@@ -33,6 +37,6 @@ returns-4 c = rw (c .before .before .enum-told2 .given .1) (c .write-report3 .en
 pub tell-report-spec : {M : Type 1} → statement M
 tell-report-spec =
     tie.close (tie.spec
-      (λ c. search needs) (λ c. search needs) cast-write-report cast-write-report-2 (λ c κs. search needs)
-      (λ c. search needs) (λ c κs. search needs) (λ c. search needs) (λ c κs. search needs) returns returns-2
-      returns-3 returns-4)
+    (λ c. search needs) (λ c. search needs) cast-write-report cast-write-report-2 (λ c κs. search needs)
+    (λ c. search needs) (λ c κs. search needs) (λ c. search needs) (λ c κs. search needs) returns returns-2
+    returns-3 returns-4)

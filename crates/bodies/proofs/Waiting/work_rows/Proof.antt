@@ -15,9 +15,13 @@ abbrev μ-loop : tie.MeasureT-loop
 μ-loop store bases from past i memory w₀ row₀ w row = past - row
 
 loop-holds : tie.Need-loop-holds Inv-loop μ-loop
-loop-holds c = let a = c .before .args in
-    let long : length (a .self .values) ≡ 8 = search needs in
-    (long, rows-start (now (a .bases)) (a .i) (now (a .memory)) (now (a .store)) (a .from) (a .past) (a .self) (c .before .pre .0 .2) (c .before .pre .1 .0) (c .before .pre .1 .1))
+loop-holds c =
+    let a = c .before .args in
+    let long : length (a .self .values) ≡ 8 = search needs in (
+      long,
+      rows-start (now (a .bases)) (a .i) (now (a .memory)) (now (a .store)) (a .from) (a .past) (a .self) (c .before .pre .0 .2)
+          (c .before .pre .1 .0) (c .before .pre .1 .1),
+    )
 
 kind-at-requires : tie.Need-kind-at-requires Inv-loop μ-loop
 kind-at-requires c κs = omega (arith, c .before .before .before .pre .0 .0, c .loop-test .taken)
@@ -29,29 +33,45 @@ value-at-requires : tie.Need-value-at-requires Inv-loop μ-loop
 value-at-requires c κs = omega (arith, c .before .before .before .before .before .pre .0 .0, c .before .before .loop-test .taken)
 
 work-item-requires : tie.Need-work-item-requires Inv-loop μ-loop
-work-item-requires c κs = let a = c .before .before .before .before .before .before .before .args in
-    let l = c .before .before .before .before .before .loop in
-    ((c .before .before .before .before .before .before .before .pre .0 .1, l .inv .0), rw (c .before .value-at .ensures, c .before .before .array-at .ensures, c .before .before .before .kind-at .ensures) (rows-ready (now (a .bases)) (a .i) (now (a .memory)) (now (a .store)) (a .from) (a .past) (a .self) (l .row) (l .w) (l .inv .1) (c .before .before .before .before .loop-test .taken)))
+work-item-requires c κs =
+    let b = c .before .before .before .before .before .before .before in
+    let a = b .args in
+    let l = c .before .before .before .before .before .loop in (
+      (b .pre .0 .1, l .inv .0),
+      rw (c .before .value-at .ensures, c .before .before .array-at .ensures, c .before .before .before .kind-at .ensures)
+          (rows-ready (now (a .bases)) (a .i) (now (a .memory)) (now (a .store)) (a .from) (a .past) (a .self) (l .row) (l .w) (l .inv .1)
+          (c .before .before .before .before .loop-test .taken)),
+    )
 
 add-row : tie.Need-add-row Inv-loop μ-loop
-add-row c = omega (arith, c .before .before .before .before .before .before .before .before .pre .0 .0, c .before .before .before .before .before .loop-test .taken)
+add-row c =
+    omega (arith, c .before .before .before .before .before .before .before .before .pre .0 .0, c .before .before .before .before .before .loop-test .taken)
 
 loop-less : tie.Need-loop-less Inv-loop μ-loop
 loop-less c = omega (arith, c .before .before .before .before .before .loop-test .taken)
 
 loop-again : tie.Need-loop-again Inv-loop μ-loop
-loop-again c = let a = c .before .before .before .before .before .before .before .before .args in
+loop-again c =
+    let a = c .before .before .before .before .before .before .before .before .args in
     let l = c .before .before .before .before .before .before .loop in
-    let z = rw (c .before .before .value-at .ensures, c .before .before .before .array-at .ensures, c .before .before .before .before .kind-at .ensures) at (c .work-item .ensures) in
-    (z .0 .0, rows-next (now (a .bases)) (a .i) (now (a .memory)) (now (a .store)) (a .from) (a .past) (a .self) (l .row) (l .w) (l .inv .1) (c .before .before .before .before .before .loop-test .taken) (record { values = c .work-item .last .0; count = c .work-item .result }) (z .0 .1) (z .1))
+    let z =
+    rw (c .before .before .value-at .ensures, c .before .before .before .array-at .ensures, c .before .before .before .before .kind-at .ensures)
+    at (c .work-item .ensures) in (
+      z .0 .0,
+      rows-next (now (a .bases)) (a .i) (now (a .memory)) (now (a .store)) (a .from) (a .past) (a .self) (l .row) (l .w) (l .inv .1)
+          (c .before .before .before .before .before .loop-test .taken)
+          (record { values = c .work-item .last .0; count = c .work-item .result }) (z .0 .1) (z .1),
+    )
 
 returns : tie.Need-returns Inv-loop μ-loop
-returns c = let a = c .before .before .before .args in
+returns c =
+    let a = c .before .before .before .args in
     let l = c .before .loop in
-    rows-end (now (a .bases)) (a .i) (now (a .memory)) (now (a .store)) (a .from) (a .past) (a .self) (l .row) (l .w) (l .inv .1) (c .loop-test .left)
+    rows-end (now (a .bases)) (a .i) (now (a .memory)) (now (a .store)) (a .from) (a .past) (a .self) (l .row) (l .w) (l .inv .1)
+    (c .loop-test .left)
 
 pub work-rows-spec : {M : Type 1} → statement M
 work-rows-spec =
     tie.close (tie.spec
-      Inv-loop μ-loop loop-holds kind-at-requires array-at-requires value-at-requires work-item-requires add-row
-      loop-less loop-again returns)
+    Inv-loop μ-loop loop-holds kind-at-requires array-at-requires value-at-requires work-item-requires add-row
+    loop-less loop-again returns)

@@ -9,31 +9,53 @@ use Rattle.records.proofs.Summary.advance.Statement.{statement}
 use Rattle.records.proofs.Summary.advance.Tie as tie
 
 with-array-requires : tie.Need-with-array-requires
-with-array-requires c κs = subst (λ (x : Record). Room x (c .before .before .before .args .self)) (c .before .r .given .1) (c .before .before .before .pre)
+with-array-requires c κs =
+    let b = c .before .before .before in
+    subst (λ (x : Record). Room x (b .args .self)) (c .before .r .given .1) (b .pre)
 
 with-loop-requires : tie.Need-with-loop-requires
-with-loop-requires c κs = subst (λ (x : Record). Room x (c .before .before .before .args .self)) (c .before .r2 .given .1) (c .before .before .before .pre)
+with-loop-requires c κs =
+    let b = c .before .before .before in
+    subst (λ (x : Record). Room x (b .args .self)) (c .before .r2 .given .1) (b .pre)
 
 add-with-item : tie.Need-add-with-item
-add-with-item c = let room = subst (λ (x : Record). Room x (c .before .before .before .args .self)) (c .before .enum-told2 .given .1) (c .before .before .before .pre) in omega (arith, room .1)
+add-with-item c =
+    let b = c .before .before .before in
+    let room = subst (λ (x : Record). Room x (b .args .self)) (c .before .enum-told2 .given .1) (b .pre) in
+    omega (arith, room .1)
 
 with-item-requires : tie.Need-with-item-requires
-with-item-requires c κs = let room = subst (λ (x : Record). Room x (c .before .before .before .args .self)) (c .before .enum-told2 .given .1) (c .before .before .before .pre) in room .0
+with-item-requires c κs =
+    let b = c .before .before .before in
+    let room = subst (λ (x : Record). Room x (b .args .self)) (c .before .enum-told2 .given .1) (b .pre) in
+    room .0
 
 add-with-item-2 : tie.Need-add-with-item-2
-add-with-item-2 c = let room = subst (λ (x : Record). Room x (c .before .before .before .args .self)) (c .before .enum-told3 .given .1) (c .before .before .before .pre) in omega (arith, room .1)
+add-with-item-2 c =
+    let b = c .before .before .before in
+    let room = subst (λ (x : Record). Room x (b .args .self)) (c .before .enum-told3 .given .1) (b .pre) in
+    omega (arith, room .1)
 
 with-item-requires-2 : tie.Need-with-item-requires-2
-with-item-requires-2 c κs = let room = subst (λ (x : Record). Room x (c .before .before .before .args .self)) (c .before .enum-told3 .given .1) (c .before .before .before .pre) in room .0
+with-item-requires-2 c κs =
+    let b = c .before .before .before in
+    let room = subst (λ (x : Record). Room x (b .args .self)) (c .before .enum-told3 .given .1) (b .pre) in
+    room .0
 
 sub-with-item : tie.Need-sub-with-item
-sub-with-item c = let room = subst (λ (x : Record). Room x (c .before .before .before .before .before .args .self)) (c .before .before .before .r3 .given .1) (c .before .before .before .before .before .pre) in omega (arith, room .1, c .before .operands-of .ensures)
+sub-with-item c =
+    let b = c .before .before .before .before .before in
+    let room = subst (λ (x : Record). Room x (b .args .self)) (c .before .before .before .r3 .given .1) (b .pre) in
+    omega (arith, room .1, c .before .operands-of .ensures)
 
 add-with-item-3 : tie.Need-add-with-item-3
 add-with-item-3 c = omega (arith, operands-one (c .before .before .before .r3 .given .0 .0), c .before .operands-of .ensures)
 
 with-item-requires-3 : tie.Need-with-item-requires-3
-with-item-requires-3 c κs = let room = subst (λ (x : Record). Room x (c .before .before .before .before .before .args .self)) (c .before .before .before .r3 .given .1) (c .before .before .before .before .before .pre) in room .0
+with-item-requires-3 c κs =
+    let b = c .before .before .before .before .before in
+    let room = subst (λ (x : Record). Room x (b .args .self)) (c .before .before .before .r3 .given .1) (b .pre) in
+    room .0
 
 returns : tie.Need-returns
 unfolding advanced
@@ -66,7 +88,7 @@ returns-7 c = rw (c .enum-told4 .given .1)
 pub advance-spec : {M : Type 1} → statement M
 advance-spec =
     tie.close (tie.spec
-      (λ c. search needs) (λ c. search needs) with-array-requires (λ c. search needs) with-loop-requires
-      (λ c. search needs) add-with-item with-item-requires (λ c. search needs) add-with-item-2 with-item-requires-2
-      (λ c. search needs) (λ c κs. search needs) sub-with-item add-with-item-3 with-item-requires-3
-      (λ c. search needs) returns returns-2 returns-3 returns-4 returns-5 returns-6 returns-7)
+    (λ c. search needs) (λ c. search needs) with-array-requires (λ c. search needs) with-loop-requires
+    (λ c. search needs) add-with-item with-item-requires (λ c. search needs) add-with-item-2 with-item-requires-2
+    (λ c. search needs) (λ c κs. search needs) sub-with-item add-with-item-3 with-item-requires-3
+    (λ c. search needs) returns returns-2 returns-3 returns-4 returns-5 returns-6 returns-7)

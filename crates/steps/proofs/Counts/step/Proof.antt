@@ -1,4 +1,3 @@
-use mathlib.Core.Path.{_≡_}
 use denote.Ref.{now}
 use Rattle.plans.specs.Plans.{settings}
 use Rattle.steps.proofs.Laws.{steps-refused, laid-named, steps-made}
@@ -7,22 +6,29 @@ use Rattle.steps.proofs.Counts.step.Statement.{statement}
 use Rattle.steps.proofs.Counts.step.Tie as tie
 
 returns : tie.Need-returns
-returns c = let a = c .before .before .before .before .before .before .before .args in
+returns c =
+    let a = c .before .before .before .before .before .before .before .args in
     let x = c .before .before .before .plan-for in
-    rw (c .refused .ensures) (steps-refused (now (a .s)) (settings (a .processors)) (a .processor) (x .result) (x .last .1 .1 .1 .0) (x .ensures) (a .self) (now (a .memory)) (c .before .if1 .taken))
+    rw (c .refused .ensures)
+    (steps-refused (now (a .s)) (settings (a .processors)) (a .processor) (x .result) (x .last .1 .1 .1 .0) (x .ensures) (a .self)
+    (now (a .memory)) (c .before .if1 .taken))
 
 step-planned-requires : tie.Need-step-planned-requires
-step-planned-requires c κs = let a = c .before .before .before .before .before .before .before .before .before .args in
+step-planned-requires c κs =
+    let a = c .before .before .before .before .before .before .before .before .before .args in
     let x = c .before .before .before .before .before .plan-for in
-    laid-named (now (a .s)) (settings (a .processors)) (a .processor) (x .result) (x .last .1 .1 .1 .0) (x .ensures) (a .self) (now (a .memory)) (c .before .before .before .if1 .left)
+    laid-named (now (a .s)) (settings (a .processors)) (a .processor) (x .result) (x .last .1 .1 .1 .0) (x .ensures) (a .self)
+    (now (a .memory)) (c .before .before .before .if1 .left)
 
 returns-2 : tie.Need-returns-2
-returns-2 c = let a = c .before .before .before .before .before .before .before .before .before .before .before .before .args in
+returns-2 c =
+    let a = c .before .before .before .before .before .before .before .before .before .before .before .before .args in
     let x = c .before .before .before .before .before .before .before .before .plan-for in
     let y = c .before .before .step-planned in
-    steps-made (now (a .s)) (settings (a .processors)) (a .processor) (x .result) (x .last .1 .1 .1 .0) (x .ensures) (a .self) (now (a .memory)) (c .before .before .before .before .before .before .if1 .left) (y .result) _ (y .ensures .0) (y .ensures .1)
+    steps-made (now (a .s)) (settings (a .processors)) (a .processor) (x .result) (x .last .1 .1 .1 .0) (x .ensures) (a .self)
+    (now (a .memory)) (c .before .before .before .before .before .before .if1 .left) (y .result) _ (y .ensures .0) (y .ensures .1)
 
 pub step-spec : {M : Type 1} → statement M
 step-spec =
     tie.close (tie.spec
-      (λ c κs. search needs) (λ c κs. search needs) returns step-planned-requires (λ c. search needs) returns-2)
+    (λ c κs. search needs) (λ c κs. search needs) returns step-planned-requires (λ c. search needs) returns-2)

@@ -1,0 +1,48 @@
+-- `take_earlier` meets its contract. The invariant: a has what the loops before j require.
+use Prim.Native.Nat.{_-_, _≤_}
+use native.Mathlib.Omega.{arith}
+use denote.Ref.{now}
+use Rattle.order.specs.Lists.{joined}
+use Rattle.model.specs.References.{refs}
+use Rattle.reader.specs.Store.{tableIn}
+use Rattle.amounts.specs.Walked.{Required}
+use Rattle.amounts.proofs.Laws.{count-few, required-no, loops-next, loops-end}
+use Rattle.amounts.proofs.take_earlier.Statement.{statement}
+use Rattle.amounts.proofs.take_earlier.Tie as tie
+
+abbrev Inv-loop : tie.InvT-loop
+Inv-loop store y shifts peels k a₀ j₀ a j = (j ≤ k) × Required shifts peels y (joined j (refs (tableIn store))) a₀ a
+
+abbrev μ-loop : tie.MeasureT-loop
+μ-loop store y shifts peels k a₀ j₀ a j = k - j
+
+loop-holds : tie.Need-loop-holds Inv-loop μ-loop
+loop-holds c = (omega arith, required-no)
+
+take-loop-requires : tie.Need-take-loop-requires Inv-loop μ-loop
+take-loop-requires c κs = let p = c .before .before .pre in (p .0, omega (arith, c .loop-test .taken, p .1), p .2)
+
+add-j : tie.Need-add-j Inv-loop μ-loop
+add-j c = let p = c .before .before .before .pre in omega (arith, c .before .loop-test .taken, p .1, count-few (p .0))
+
+loop-again : tie.Need-loop-again Inv-loop μ-loop
+loop-again c =
+    let l = c .before .before .loop in
+    let a = c .before .before .before .args in (
+      omega (arith, c .before .loop-test .taken),
+      loops-next (now (a .shifts)) (now (a .peels)) (a .y) (tableIn (now (a .store))) (a .before) (l .j) (l .a) _ (l .inv .1)
+          (c .take-loop .ensures),
+    )
+
+returns : tie.Need-returns Inv-loop μ-loop
+returns c =
+    let l = c .before .loop in
+    let b = c .before .before in
+    let a = b .args in
+    loops-end (now (a .shifts)) (now (a .peels)) (a .y) (tableIn (now (a .store))) (a .before) (l .j) (l .a) (l .inv .1)
+    (c .loop-test .left) (omega (arith, l .inv .0, b .pre .1))
+
+pub take-earlier-spec : {M : Type 1} → statement M
+take-earlier-spec =
+    tie.close (tie.spec
+    Inv-loop μ-loop loop-holds take-loop-requires add-j (λ c. omega arith) loop-again returns)

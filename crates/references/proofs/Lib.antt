@@ -1,2 +1,0 @@
--- the walk over the rows of a loop, and over the loops
-pub mod Walks
