@@ -13,7 +13,7 @@ use Rattle.model.specs.declared.Iteration.{Iteration}
 use Rattle.model.specs.Table.{Inside}
 use Rattle.model.specs.References.{allRefs}
 use Rattle.model.specs.PlainRun.{plainRun}
-use Rattle.reader.specs.Reading.{accepted}
+use Rattle.refusals.specs.Answers.{accepted}
 use Rattle.chains.specs.Dependence.{Dependence}
 use Rattle.chains.specs.Tables.{meet-dependence}
 use Rattle.blocks.specs.Sums.{column}

@@ -4,7 +4,7 @@ use mathlib.Core.Path.{_≡_, ap, _∙_}
 use mathlib.Core.List.{List}
 use lib.ListN.{length}
 use lib.Ieee.{Float}
-use Rattle.reader.specs.Reading.{accepted}
+use Rattle.refusals.specs.Answers.{accepted}
 use Rattle.turns.specs.CallersOrder as turns
 use Rattle.plans.specs.Plans.{Settings, Planned, planned}
 use Rattle.iterations.specs.Memory.{remembered, remembered-as-long}

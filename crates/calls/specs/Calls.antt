@@ -9,7 +9,7 @@ use Rattle.order.specs.Rows.{Rows}
 use Rattle.model.specs.declared.Iteration.{Iteration}
 use Rattle.model.specs.Table.{iteration}
 use Rattle.model.specs.Bodies.{run}
-use Rattle.reader.specs.Reading.{accepted}
+use Rattle.refusals.specs.Answers.{accepted}
 use Rattle.lists.specs.Fusion.{rows}
 use Rattle.turns.specs.Follows.{Calls}
 use Rattle.plans.specs.Plans.{Settings, Planned, planned}

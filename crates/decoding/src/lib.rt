@@ -5,27 +5,21 @@ use records::Record;
 use records::Store;
 use records::Summary;
 use records::Tested;
+use refusals::ARRAY;
+use refusals::BODY;
+use refusals::CROWD;
+use refusals::EDGE;
+use refusals::FIELD;
+use refusals::KIND;
+use refusals::Refusal;
+use refusals::TORN;
 ghost use mathlib.Core.Path.{_≡_};
 ghost use Prim.Native.Nat.{_+_, _<_, _≤_};
 ghost use lib.ListN.{length};
+ghost use Rattle.refusals.specs.Refusals.{met};
 ghost use Rattle.records.specs.Bytes.{byte, two, four, offset, kindOf, bodyLength, recordOf};
 ghost use Rattle.records.specs.Grounds.{early, edge, fields, passed, tested};
 ghost use Rattle.records.specs.Clear.{spanOf};
-
-// The grounds that a record can meet, by the paper's words for them.
-const TORN: u32 = 1;
-
-const KIND: u32 = 2;
-
-const FIELD: u32 = 3;
-
-const CROWD: u32 = 4;
-
-const ARRAY: u32 = 5;
-
-const BODY: u32 = 6;
-
-const EDGE: u32 = 7;
 
 // The largest length of an array, count of elements in all, last index, offset (kept with 255 added) and count of a body's items.
 const MOST_LENGTH: u32 = 65536;
@@ -172,7 +166,7 @@ fn edge_ground(first: u32, last: u32, o: u32, n: u32) -> u32
         return EDGE;
     }
     if wide(n) + 255 <= wide(last) + wide(o) {
-        7
+        EDGE
     } else {
         0
     }
@@ -188,7 +182,7 @@ fn array_tests(n: u32, t: Summary, lens: &Store) -> u32
         return FIELD;
     }
     if MOST_ELEMENTS < wide(t.elements) + wide(n) {
-        4
+        CROWD
     } else {
         0
     }
@@ -294,28 +288,36 @@ fn passing(r: Record, n: usize) -> Tested
     }
 }
 
+// A ground that the record at a place meets.
+fn refused(ground: u32, at: usize) -> Tested
+    ensures { λ x. ⌜ x ≡ Tested.Refused (met ground at) ⌝ }
+{
+    let r = Refusal::met(ground, at);
+    Tested::Refused(r)
+}
+
 // Reads one record and tests it; the arrays' lengths are lent.
 pub fn read_record(s: &[u8], at: usize, t: Summary, lens: &Store) -> Tested
     requires { ⌜ t .arrays ≤ 16 ⌝ }
     ensures { λ r. ⌜ r ≡ tested (now (s .entry)) at t (now (lens .entry)) ⌝ }
 {
     if s.len() <= at {
-        return Tested::Refused(TORN);
+        return refused(TORN, at);
     }
     let b = one_at(s, at);
     let k = kind_of(b);
     let g = early_ground(k, t);
     if g != 0 {
-        return Tested::Refused(g);
+        return refused(g, at);
     }
     let n = body_length(b);
     if s.len() < at + 1 + n {
-        return Tested::Refused(TORN);
+        return refused(TORN, at);
     }
     let r = record_of(k, s, at + 1, n);
     let f = fields_ground(r, t, lens);
     if f != 0 {
-        return Tested::Refused(f);
+        return refused(f, at);
     }
     passing(r, at + 1 + n)
 }

@@ -9,7 +9,7 @@ use Rattle.order.specs.Lists.{joined}
 use Rattle.model.specs.Table.{iteration}
 use Rattle.model.specs.declared.Iteration.{Iteration}
 use Rattle.model.specs.References.{allRefs}
-use Rattle.reader.specs.Reading.{AnswerOf, accepted}
+use Rattle.refusals.specs.Answers.{AnswerOf, accepted}
 use Rattle.reader.specs.Store.{loopsIn, tableIn}
 use Rattle.reader.specs.Held.{Held, count-held}
 use Rattle.grounds.specs.Accepted.{Valid}

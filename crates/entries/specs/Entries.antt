@@ -5,7 +5,8 @@ use mathlib.Core.List.{List, [], _∷_}
 use Rattle.order.specs.Lists.{joined}
 use Rattle.model.specs.Table.{Table, count}
 use Rattle.model.specs.declared.Iteration.{Iteration}
-use Rattle.reader.specs.Reading.{accepted, reading}
+use Rattle.refusals.specs.Answers.{accepted}
+use Rattle.reader.specs.Reading.{reading}
 use Rattle.serial.specs.Serial.{table}
 use Rattle.serial.specs.Meeting.{Collides}
 use Rattle.lists.specs.Fusion.{Fusion, work}

@@ -16,7 +16,8 @@ use Rattle.model.specs.declared.Iteration.{Iteration}
 use Rattle.model.specs.declared.Reference.{Reference}
 use Rattle.model.specs.Table.{Item, read, constant, operation, Statement, Loop, Table, noLoop, count, loop, first, last, Inside}
 use Rattle.model.specs.References.{destination, reads, references, refs}
-use Rattle.reader.specs.Reading.{Answer, accepted, refused, reading, loopsOf, tableOf}
+use Rattle.refusals.specs.Answers.{accepted, refused}
+use Rattle.reader.specs.Reading.{Answer, reading, loopsOf, tableOf}
 use Rattle.grounds.specs.Statements.{sum, loops, arrays}
 use Rattle.grounds.specs.Counted.{arrays-counted, elements-counted, loops-counted, Clears, loop-array, few}
 use Rattle.grounds.specs.Trace.{Last, stop, tail, done, reading-ends}
@@ -199,7 +200,7 @@ valid-records rs c end =
 
 abbrev ValidIn : Answer → Type 0
 ValidIn (accepted t) = Valid t
-ValidIn (refused n p) = Unit {0}
+ValidIn (refused r) = Unit {0}
 
 pub accepted-valid : (s : List ℕ) (t : Table) → reading s ≡ accepted t → Valid t
 accepted-valid s t e = let h = reading-ends s (accepted t) e in by (h .place) (h .rs) (accepted t) (h .clears) (h .last)

@@ -8,6 +8,7 @@ use lib.ListN.{length, take}
 use lib.Dec.{eqb, ltb, eqb·suc-zero}
 use lib.Seq.{getD-take, take-all, length-take-le}
 use borrow.Author.Tests.{lt-leb, le-ltb, lt-ltb}
+use Rattle.refusals.specs.Refusals.{met}
 use Rattle.records.specs.declared.Kind.{Kind}
 use Rattle.records.specs.declared.Kind.the-variants as kind
 use Rattle.records.specs.declared.Record.{Record}
@@ -19,7 +20,8 @@ use Rattle.records.specs.History.{summary, lengths}
 use Rattle.records.specs.Grounds.{early, fields, ground, passed, pick, tested}
 use Rattle.records.specs.Clear.{spanOf, span-kind}
 use Rattle.records.specs.Outcome.{passed-whole, ended-whole}
-use Rattle.reader.specs.Reading.{accepted, refused, tableOf, choose, follow, readFrom, reading}
+use Rattle.refusals.specs.Answers.{accepted, refused, _if_else_}
+use Rattle.reader.specs.Reading.{tableOf, follow, readFrom, reading}
 use Rattle.grounds.specs.Places.{after, Records, start, end-length}
 use Rattle.grounds.specs.Counted.{Clears}
 use Rattle.grounds.specs.Trace.{clean-next}
@@ -27,12 +29,12 @@ use Rattle.grounds.specs.Sizes.{near, kind-near, end-near}
 
 -- the tests, by how far they get
 module _ (s : List ℕ) (p : ℕ) (t : Summary) (ns : List ℕ) (there : p < length s) where
-  tested-early : (g : ℕ) → early (kindOf (byte s p)) t ≡ suc g → tested s p t ns ≡ Refused (suc g)
+  tested-early : (g : ℕ) → early (kindOf (byte s p)) t ≡ suc g → tested s p t ns ≡ Refused (met (suc g) p)
   unfolding tested ground
   tested-early g e = simp (lt-leb (length s) p there, e, eqb·suc-zero)
 
   tested-fields : early (kindOf (byte s p)) t ≡ 0 → after s p ≤ length s
-      → tested s p t ns ≡ pick (eqb (fields (recordAt s p) t ns) 0) (passed (recordAt s p) (after s p)) (Refused (fields (recordAt s p) t ns))
+      → tested s p t ns ≡ pick (eqb (fields (recordAt s p) t ns) 0) (passed (recordAt s p) (after s p)) (Refused (met (fields (recordAt s p) t ns) p))
   unfolding tested ground
   tested-fields e fits = rw (lt-leb (length s) p there, e, le-ltb (length s) (after s p) fits)
 
@@ -106,7 +108,7 @@ module _ (s : List ℕ) (n : ℕ) (enough : 2077 ≤ n) (long : n ≤ length s) 
   from-take (suc f) (suc g) p rs before c h l = rw (tested-take p rs before c) (go (λ m r. from-take f g m (r ∷ rs)) (tested s p (summary rs) (lengths rs)) refl)
     where
       past : (m : ℕ) → m < n
-          → choose (ltb m (length (take n s))) (refused 8 m) (accepted (tableOf rs)) ≡ choose (ltb m (length s)) (refused 8 m) (accepted (tableOf rs))
+          → (refused (met 8 m) if ltb m (length (take n s)) else accepted (tableOf rs)) ≡ (refused (met 8 m) if ltb m (length s) else accepted (tableOf rs))
       past m b = rw (lt-ltb m (length (take n s)) (omega (arith, first-n)), lt-ltb m (length s) (omega arith))
 
       go : ((m : ℕ) (r : Record) → Records s m (r ∷ rs) → Clears (r ∷ rs) → length s < m + f → n < m + g

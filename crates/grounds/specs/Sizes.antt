@@ -7,6 +7,7 @@ use mathlib.Core.List.{List}
 use lib.Dec.{eqb, leb, ltb}
 use lib.ListN.{length}
 use borrow.Author.Tests.{leb-false, eqb-true, not-false}
+use Rattle.refusals.specs.declared.Refusal.{Refusal}
 use Rattle.records.specs.declared.Kind.{Kind}
 use Rattle.records.specs.declared.Kind.the-variants as kind
 use Rattle.records.specs.declared.Record.{Record}
@@ -17,7 +18,8 @@ use Rattle.records.specs.History.{summary, lengths, advanced, blank, withArray,
 use Rattle.records.specs.Grounds.{_if_else_, early}
 use Rattle.records.specs.Clear.{Clear, spanOf, span-kind}
 use Rattle.model.specs.Table.{Table}
-use Rattle.reader.specs.Reading.{Answer, accepted, refused, reading}
+use Rattle.refusals.specs.Answers.{accepted, refused}
+use Rattle.reader.specs.Reading.{Answer, reading}
 use Rattle.grounds.specs.Places.{after, Records, start, next, end-length}
 use Rattle.grounds.specs.Counted.{Clears, Few, few}
 use Rattle.grounds.specs.Found.{nothing}
@@ -113,7 +115,7 @@ kind-near s p rs before c e =
 -- THE LONGEST TABLE AND THE FURTHEST PLACE
 abbrev Near : List ℕ → Answer → Type 0
 Near s (accepted t) = length s ≤ 2065
-Near s (refused n p) = p ≤ 2076
+Near s (refused r) = r .place ≤ 2076
 
 last-near : (s : List ℕ) (p : ℕ) (rs : List Record) (a : Answer) → Records s p rs → Clears rs → Last s p rs a → Near s a
 last-near s p rs a before c (stop e z) = near s p rs before c
@@ -125,5 +127,5 @@ last-near s p rs a before c (done w l) =
 pub accepted-length : (s : List ℕ) (t : Table) → reading s ≡ accepted t → length s ≤ 2065
 accepted-length s t e = let h = reading-ends s (accepted t) e in last-near s (h .place) (h .rs) (accepted t) (h .before) (h .clears) (h .last)
 
-pub refused-near : (s : List ℕ) (n p : ℕ) → reading s ≡ refused n p → p ≤ 2076
-refused-near s n p e = let h = reading-ends s (refused n p) e in last-near s (h .place) (h .rs) (refused n p) (h .before) (h .clears) (h .last)
+pub refused-near : (s : List ℕ) (r : Refusal) → reading s ≡ refused r → r .place ≤ 2076
+refused-near s r e = let h = reading-ends s (refused r) e in last-near s (h .place) (h .rs) (refused r) (h .before) (h .clears) (h .last)

@@ -5,12 +5,15 @@ use mathlib.Core.Path.{_≡_, refl, sym, subst, _∙_}
 use mathlib.Core.Logic.{⊎-elim}
 use mathlib.Core.List.{List, []}
 use lib.ListN.{length, getD}
+use Rattle.refusals.specs.declared.Refusal.{Refusal}
+use Rattle.refusals.specs.Refusals.{met}
 use Rattle.records.specs.declared.Record.{Record}
 use Rattle.records.specs.declared.Record.the-variants.{Unknown, Array, Loop, Read, Constant, Operation, End}
 use Rattle.records.specs.Bytes.{recordAt}
 use Rattle.records.specs.History.{summary, lengths}
 use Rattle.records.specs.Clear.{Clear, Within}
-use Rattle.reader.specs.Reading.{Answer, accepted, refused, reading}
+use Rattle.refusals.specs.Answers.{accepted, refused}
+use Rattle.reader.specs.Reading.{Answer, reading}
 use Rattle.model.specs.Table.{Table}
 use Rattle.grounds.specs.Places.{Records, end-length}
 use Rattle.grounds.specs.Statements.{loops, Misplaced, OutOfRange, OneTooMany, ManyElements, Unnumbered, NotOneLeft, NinthOrTooFew}
@@ -22,17 +25,24 @@ use Rattle.grounds.specs.Found.{Found, ground-found, found-ground}
 -- WHERE A READING ENDS, ITS GROUND HOLDS
 abbrev Meaning : List ℕ → Answer → Type 0
 Meaning s (accepted t) = Unit {0}
-Meaning s (refused n p) = Ground n s p
+Meaning s (refused r) = Ground (r .ground) s (r .place) × (r ≡ met (r .ground) (r .place))
 
 meaning : (s : List ℕ) (p : ℕ) (rs : List Record) (a : Answer) → Records s p rs → Clears rs → Last s p rs a → Meaning s a
-meaning s p rs a before c (stop {g} e z) = found-ground s p g (subst (Found s p) e (ground-found s p rs before c)) z
+meaning s p rs a before c (stop {g} e z) = (found-ground s p g (subst (Found s p) e (ground-found s p rs before c)) z, refl)
 meaning s p rs a before c (tail {n} w l) =
-    (p, rs, before, w .there, w .is, omega (arith, w .next, end-length s p (w .is)), l)
+    ((p, rs, before, w .there, w .is, omega (arith, w .next, end-length s p (w .is)), l), refl)
 meaning s p rs a before c (done w l) = tt
 
+refused-meaning : (s : List ℕ) (r : Refusal) → reading s ≡ refused r → Meaning s (refused r)
+refused-meaning s r e = let h = reading-ends s (refused r) e in meaning s (h .place) (h .rs) (refused r) (h .before) (h .clears) (h .last)
+
 -- a refusal with a number is given only where that number's statement holds, at the place that it carries
-pub refused-ground : (s : List ℕ) (n p : ℕ) → reading s ≡ refused n p → Ground n s p
-refused-ground s n p e = let h = reading-ends s (refused n p) e in meaning s (h .place) (h .rs) (refused n p) (h .before) (h .clears) (h .last)
+pub refused-ground : (s : List ℕ) (r : Refusal) → reading s ≡ refused r → Ground (r .ground) s (r .place)
+refused-ground s r e = refused-meaning s r e .0
+
+-- and it names nothing
+pub refused-unnamed : (s : List ℕ) (r : Refusal) → reading s ≡ refused r → r ≡ met (r .ground) (r .place)
+refused-unnamed s r e = refused-meaning s r e .1
 
 -- A RECORD THAT MET NO GROUND IS NO GROUND FOR ANY REFUSAL
 abbrev Refuted : (Record → List Record → Type 0) → List Record → Type 0
@@ -122,11 +132,11 @@ module _ (rs : List Record) (clears : Clears rs) where
 -- A GROUND HOLDS AT NO PLACE BEFORE THAT OF THE REFUSAL, and with a table at none
 abbrev NotBefore : Answer → ℕ → Type 0
 NotBefore (accepted t) q = ⊥
-NotBefore (refused n p) q = p ≤ q
+NotBefore (refused r) q = r .place ≤ q
 
 not-before : (a : Answer) (p q : ℕ) → p ≤ q → Earlier a p → NotBefore a q
 not-before (accepted t) p q h e = e
-not-before (refused n k) p q h e = omega arith
+not-before (refused r) p q h e = omega arith
 
 module _ (s : List ℕ) (a : Answer) (run : Run s 0 [] a) (q : ℕ) where
   -- at a place where no record could have met no ground
@@ -181,15 +191,15 @@ none-accepted s none = go (reading s) refl
   where
     go : (a : Answer) → reading s ≡ a → (t : Table) × (reading s ≡ accepted t)
     go (accepted t) e = (t, e)
-    go (refused n p) e = absurd (none n p (refused-ground s n p e))
+    go (refused r) e = absurd (none (r .ground) (r .place) (refused-ground s r e))
 
 -- a refusal carries the first place where any of the grounds 1 to 8 holds
-pub refused-first : (s : List ℕ) (n p : ℕ) → reading s ≡ refused n p → (m q : ℕ) → Ground m s q → p ≤ q
-refused-first s n p e m q g = ground-not-before s (refused n p) (subst (Run s 0 []) e (run-reading s)) q m g
+pub refused-first : (s : List ℕ) (r : Refusal) → reading s ≡ refused r → (m q : ℕ) → Ground m s q → r .place ≤ q
+refused-first s r e m q g = ground-not-before s (refused r) (subst (Run s 0 []) e (run-reading s)) q m g
 
 -- its number is 1 to 8, and its place is in the input or just past it
-pub refused-number : (s : List ℕ) (n p : ℕ) → reading s ≡ refused n p → (1 ≤ n) × (n ≤ 8)
-refused-number s n p e = ground-number s n p (refused-ground s n p e)
+pub refused-number : (s : List ℕ) (r : Refusal) → reading s ≡ refused r → (1 ≤ r .ground) × (r .ground ≤ 8)
+refused-number s r e = ground-number s (r .ground) (r .place) (refused-ground s r e)
 
-pub refused-place : (s : List ℕ) (n p : ℕ) → reading s ≡ refused n p → p ≤ length s
-refused-place s n p e = ground-place s n p (refused-ground s n p e)
+pub refused-place : (s : List ℕ) (r : Refusal) → reading s ≡ refused r → r .place ≤ length s
+refused-place s r e = ground-place s (r .ground) (r .place) (refused-ground s r e)

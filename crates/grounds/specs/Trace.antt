@@ -8,6 +8,7 @@ use mathlib.Core.List.{List, [], _∷_}
 use lib.ListN.{length}
 use lib.Dec.{ltb}
 use borrow.Author.Tests.{ltb-true, ltb-false}
+use Rattle.refusals.specs.Refusals.{met}
 use Rattle.records.specs.declared.Record.{Record}
 use Rattle.records.specs.declared.Record.the-variants.{Unknown, End}
 use Rattle.records.specs.declared.Tested.{Tested}
@@ -20,7 +21,8 @@ use Rattle.records.specs.Outcome.{Whole, passed-whole, ended-whole}
 use Rattle.records.specs.Outcome.{refused-ground as tested-ground}
 use Rattle.grounds.specs.Places.{after, Records, start, next}
 use Rattle.grounds.specs.Counted.{Clears}
-use Rattle.reader.specs.Reading.{Answer, accepted, refused, tableOf, choose, follow, readFrom, reading}
+use Rattle.refusals.specs.Answers.{accepted, refused, _if_else_}
+use Rattle.reader.specs.Reading.{Answer, tableOf, follow, readFrom, reading}
 
 -- after the records rs: a whole record at p that meets no ground, up to n
 abbrev pub Clean : List ℕ → ℕ → List Record → Record → ℕ → Type 0
@@ -28,8 +30,8 @@ Clean s p rs r n = Whole s p (summary rs) (lengths rs) r n
 
 -- at p, after the records rs, the reading of s ends with an answer: at a ground, at bytes past the end record, or with a table
 pub data Last (s : List ℕ) : ℕ → List Record → Answer → Type 0 where
-  stop : {p g : ℕ} {rs : List Record} → ground s p (summary rs) (lengths rs) ≡ g → (g ≡ 0 → ⊥) → Last s p rs (refused g p)
-  tail : {p n : ℕ} {rs : List Record} → Clean s p rs End n → n < length s → Last s p rs (refused 8 n)
+  stop : {p g : ℕ} {rs : List Record} → ground s p (summary rs) (lengths rs) ≡ g → (g ≡ 0 → ⊥) → Last s p rs (refused (met g p))
+  tail : {p n : ℕ} {rs : List Record} → Clean s p rs End n → n < length s → Last s p rs (refused (met 8 n))
   done : {p n : ℕ} {rs : List Record} → Clean s p rs End n → length s ≤ n → Last s p rs (accepted (tableOf rs))
 
 -- from p on it passes records that meet no ground, and ends with an answer
@@ -42,13 +44,15 @@ unfolding readFrom follow
 run-from zero s p rs h l = absurd (omega arith)
 run-from (suc f) s p rs h l = go (λ n r. run-from f s n (r ∷ rs)) (tested s p (summary rs) (lengths rs)) refl
   where
-    ended : (n : ℕ) → Clean s p rs End n → (b : Bool) → ltb n (length s) ≡ b → Run s p rs (choose b (refused 8 n) (accepted (tableOf rs)))
+    ended : (n : ℕ) → Clean s p rs End n → (b : Bool) → ltb n (length s) ≡ b → Run s p rs (refused (met 8 n) if b else accepted (tableOf rs))
     ended n w true e = last (tail w (ltb-true _ _ e))
     ended n w false e = last (done w (ltb-false _ _ e))
 
     go : ((n : ℕ) (r : Record) → n ≤ length s → length s < n + f → Run s n (r ∷ rs) (readFrom f s n (r ∷ rs)))
         → (x : Tested) → tested s p (summary rs) (lengths rs) ≡ x → Run s p rs (follow s p rs (λ r n. readFrom f s n (r ∷ rs)) x)
-    go rest (Refused g) e = let (is, some) = tested-ground s p (summary rs) (lengths rs) g e in last (stop is some)
+    go rest (Refused r) e =
+        let (is, some) = tested-ground s p (summary rs) (lengths rs) r e in
+        rw is (last (stop refl (rw is at some)))
     go rest (Passed r n) e =
         let (w, o) = passed-whole s p (summary rs) (lengths rs) r n e in
         pass w o (rest n r (w .fits) (omega (arith, w .next)))
@@ -86,11 +90,11 @@ reading-ends s a e = subst (Ending s) e (end-of s 0 [] (reading s) start tt (run
 -- a place after records is one that the reading comes to, or it ends earlier
 abbrev pub Earlier : Answer → ℕ → Type 0
 Earlier (accepted t) p = ⊥
-Earlier (refused g q) p = q < p
+Earlier (refused r) p = r .place < p
 
 later : (a : Answer) (p q : ℕ) → p ≤ q → Earlier a p → Earlier a q
 later (accepted t) p q h e = e
-later (refused g k) p q h e = omega arith
+later (refused r) p q h e = omega arith
 
 pub visited : (s : List ℕ) (a : Answer) → Run s 0 [] a → (p : ℕ) (rs : List Record) → Records s p rs → (Run s p rs a × Clears rs) ⊎ Earlier a p
 visited s a run p rs start = inl (run, tt)

@@ -13,7 +13,7 @@ use Rattle.model.specs.declared.Iteration.{Iteration}
 use Rattle.model.specs.Table.{Statement, Table, loop, count, first, last, iteration}
 use Rattle.model.specs.Bodies.{place, value, performed, run}
 use Rattle.model.specs.PlainRun.{upward, looped, plainRun}
-use Rattle.reader.specs.Reading.{AnswerOf, accepted, refused, choose}
+use Rattle.refusals.specs.Answers.{AnswerOf, accepted, refused, _if_else_}
 use Rattle.grounds.specs.Statements.{sum}
 
 -- how many elements the arrays have in all

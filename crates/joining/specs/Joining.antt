@@ -9,7 +9,8 @@ use lib.Seq.{length-take-le}
 use lib.Dec.{eqb, ltb}
 use borrow.Author.Tests.{eqb-true, eq-eqb, ltb-false, not-false}
 use Rattle.model.specs.Table.{Table, count}
-use Rattle.reader.specs.Reading.{AnswerOf, Answer, accepted}
+use Rattle.refusals.specs.Answers.{AnswerOf, accepted}
+use Rattle.reader.specs.Reading.{Answer}
 use Rattle.serial.specs.Serial.{table}
 use Rattle.outputs.specs.Given.{Given, refused, written, _if_else_, after, fitted, refused-written, passed}
 

@@ -16,7 +16,8 @@ use Rattle.records.specs.Outcome.{Whole}
 use Rattle.records.specs.Same.{Same, whole-same, record-length}
 use Rattle.model.specs.Table.{Table, noLoop, count, loop}
 use Rattle.model.specs.Table.{Loop as LoopOf}
-use Rattle.reader.specs.Reading.{accepted, reading, tableOf, loopsOf}
+use Rattle.refusals.specs.Answers.{accepted}
+use Rattle.reader.specs.Reading.{reading, tableOf, loopsOf}
 use Rattle.reader.specs.Accepting.{Rest, ended, passed, rest-there, rest-accepted, accepted-rest, arrays-counted, loops-counted}
 use Rattle.serial.specs.declared.Collision.the-variants.{Nothing}
 use Rattle.serial.specs.Serial.{table, loopHit}

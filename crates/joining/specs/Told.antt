@@ -3,7 +3,8 @@ use Prim.Native.Nat.{ℕ}
 use mathlib.Core.Path.{_≡_}
 use mathlib.Core.List.{List}
 use Rattle.model.specs.Table.{Table}
-use Rattle.reader.specs.Reading.{AnswerOf, accepted, reading}
+use Rattle.refusals.specs.Answers.{AnswerOf, accepted}
+use Rattle.reader.specs.Reading.{reading}
 use Rattle.reader.specs.Store.{tableIn}
 use Rattle.reader.specs.Held.{Held}
 use Rattle.serial.specs.Serial.{table}

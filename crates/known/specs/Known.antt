@@ -12,7 +12,8 @@ use Rattle.records.specs.History.{operands, withArray, withLoop, withItem, adva
 use Rattle.model.specs.Table.{count}
 use Rattle.model.specs.References.{allRefs}
 use Rattle.model.specs.Bodies.{binary, combined, applied, worked, workedAll, value, performed}
-use Rattle.reader.specs.Reading.{AnswerOf, accepted, refused, loopsOf, follow, readFrom, reading}
+use Rattle.refusals.specs.Answers.{AnswerOf, accepted, refused}
+use Rattle.reader.specs.Reading.{loopsOf, follow, readFrom, reading}
 use Rattle.serial.specs.Serial.{collides, hit, loopHit, serialFrom, through, table}
 use Rattle.chains.specs.Dependence.{dependence}
 use Rattle.chains.specs.Walk.{required, raised, walk, numbers, shifts, peels}

@@ -1,49 +1,50 @@
--- Bytes into lent ones, or 13: what code that writes them tells and leaves. Assumes nothing.
+-- What code that gives bytes tells and leaves. Assumes nothing.
 use Prim.Native.Nat.{ℕ, _≤_, _<_}
-use native.Mathlib.Omega.{arith}
-use mathlib.Core.Path.{_≡_, refl}
-use mathlib.Core.Bool.{Bool, true, false}
+use mathlib.Core.Path.{_≡_, refl, sym, ap, subst}
 use mathlib.Core.List.{List, _++_}
-use lib.Dec.{ltb}
 use lib.ListN.{length, drop}
 use borrow.Author.Tests.{lt-ltb, le-ltb}
+use Rattle.refusals.specs.declared.Refusal.{Refusal}
+use Rattle.refusals.specs.Refusals.{met, none}
+use Rattle.refusals.specs.Answers.{AnswerOf, accepted, refused, after, refusalOf}
 use Rattle.outputs.specs.declared.Outcome.{Outcome}
-use Rattle.outputs.specs.Given.{Given, refused, written, _if_else_, fitted, final, numberOf, placeOf, countOf, Says}
+use Rattle.outputs.specs.Given.{Given, fitted, final, countOf}
 
 -- the outcome of a refusal, and of n bytes written
-abbrev pub refusing : ℕ → ℕ → ℕ → Outcome
-refusing number place read = record { number = number; place = place; read = read; written = 0 }
+abbrev pub refusing : Refusal → Outcome
+refusing r = record { refusal = r; written = 0 }
 
 abbrev pub writing : ℕ → Outcome
-writing n = record { number = 0; place = 0; read = 0; written = n }
+writing n = record { refusal = none; written = n }
 
--- that of what is given, where no read is named
+-- that of what is given
 abbrev pub outcomeOf : Given → Outcome
-outcomeOf g = record { number = numberOf g; place = placeOf g; read = 0; written = countOf g }
+outcomeOf g = record { refusal = refusalOf g; written = countOf g }
 
--- the bytes bs, or 13 where they don't fit: what is told, and what is left of the lent bytes
-pub record Gives (bs out left : List ℕ) (o : Outcome) : Type 0 where
-  pub tells : o ≡ outcomeOf (fitted (length out) bs)
-  pub leaves : left ≡ final (fitted (length out) bs) out
+-- g is given: what is told of it, and what is left of the lent bytes
+pub record Gives (g : Given) (out left : List ℕ) (o : Outcome) : Type 0 where
+  pub tells : o ≡ outcomeOf g
+  pub leaves : left ≡ final g out
 
 -- LAWS
-pub says-given : (o : Outcome) (g : Given) → o ≡ outcomeOf g → Says o g
-says-given o g e = rw e (record { number = refl; place = refl; count = refl })
+pub gives-refused : (g : Given) (out : List ℕ) (r : Refusal) → g ≡ refused r → Gives g out out (refusing r)
+unfolding final
+gives-refused g out r e = rw e (record { tells = refl; leaves = refl })
+
+-- what follows an answer that refuses, and one that accepts
+module _ {T : Type 0} (a : AnswerOf T) (more : T → Given) (out : List ℕ) where
+  pub after-refuses : (r : Refusal) → a ≡ refused r → Gives (after a more) out out (refusing r)
+  after-refuses r e = gives-refused (after a more) out r (ap (λ (x : AnswerOf T). after x more) e)
+
+  pub after-gives : (t : T) → a ≡ accepted t → (left : List ℕ) (o : Outcome) → Gives (more t) out left o → Gives (after a more) out left o
+  after-gives t e left o g = subst (λ (x : AnswerOf T). Gives (after x more) out left o) (sym e) g
 
 -- bytes that don't fit, and bytes that do
-pub gives-short : (bs out : List ℕ) → length out < length bs → Gives bs out out (refusing 13 0 0)
-unfolding fitted final
-gives-short bs out l = let e = lt-ltb (length out) (length bs) l in record { tells = rw e; leaves = rw e refl }
+pub gives-short : (bs out : List ℕ) → length out < length bs → Gives (fitted (length out) bs) out out (refusing (met 13 0))
+unfolding fitted
+gives-short bs out l = gives-refused (fitted (length out) bs) out (met 13 0) (rw (lt-ltb (length out) (length bs) l))
 
-pub gives-written : (bs out left : List ℕ) (n : ℕ) → length bs ≤ length out → n ≡ length bs → left ≡ bs ++ drop (length bs) out → Gives bs out left (writing n)
+pub gives-written : (bs out left : List ℕ) (n : ℕ) → length bs ≤ length out → n ≡ length bs → left ≡ bs ++ drop (length bs) out
+    → Gives (fitted (length out) bs) out left (writing n)
 unfolding fitted final
 gives-written bs out left n l e f = let g = le-ltb (length out) (length bs) l in record { tells = rw (g, e); leaves = rw g f }
-
--- the number is 13 or 0, and never 9, with which alone a read is named
-pub never-nine : (room : ℕ) (bs : List ℕ) → numberOf (fitted room bs) ≡ 9 → ⊥
-unfolding fitted
-never-nine room bs = go (ltb room (length bs))
-  where
-    go : (b : Bool) → numberOf (refused 13 0 if b else written bs) ≡ 9 → ⊥
-    go true z = omega (arith, z)
-    go false z = omega (arith, z)

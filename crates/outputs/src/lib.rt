@@ -1,38 +1,40 @@
 // What a call tells of what it gives in lent bytes. The definitions are in specs/.
+use refusals::BUFFER;
+use refusals::Refusal;
 ghost use mathlib.Core.Path.{_≡_};
+ghost use Rattle.refusals.specs.Refusals.{met};
 ghost use Rattle.outputs.specs.Gives.{refusing, writing};
 
-// Ground 13: the lent bytes are too few.
-pub const BUFFER: usize = 13;
-
-// The number of the refusal, 0 for none; its place; the read that 9 names, else 0; how many bytes are written.
+// The refusal, and how many bytes are written.
 pub struct Outcome {
-    pub number: usize,
-    pub place: usize,
-    pub read: usize,
+    pub refusal: Refusal,
     pub written: usize,
 }
 
 // Nothing is written.
-pub fn refusal(number: usize, place: usize, read: usize) -> Outcome
-    ensures { λ r. ⌜ r ≡ refusing number place read ⌝ }
+pub fn refused(r: Refusal) -> Outcome
+    ensures { λ o. ⌜ o ≡ refusing r ⌝ }
 {
     Outcome {
-        number,
-        place,
-        read,
+        refusal: r,
         written: 0,
     }
 }
 
+// 13: the lent bytes are too few.
+pub fn short() -> Outcome
+    ensures { λ o. ⌜ o ≡ refusing (met 13 0) ⌝ }
+{
+    refused(Refusal::met(BUFFER, 0))
+}
+
 // No refusal, and n bytes.
 pub fn written(n: usize) -> Outcome
-    ensures { λ r. ⌜ r ≡ writing n ⌝ }
+    ensures { λ o. ⌜ o ≡ writing n ⌝ }
 {
+    let r = Refusal::none();
     Outcome {
-        number: 0,
-        place: 0,
-        read: 0,
+        refusal: r,
         written: n,
     }
 }

@@ -10,7 +10,8 @@ use lib.Ieee.{Float}
 use Rattle.model.specs.Table.{Table, count, first, last, iteration, Inside}
 use Rattle.model.specs.Bodies.{run}
 use Rattle.model.specs.PlainRun.{upward, looped, plainRun, upward-turn, upward-ended}
-use Rattle.reader.specs.Reading.{Answer, accepted, refused}
+use Rattle.refusals.specs.Answers.{accepted, refused}
+use Rattle.reader.specs.Reading.{Answer}
 use Rattle.reader.specs.Store.{firstAt, lastAt, loopsIn, tableIn}
 use Rattle.reader.specs.Held.{Held, count-held, first-held, last-held}
 use Rattle.serial.specs.Serial.{table}

@@ -7,7 +7,8 @@ use lib.ListN.{length}
 use lib.Ieee.{Float}
 use Rattle.model.specs.Table.{Table}
 use Rattle.model.specs.PlainRun.{plainRun}
-use Rattle.reader.specs.Reading.{Answer, accepted, refused}
+use Rattle.refusals.specs.Answers.{accepted, refused}
+use Rattle.reader.specs.Reading.{Answer}
 use Rattle.serial.specs.Serial.{table}
 use Rattle.iterations.specs.Memory.{total, remembered}
 

@@ -8,7 +8,7 @@ ghost use Prim.Native.Nat.{_<_};
 ghost use lib.ListN.{length};
 ghost use Rattle.model.specs.Table.{count};
 ghost use Rattle.model.specs.PlainRun.{looped, plainRun};
-ghost use Rattle.reader.specs.Reading.{accepted};
+ghost use Rattle.refusals.specs.Answers.{accepted};
 ghost use Rattle.reader.specs.Store.{tableIn};
 ghost use Rattle.reader.specs.Held.{Held};
 ghost use Rattle.grounds.specs.Accepted.{Valid};

@@ -7,7 +7,8 @@ use mathlib.Core.List.{List}
 use lib.ListN.{length}
 use Rattle.model.specs.Table.{count, first, last}
 use Rattle.model.specs.References.{allRefs}
-use Rattle.reader.specs.Reading.{Answer, accepted, refused, choose}
+use Rattle.refusals.specs.Answers.{accepted, refused, _if_else_}
+use Rattle.reader.specs.Reading.{Answer}
 use Rattle.reader.specs.Store.{firstAt, lastAt, loopsIn, tableIn}
 use Rattle.reader.specs.Held.{Held, count-held, first-held, last-held}
 use Rattle.serial.specs.Serial.{table}

@@ -10,7 +10,8 @@ use borrow.Author.Tests.{eqb-false, ltb-false, leb-false, lt-leb, le-leb}
 use Rattle.model.specs.Table.{Table, count, first, last}
 use Rattle.model.specs.References.{allRefs}
 use Rattle.model.specs.Sound.{Sound}
-use Rattle.reader.specs.Reading.{Answer, accepted, refused, choose}
+use Rattle.refusals.specs.Answers.{accepted, refused, _if_else_}
+use Rattle.reader.specs.Reading.{Answer}
 use Rattle.serial.specs.Serial.{table}
 use Rattle.grounds.specs.Accepted.{Valid, accepted-valid, valid-last}
 use Rattle.tables.specs.Nine.{accepted-read, accepted-sound}

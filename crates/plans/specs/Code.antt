@@ -3,7 +3,7 @@ use Prim.Native.Nat.{ℕ}
 use mathlib.Core.Path.{_≡_}
 use mathlib.Core.List.{List}
 use lib.ListN.{length, replicate}
-use Rattle.reader.specs.Reading.{AnswerOf, accepted}
+use Rattle.refusals.specs.Answers.{AnswerOf, accepted}
 use Rattle.reader.specs.Store.{tableIn}
 use Rattle.reader.specs.Held.{Held}
 use Rattle.tables.specs.Verdict.{Tells, numberOf, placeOf}

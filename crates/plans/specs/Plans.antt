@@ -6,7 +6,8 @@ use lib.Dec.{eqb, ltb, leb}
 use lib.ListN.{getD}
 use Rattle.model.specs.Table.{Table}
 use Rattle.model.specs.References.{allRefs}
-use Rattle.reader.specs.Reading.{Answer, AnswerOf, accepted, refused, choose}
+use Rattle.refusals.specs.Answers.{AnswerOf, accepted, refused, _if_else_}
+use Rattle.reader.specs.Reading.{Answer}
 use Rattle.serial.specs.Serial.{table}
 use Rattle.chains.specs.Walk.{shifts, peels}
 use Rattle.chains.specs.Threshold.{threshold}

@@ -4,7 +4,7 @@ use native.Mathlib.Omega.{arith}
 use mathlib.Core.Path.{_≡_, sym, ap, subst, _∙_}
 use mathlib.Core.List.{List, [], _++_}
 use lib.ListN.{length}
-use Rattle.reader.specs.Reading.{AnswerOf, accepted, refused}
+use Rattle.refusals.specs.Answers.{AnswerOf, accepted, refused}
 use Rattle.reader.specs.Store.{tableIn}
 use Rattle.lists.specs.Fusion.{fusionIn}
 use Rattle.tables.specs.Verdict.{numberOf, placeOf}

@@ -2,7 +2,7 @@
 use Prim.Native.Nat.{ℕ, _≤_}
 use mathlib.Core.List.{List}
 use lib.ListN.{length}
-use Rattle.reader.specs.Reading.{AnswerOf, accepted, refused}
+use Rattle.refusals.specs.Answers.{AnswerOf, accepted, refused}
 use Rattle.plans.specs.Plans.{Settings, Planned, planned}
 use Rattle.sweeps.specs.Sweeps.{before, after}
 use Rattle.listing.specs.Listing.{listing, refusal}

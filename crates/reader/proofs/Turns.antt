@@ -14,11 +14,14 @@ use Rattle.records.specs.declared.Tested.the-variants as found
 use Rattle.records.specs.History.{summary, lengths, advanced, blank}
 use Rattle.records.specs.Grounds.{tested}
 use Rattle.records.specs.Clear.{Room, clear-room}
-use Rattle.records.specs.Outcome.{Whole, passed-whole, tested-same}
-use Rattle.reader.specs.declared.Reading.the-variants.{Refused, Accepted}
-use Rattle.reader.specs.Reading.{accepted, follow, readFrom, reading, tableOf}
-use Rattle.reader.specs.Store.{Sized, startAt, answer, kept, rowsAfter, tableAt, withCounts, Places, ArrayFits}
-use Rattle.reader.specs.Stored.{Stored, InPlace, Filled, stored-all, stored-start, kept-small, kept-stored, counted-table, counted-holds}
+use Rattle.records.specs.Outcome.{Whole, refused-ground, passed-whole, tested-same}
+use Rattle.refusals.specs.declared.Refusal.{Refusal}
+use Rattle.refusals.specs.Refusals.{met, none}
+use Rattle.refusals.specs.Answers.{accepted}
+use Rattle.reader.specs.Reading.{follow, readFrom, reading, tableOf}
+use Rattle.reader.specs.Store.{Sized, startAt, kept, rowsAfter, tableAt, withCounts, Places, ArrayFits}
+use Rattle.reader.specs.ReadInto.{ReadInto, into-refused, into-accepted}
+use Rattle.reader.specs.Stored.{Stored, InPlace, stored-all, stored-start, kept-small, kept-stored, counted-table, counted-holds}
 
 -- the records before `at` have been read, and the rest from there gives the whole reading
 pub record Inv (s : List ℕ) (c : List ℕ) (t : Summary) (at rows : ℕ) : Type 0 where
@@ -62,18 +65,21 @@ module _ (s : List ℕ) (c : List ℕ) (t : Summary) (at rows : ℕ) (inv : Inv 
     unfolding readFrom
     turn y e = let f : left ≡ suc (left - 1) = omega arith in rw (find, e) at (subst (λ (n : ℕ). readFrom n s at rs ≡ reading s) f rest)
 
-    pub turn-refused : (g : ℕ) → x ≡ found.Refused g → answer (Refused g at) c ≡ reading s
-    unfolding answer follow
-    turn-refused g e = turn (found.Refused g) e
+    pub turn-refused : (r : Refusal) → x ≡ found.Refused r → ReadInto (reading s) r c
+    unfolding follow
+    turn-refused r e =
+        into-refused (reading s) c r (sym (turn (found.Refused r) e)) (refused-ground s at (summary rs) (lengths rs) r (find ∙ e) .1)
 
-    pub turn-tail : (n : ℕ) → x ≡ found.Ended n → n < length s → answer (Refused 8 n) c ≡ reading s
-    unfolding answer follow
-    turn-tail n e l = rw (lt-ltb _ _ l) at (turn (found.Ended n) e)
+    pub turn-tail : (n : ℕ) → x ≡ found.Ended n → n < length s → ReadInto (reading s) (met 8 n) c
+    unfolding follow
+    turn-tail n e l = into-refused (reading s) c (met 8 n) (sym (rw (lt-ltb _ _ l) at (turn (found.Ended n) e))) (λ z. omega arith)
 
-    pub turn-ended : (n : ℕ) (d : List ℕ) → x ≡ found.Ended n → length s ≤ n → d ≡ withCounts (t .arrays) (t .loops) c
-        → (answer Accepted d ≡ reading s) × Filled Accepted d
-    unfolding answer follow
-    turn-ended n d e h f = rw f (ap accepted (counted-table c (t .arrays) (t .loops) rows (stored .sized) here-kept ∙ table) ∙ rw (le-ltb _ _ h) at (turn (found.Ended n) e), counted-holds c (t .arrays) (t .loops) rows (stored .sized) here-kept)
+    pub turn-ended : (n : ℕ) (d : List ℕ) → x ≡ found.Ended n → length s ≤ n → d ≡ withCounts (t .arrays) (t .loops) c → ReadInto (reading s) none d
+    unfolding follow
+    turn-ended n d e h f =
+        rw f (into-accepted (reading s) (withCounts (t .arrays) (t .loops) c)
+        (sym (rw (le-ltb _ _ h) at (turn (found.Ended n) e)) ∙ ap accepted (sym (counted-table c (t .arrays) (t .loops) rows (stored .sized) here-kept ∙ table)))
+        (counted-holds c (t .arrays) (t .loops) rows (stored .sized) here-kept))
       where
         here-kept : InPlace c (t .arrays) (t .loops) rows
         here-kept = rw summed (stored .kept)

@@ -17,7 +17,9 @@ use Rattle.records.specs.Outcome.{Whole, passed-whole, ended-whole}
 use Rattle.records.specs.Passing.{whole-passed, whole-ended}
 use Rattle.records.specs.Same.{record-length}
 use Rattle.model.specs.Table.{Item, read, constant, operation, Table}
-use Rattle.reader.specs.Reading.{accepted, refused, choose, follow, readFrom, reading, tableOf, loopsOf}
+use Rattle.refusals.specs.Refusals.{met}
+use Rattle.refusals.specs.Answers.{accepted, refused, _if_else_, not-both}
+use Rattle.reader.specs.Reading.{follow, readFrom, reading, tableOf, loopsOf}
 
 -- from a place on, after the records rs: all is what has been read where the reading ends
 pub data Rest (s : List ℕ) : ℕ → List Record → List Record → Type 0 where
@@ -49,16 +51,13 @@ rest-accepted s all h = rest-from s 0 [] all h (suc (length s)) (omega arith)
 abbrev Gone : List ℕ → ℕ → List Record → Table → Type 0
 Gone s at rs t = (all : List Record) × Rest s at rs all × (t ≡ tableOf all)
 
-pub not-both : {g p : ℕ} {t : Table} → refused g p ≡ accepted t → ⊥
-not-both e = let z : _≡_ {A = ℕ} 0 1 = cc in omega arith
-
 from-rest : (f : ℕ) (s : List ℕ) (at : ℕ) (rs : List Record) (t : Table) → readFrom f s at rs ≡ accepted t → Gone s at rs t
 unfolding readFrom follow
 from-rest zero s at rs t e = absurd (not-both e)
 from-rest (suc f) s at rs t e = go (λ r n. from-rest f s n (r ∷ rs) t) (tested s at (summary rs) (lengths rs)) refl e
   where
     end : (n : ℕ) → Whole s at (summary rs) (lengths rs) End n → (b : Bool) → ltb n (length s) ≡ b
-        → choose b (refused 8 n) (accepted (tableOf rs)) ≡ accepted t → Gone s at rs t
+        → (refused (met 8 n) if b else accepted (tableOf rs)) ≡ accepted t → Gone s at rs t
     end n w true l h = absurd (not-both h)
     end n w false l h =
         let m : n ≡ length s = omega (arith, ltb-false n (length s) l, w .fits) in

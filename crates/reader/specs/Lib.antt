@@ -6,5 +6,7 @@ pub mod Store
 pub mod Stored
 -- what is known of a store that holds a table, field by field
 pub mod Held
+-- what code tells of a reading, and what it leaves in the store
+pub mod ReadInto
 -- how a reading that accepts goes
 pub mod Accepting

@@ -1,9 +1,10 @@
 -- The reading of a table: records from left to right, each tested after those before it.
 use Prim.Native.Nat.{ℕ, zero, suc}
-use mathlib.Core.Bool.{Bool, true, false}
 use mathlib.Core.List.{List, [], _∷_, _++_}
 use lib.ListN.{length}
 use lib.Dec.{ltb}
+use Rattle.refusals.specs.Refusals.{met}
+use Rattle.refusals.specs.Answers.{AnswerOf, accepted, refused, _if_else_}
 use Rattle.records.specs.declared.Record.{Record}
 use Rattle.records.specs.declared.Record.the-variants.{Unknown, Array, Loop, Read, Constant, Operation, End}
 use Rattle.records.specs.declared.Tested.{Tested}
@@ -29,27 +30,18 @@ loopsOf (End ∷ rs) xs = loopsOf rs xs
 abbrev pub tableOf : List Record → Table
 tableOf rs = record { lengths = lengths rs; loops = loopsOf rs [] }
 
--- what was asked for, or a refusal with its number and its place
-pub data AnswerOf (T : Type 0) : Type 0 where
-  accepted : T → AnswerOf T
-  refused : (number place : ℕ) → AnswerOf T
-
 abbrev pub Answer : Type 0
 Answer = AnswerOf Table
 
-abbrev pub choose : {T : Type 0} → Bool → AnswerOf T → AnswerOf T → AnswerOf T
-choose true a b = a
-choose false a b = b
-
 -- after the tests of the record at a place: a ground refuses there; past the end record bytes left over are 8
 unfoldable pub follow : List ℕ → ℕ → List Record → (Record → ℕ → Answer) → Tested → Answer
-follow s at rs more (Refused g) = refused g at
+follow s at rs more (Refused r) = refused r
 follow s at rs more (Passed r n) = more r n
-follow s at rs more (Ended n) = choose (ltb n (length s)) (refused 8 n) (accepted (tableOf rs))
+follow s at rs more (Ended n) = refused (met 8 n) if ltb n (length s) else accepted (tableOf rs)
 
 -- from a place on, after the records rs
 unfoldable pub readFrom : ℕ → List ℕ → ℕ → List Record → Answer
-readFrom zero s at rs = refused 1 at
+readFrom zero s at rs = refused (met 1 at)
 readFrom (suc f) s at rs = follow s at rs (λ r n. readFrom f s n (r ∷ rs)) (tested s at (summary rs) (lengths rs))
 
 -- every record has a byte, so the length and one more bounds the number of records

@@ -13,9 +13,6 @@ use Rattle.records.specs.declared.Record.{Record}
 use Rattle.records.specs.declared.Record.the-variants as rec
 use Rattle.records.specs.declared.Summary.{Summary}
 use Rattle.model.specs.Table.{Item, read, constant, operation, Statement, Loop, Table, noLoop, loop, count}
-use Rattle.reader.specs.declared.Reading.{Reading}
-use Rattle.reader.specs.declared.Reading.the-variants.{Refused, Accepted}
-use Rattle.reader.specs.Reading.{Answer, accepted, refused}
 
 -- THE LAYOUT: the lengths of the arrays from 0 on; loop k has its bounds at k from 16 and from 32 on, and the rows from startAt k up to
 -- startAt (k + 1): its destination, then its items; a row is two numbers, its head and its value; the head is the row's kind times 16 and
@@ -98,11 +95,6 @@ module _ (c : List ℕ) where
 -- THE TABLE IN A STORE
 abbrev pub tableIn : List ℕ → Table
 tableIn c = tableAt c (arraysIn c) (loopsIn c)
-
--- what the code's answer says, with the store that it left
-unfoldable pub answer : Reading → List ℕ → Answer
-answer (Refused g p) c = refused g p
-answer Accepted c = accepted (tableIn c)
 
 -- one row more
 unfoldable pub withRow : ℕ → ℕ → ℕ → ℕ → ℕ → List ℕ → List ℕ

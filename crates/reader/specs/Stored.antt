@@ -13,8 +13,6 @@ use Rattle.records.specs.declared.Summary.{Summary}
 use Rattle.records.specs.History.{summary, lengths, advanced, blank, withArray, withLoop, withItem}
 use Rattle.records.specs.Clear.{Clear}
 use Rattle.model.specs.Table.{Item, read, constant, operation, Loop, Table}
-use Rattle.reader.specs.declared.Reading.{Reading}
-use Rattle.reader.specs.declared.Reading.the-variants.{Refused, Accepted}
 use Rattle.reader.specs.Reading.{loopsOf}
 use Rattle.reader.specs.Store.{Sized, firstAt, lastAt, startAt, kindAt, arrayAt, valueAt, arraysIn, loopsIn, tableAt, tableIn, itemOf, itemAt, itemsFrom, statementAt, loopAt, loopsFrom, withRow, withBounds, withCounts, kept, rowsAfter, ArrayFits}
 use Rattle.reader.specs.Store.{sized-row, row-leaves, row-lengths, row-kind, row-array, row-value, row-start, sized-bounds, bounds-leave, bounds-lengths, bounds-first, bounds-last}
@@ -40,11 +38,6 @@ pub record Holds (c : List ℕ) (t : Table) : Type 0 where
   pub is : tableIn c ≡ t
   pub sized : Sized c
   pub kept : InPlace c (arraysIn c) (loopsIn c) (startAt c (loopsIn c))
-
--- of an accepted table
-abbrev pub Filled : Reading → List ℕ → Type 0
-Filled (Refused g p) c = Unit {0}
-Filled Accepted c = Holds c (tableIn c)
 
 -- LAWS OF THE STORE
 items-snoc : (c : List ℕ) (r n : ℕ) → itemsFrom c r (suc n) ≡ itemsFrom c r n ++ (itemAt c (r + n) ∷ [])

@@ -8,23 +8,16 @@ use records::Record;
 use records::Store;
 use records::Summary;
 use records::Tested;
+use refusals::Refusal;
+use refusals::TAIL;
 ghost use mathlib.Core.Path.{_≡_};
 ghost use mathlib.Core.Bool.{_&&_};
 ghost use lib.Dec.{eqb};
 ghost use Prim.Native.Nat.{_+_, _<_, _≤_};
 ghost use Rattle.records.specs.Clear.{Room};
 ghost use Rattle.reader.specs.Reading.{reading};
-ghost use Rattle.reader.specs.Store.{Sized, firstAt, lastAt, startAt, kindAt, arrayAt, valueAt, arraysIn, loopsIn, answer, kept, rowsAfter, withRow, withBounds, withCounts, Places, ArrayFits};
-ghost use Rattle.reader.specs.Stored.{Filled};
-
-// A refusal with its number and its place, or that the store then holds the table.
-pub enum Reading {
-    Refused { number: u32, place: usize },
-    Accepted,
-}
-
-// Ground 8.
-const TAIL: u32 = 8;
+ghost use Rattle.reader.specs.Store.{Sized, firstAt, lastAt, startAt, kindAt, arrayAt, valueAt, arraysIn, loopsIn, kept, rowsAfter, withRow, withBounds, withCounts, Places, ArrayFits};
+ghost use Rattle.reader.specs.ReadInto.{ReadInto};
 
 // The places of a store's parts.
 const FIRSTS_AT: usize = 16;
@@ -176,10 +169,9 @@ fn keep(x: Record, t: Summary, r: usize, store: &mut Store) -> usize
 }
 
 // The table that the bytes are, in the lent store, or the ground that they meet and its place.
-pub fn read_table(s: &[u8], store: &mut Store) -> Reading
+pub fn read_table(s: &[u8], store: &mut Store) -> Refusal
     requires { ⌜ Sized (now store) ⌝ }
-    ensures { λ r. ⌜ answer r (now (store .exit)) ≡ reading (now (s .entry)) ⌝ }
-    ensures { λ r. ⌜ Filled r (now (store .exit)) ⌝ }
+    ensures { λ r. ⌜ ReadInto (reading (now (s .entry))) r (now (store .exit)) ⌝ }
 {
     let mut t = Summary::blank();
     let mut at: usize = 0;
@@ -188,10 +180,7 @@ pub fn read_table(s: &[u8], store: &mut Store) -> Reading
     loop {
         let found = decoding::read_record(s, at, t, store);
         match found {
-            Tested::Refused(g) => return Reading::Refused {
-                number: g,
-                place: at,
-            },
+            Tested::Refused(r) => return r,
             Tested::Passed(x, n) => {
                 rows = keep(x, t, rows, store);
                 t = t.advance(x);
@@ -199,13 +188,10 @@ pub fn read_table(s: &[u8], store: &mut Store) -> Reading
             }
             Tested::Ended(n) => {
                 if n < s.len() {
-                    return Reading::Refused {
-                        number: TAIL,
-                        place: n,
-                    };
+                    return Refusal::met(TAIL, n);
                 }
                 put_counts(t.arrays, t.loops, store);
-                return Reading::Accepted;
+                return Refusal::none();
             }
         }
     }

@@ -4,6 +4,7 @@ use mathlib.Core.Bool.{Bool, true, false, not}
 use mathlib.Core.List.{List}
 use lib.ListN.{getD, length}
 use lib.Dec.{ltb, leb, eqb}
+use Rattle.refusals.specs.Refusals.{met}
 use Rattle.records.specs.declared.Kind.{Kind}
 use Rattle.records.specs.declared.Kind.the-variants as kind
 use Rattle.records.specs.declared.Record.{Record}
@@ -73,4 +74,4 @@ pick false a b = b
 -- the whole test of the record at a place
 unfoldable pub tested : List ℕ → ℕ → Summary → List ℕ → Tested
 tested s at t ns =
-    pick (eqb (ground s at t ns) 0) (passed (recordAt s at) (at + 1 + bodyLength (byte s at))) (Refused (ground s at t ns))
+    pick (eqb (ground s at t ns) 0) (passed (recordAt s at) (at + 1 + bodyLength (byte s at))) (Refused (met (ground s at t ns) at))

@@ -7,6 +7,8 @@ use mathlib.Core.List.{List}
 use lib.ListN.{length, getD}
 use lib.Dec.{eqb, leb, ltb, eqb·suc-zero}
 use borrow.Author.Tests.{ltb-false, leb-false, eqb-false, eqb-true}
+use Rattle.refusals.specs.declared.Refusal.{Refusal}
+use Rattle.refusals.specs.Refusals.{met}
 use Rattle.records.specs.declared.Record.{Record}
 use Rattle.records.specs.declared.Record.the-variants.{Unknown, Array, Loop, Read, Constant, Operation, End}
 use Rattle.records.specs.declared.Summary.{Summary}
@@ -57,7 +59,7 @@ module _ (s : List ℕ) (at : ℕ) (t : Summary) (ns : List ℕ) where
 
   -- which outcome it is goes by the ground
   abbrev Outcome : Tested → Type 0
-  Outcome (Refused g) = (ground s at t ns ≡ g) × (g ≡ 0 → ⊥)
+  Outcome (Refused r) = (r ≡ met (ground s at t ns) at) × (r .ground ≡ 0 → ⊥)
   Outcome (Passed r n) = Whole s at t ns r n × (r ≡ End → ⊥)
   Outcome (Ended n) = Whole s at t ns End n
 
@@ -84,13 +86,13 @@ module _ (s : List ℕ) (at : ℕ) (t : Summary) (ns : List ℕ) where
       by f End e = whole f End e
 
       go : (b : Bool) → eqb (ground s at t ns) 0 ≡ b
-          → Outcome (pick b (passed (recordAt s at) (at + 1 + bodyLength (byte s at))) (Refused (ground s at t ns)))
+          → Outcome (pick b (passed (recordAt s at) (at + 1 + bodyLength (byte s at))) (Refused (met (ground s at t ns) at)))
       go true e = by (ground-free (eqb-true _ _ e)) (recordAt s at) refl
       go false e = (refl, eqb-false _ _ e)
 
   -- the three outcomes, from what the tests answered
-  pub refused-ground : (g : ℕ) → tested s at t ns ≡ Refused g → (ground s at t ns ≡ g) × (g ≡ 0 → ⊥)
-  refused-ground g e = subst Outcome e outcome
+  pub refused-ground : (r : Refusal) → tested s at t ns ≡ Refused r → (r ≡ met (ground s at t ns) at) × (r .ground ≡ 0 → ⊥)
+  refused-ground r e = subst Outcome e outcome
 
   pub passed-whole : (r : Record) (n : ℕ) → tested s at t ns ≡ Passed r n → Whole s at t ns r n × (r ≡ End → ⊥)
   passed-whole r n e = subst Outcome e outcome

@@ -7,6 +7,7 @@ use lib.ListN.{length}
 use lib.Dec.{eqb}
 use mathlib.Core.Bool.{Bool, true, false, cond}
 use borrow.Author.Tests.{lt-ltb, le-ltb, le-leb, lt-leb, ne-eqb}
+use Rattle.refusals.specs.Refusals.{met}
 use Rattle.records.specs.declared.Kind.{Kind}
 use Rattle.records.specs.declared.Kind.the-variants.{Unknown}
 use Rattle.records.specs.declared.Record.{Record}
@@ -30,19 +31,19 @@ no-kind (suc (suc (suc (suc (suc (suc (suc n))))))) h₁ h₂ h₃ h₄ h₅ h�
 
 -- the ways that the tests of the record at a place go
 module _ (s : List ℕ) (at : ℕ) (t : Summary) (ns : List ℕ) where
-  refused : (g : ℕ) → ground s at t ns ≡ g → (g ≡ 0 → ⊥) → tested s at t ns ≡ Refused g
+  refused : (g : ℕ) → ground s at t ns ≡ g → (g ≡ 0 → ⊥) → tested s at t ns ≡ Refused (met g at)
   unfolding tested
   refused g e n = simp (e, ne-eqb g 0 n)
 
-  pub absent : length s ≤ at → tested s at t ns ≡ Refused 1
+  pub absent : length s ≤ at → tested s at t ns ≡ Refused (met 1 at)
   unfolding ground
   absent h = refused 1 (simp (le-leb _ _ h)) (λ e. omega arith)
 
-  pub refused-early : (g : ℕ) → at < length s → early (kindOf (byte s at)) t ≡ g → (g ≡ 0 → ⊥) → tested s at t ns ≡ Refused g
+  pub refused-early : (g : ℕ) → at < length s → early (kindOf (byte s at)) t ≡ g → (g ≡ 0 → ⊥) → tested s at t ns ≡ Refused (met g at)
   unfolding ground
   refused-early g h e n = refused g (simp (lt-leb _ _ h, e, ne-eqb g 0 n)) n
 
-  pub torn : at < length s → early (kindOf (byte s at)) t ≡ 0 → length s < at + 1 + bodyLength (byte s at) → tested s at t ns ≡ Refused 1
+  pub torn : at < length s → early (kindOf (byte s at)) t ≡ 0 → length s < at + 1 + bodyLength (byte s at) → tested s at t ns ≡ Refused (met 1 at)
   unfolding ground
   torn h e l = refused 1 (simp (lt-leb _ _ h, e, lt-ltb _ _ l)) (λ e. omega arith)
 
@@ -52,7 +53,7 @@ module _ (s : List ℕ) (at : ℕ) (t : Summary) (ns : List ℕ) where
   to-fields h e l = simp (lt-leb _ _ h, e, le-ltb _ _ l)
 
   pub refused-fields : (g : ℕ) → at < length s → early (kindOf (byte s at)) t ≡ 0 → at + 1 + bodyLength (byte s at) ≤ length s
-      → fields (recordAt s at) t ns ≡ g → (g ≡ 0 → ⊥) → tested s at t ns ≡ Refused g
+      → fields (recordAt s at) t ns ≡ g → (g ≡ 0 → ⊥) → tested s at t ns ≡ Refused (met g at)
   refused-fields g h e l f n = refused g (rw (to-fields h e l) f) n
 
   pub clear : at < length s → early (kindOf (byte s at)) t ≡ 0 → at + 1 + bodyLength (byte s at) ≤ length s

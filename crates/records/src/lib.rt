@@ -1,4 +1,5 @@
 // What a record of a loop table is, and what the tests on it look at in the records before it.
+use refusals::Refusal;
 ghost use mathlib.Core.Path.{_≡_};
 ghost use Prim.Native.Nat.{_+_, _<_, _≤_};
 ghost use Rattle.records.specs.History.{operands, withArray, withLoop, withItem, advanced, blank};
@@ -58,9 +59,9 @@ pub struct Summary {
     pub waiting: u32,
 }
 
-// What the tests of the record at a place find: a ground, or the record and the place after it, or that it is the end record.
+// What the tests of the record at a place find: a refusal there, or the record and the place after it, or that it is the end record.
 pub enum Tested {
-    Refused(u32),
+    Refused(Refusal),
     Passed(Record, usize),
     Ended(usize),
 }

@@ -15,7 +15,7 @@ ghost use Prim.Native.Nat.{ℕ, _≤_, _<_};
 ghost use mathlib.Core.List.{List};
 ghost use lib.ListN.{length};
 ghost use Rattle.model.specs.declared.Iteration.{Iteration};
-ghost use Rattle.reader.specs.Reading.{accepted};
+ghost use Rattle.refusals.specs.Answers.{accepted};
 ghost use Rattle.reader.specs.Store.{tableIn};
 ghost use Rattle.iterations.specs.Memory.{total};
 ghost use Rattle.turns.specs.Turn.{Work};

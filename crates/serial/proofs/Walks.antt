@@ -8,18 +8,17 @@ use mathlib.Core.List.{List, _∷_}
 use lib.Dec.{eqb}
 use borrow.Author.Tests.{ne-eqb}
 use Rattle.model.specs.Table.{Item, read, constant, operation, loop, count}
-use Rattle.reader.specs.Reading.{accepted, refused, reading}
+use Rattle.refusals.specs.declared.Refusal.{Refusal}
+use Rattle.refusals.specs.Refusals.{naming}
+use Rattle.refusals.specs.Refusals.{none as nothing-refused}
+use Rattle.refusals.specs.Answers.{accepted, told-refused}
+use Rattle.reader.specs.Reading.{Answer, reading}
 use Rattle.reader.specs.Store.{startAt, kindAt, arrayAt, valueAt, loopsIn, itemOf, itemAt, itemsFrom, loopAt, tableIn}
-use Rattle.reader.specs.Store as reader
-use Rattle.reader.specs.Stored.{Filled}
-use Rattle.reader.specs.declared.Reading.{Reading}
-use Rattle.reader.specs.declared.Reading.the-variants as was
+use Rattle.reader.specs.ReadInto.{ReadInto, into-refused, into-accepted}
 use Rattle.reader.specs.Held.{Held, count-held, few-loops, few-rows, rows-rise, loop-held}
 use Rattle.serial.specs.declared.Collision.{Collision}
 use Rattle.serial.specs.declared.Collision.the-variants.{Nothing, Read}
-use Rattle.serial.specs.declared.Checked.{Checked}
-use Rattle.serial.specs.declared.Checked.the-variants.{Refused, Serial, Accepted}
-use Rattle.serial.specs.Serial.{collides, hit, loopHit, afterLoop, serialFrom, through, table, answer, Which, Lowest, Left}
+use Rattle.serial.specs.Serial.{collides, hit, loopHit, afterLoop, serialFrom, through, table}
 
 -- sums of widened numbers
 pub near : {a b x y : ℕ} (s : ℕ) → a ≡ x → b ≡ y → b ≤ a + s → y ≤ x + s
@@ -118,35 +117,19 @@ module _ (c : List ℕ) (h : Held c) where
           pub loop-passed : x ≡ Nothing → LoopInv c l (k + 1)
           loop-passed e = rw (add-one k) (record { all = inv .all; within = m; rest = rw e at turn })
 
-          pub loop-collides : (n : ℕ) → x ≡ Read n → Lowest (Serial k n) c
-          unfolding answer
-          loop-collides n e = record { is = rw e at turn; named = (there, hit-here ∙ e) }
+          pub loop-collides : (n : ℕ) → x ≡ Read n → ReadInto (through (accepted (tableIn c))) (naming 9 k n 0) c
+          loop-collides n e = into-refused (through (accepted (tableIn c))) c (naming 9 k n 0) (sym (rw e at turn)) (λ z. omega arith)
 
-      pub loops-done : l ≤ k → Lowest Accepted c
-      unfolding answer serialFrom
-      loops-done m = let e : l - k ≡ 0 = omega arith in record { is = rw e at (inv .rest); named = tt }
+      pub loops-done : l ≤ k → ReadInto (through (accepted (tableIn c))) nothing-refused c
+      unfolding serialFrom
+      loops-done m = let e : l - k ≡ 0 = omega arith in into-accepted (through (accepted (tableIn c))) c (sym (rw e at (inv .rest))) h
 
 -- A WHOLE TABLE, by what its reading answers
-module _ (c s : List ℕ) (x : Reading) (read : (reader.answer x c ≡ reading s) × Filled x c) where
-  pub store-held : x ≡ was.Accepted → Held c
-  store-held e = subst (λ (y : Reading). Filled y c) e (read .1)
+module _ (c s : List ℕ) (r : Refusal) (read : ReadInto (reading s) r c) where
+  pub refused-reading : (r .ground ≡ 0 → ⊥) → ReadInto (table s) r c
+  unfolding table through
+  refused-reading some = into-refused (table s) c r (ap through (told-refused (reading s) r (read .told) some)) some
 
-  module _ (e : x ≡ was.Accepted) where
-    is : accepted (tableIn c) ≡ reading s
-    unfolding reader.answer
-    is = subst (λ (y : Reading). reader.answer y c ≡ reading s) e (read .0)
-
-    left : (r : Checked) → Which r c → Left r c s
-    left (Refused g p) h = absurd h
-    left (Serial k n) h = (sym is, h)
-    left Accepted h = store-held e
-
-    pub checked : (r : Checked) → Lowest r c → (answer r c ≡ table s) × Left r c s
-    unfolding table
-    checked r h = (h .is ∙ ap through is, left r (h .named))
-
-  pub refused-reading : (g p : ℕ) → x ≡ was.Refused g p → (answer (Refused g p) c ≡ table s) × Left (Refused g p) c s
-  unfolding table through answer reader.answer
-  refused-reading g p e =
-      let z : refused g p ≡ reading s = subst (λ (y : Reading). reader.answer y c ≡ reading s) e (read .0) in
-      (ap through z, sym z)
+  pub checked : (q : Refusal) → r .ground ≡ 0 → ReadInto (through (accepted (tableIn c))) q c → ReadInto (table s) q c
+  unfolding table
+  checked q e h = subst (λ (a : Answer). ReadInto (through a) q c) (sym (read .held e .0)) h

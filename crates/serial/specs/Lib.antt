@@ -4,5 +4,3 @@ pub mod Serial
 pub mod Meeting
 -- a table is accepted where no loop collides
 pub mod Parallel
--- the read that is named with 9 collides
-pub mod Named

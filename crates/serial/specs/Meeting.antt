@@ -1,6 +1,6 @@
 -- Ground 9 as a statement: two different iterations of one loop, both in its bounds, meet at an element, one of them storing it.
--- The test of Serial.antt decides it, and the read that it names meets the destination in another iteration.
-use Prim.Native.Nat.{ℕ, suc, _+_, _-_, _≤_, _<_}
+-- The test of Serial.antt decides it; the read that it names meets the destination in another iteration, and no lower read does.
+use Prim.Native.Nat.{ℕ, zero, suc, _+_, _-_, _≤_, _<_}
 use native.Mathlib.Omega.{arith}
 use native.Mathlib.Decide.{decLt}
 use mathlib.Core.Path.{_≡_, refl, sym, ap, _∙_}
@@ -49,6 +49,14 @@ pub record Collides (t : Table) (k n : ℕ) : Type 0 where
   pub numbered : n < length (allReads k (loop t k .body))
   pub meet : Meet one other target (getD (allReads k (loop t k .body)) n target)
 
+-- what 9 carries and names: loop p is the lowest of which two iterations meet, and read n is the lowest of its reads that collides
+pub record FirstMeeting (t : Table) (p n : ℕ) : Type 0 where
+  pub there : p < count t
+  pub meets : Serial t p
+  pub lowest-loop : (k : ℕ) → k < p → Serial t k → ⊥
+  pub collides : Collides t p n
+  pub lowest-read : (m : ℕ) → m < n → Collides t p m → ⊥
+
 -- LAWS OF THE TEST
 false-true : false ≡ true → ⊥
 false-true e = let z : _≡_ {A = ℕ} 0 1 = cc in omega arith
@@ -93,6 +101,23 @@ module _ (k span a c : ℕ) where
       go false f g ih = let (j, u, (v, w)) = ih g in (suc j, omega arith, (omega arith, w))
   hit-at (constant x ∷ xs) m n e = hit-at xs m n e
   hit-at (operation x ∷ xs) m n e = hit-at xs m n e
+
+  -- the reads before it don't collide
+  hit-lower : (xs : List Item) (m n : ℕ) → hit span a c xs m ≡ Read n → (j : ℕ) (d : Reference) → m + j < n
+      → collides span a c (getD (reads k xs) j d .array) (getD (reads k xs) j d .offset) ≡ false
+  unfolding hit
+  hit-lower [] m n e j d l = let z : _≡_ {A = ℕ} 0 1 = cc in absurd (omega arith)
+  hit-lower (read b o ∷ xs) m n e j d l = go (collides span a c b o) refl e j l (λ f i. hit-lower xs (m + 1) n f i d)
+    where
+      go : (x : Bool) → collides span a c b o ≡ x → pick x (Read m) (hit span a c xs (m + 1)) ≡ Read n → (i : ℕ) → m + i < n
+          → (hit span a c xs (m + 1) ≡ Read n → (i : ℕ) → m + 1 + i < n
+          → collides span a c (getD (reads k xs) i d .array) (getD (reads k xs) i d .offset) ≡ false)
+          → collides span a c (getD (reads k (read b o ∷ xs)) i d .array) (getD (reads k (read b o ∷ xs)) i d .offset) ≡ false
+      go true f g i h ih = let z : m ≡ n = cc in absurd (omega arith)
+      go false f g zero h ih = f
+      go false f g (suc i) h ih = ih g i (omega arith)
+  hit-lower (constant x ∷ xs) m n e j d l = hit-lower xs m n e j d l
+  hit-lower (operation x ∷ xs) m n e j d l = hit-lower xs m n e j d l
 
   hit-none : (xs : List Item) (m : ℕ) → hit span a c xs m ≡ Nothing → (q : Reference) → Mem q (reads k xs)
       → collides span a c (q .array) (q .offset) ≡ false
@@ -181,15 +206,40 @@ module _ (t : Table) (k : ℕ) (s : Statement) (body : loop t k .body ≡ s ∷ 
               (few, omega arith, omega (arith, apart .2, apart .1)) (few, omega arith, omega (arith, apart .2, apart .1))
               (λ h. apart .1 (omega arith)) (omega arith)
 
+  -- two iterations that meet are found by the test
+  met-collides : (q : Reference) (i j : ℕ) → Inside t (iteration k i) → Inside t (iteration k j) → i ≢ j → s .array ≡ q .array
+      → i + s .offset ≡ j + q .offset → collides span (s .array) (s .offset) (q .array) (q .offset) ≡ true
+  unfolding span
+  met-collides q i j a b n p g =
+      apart-collides span (s .array) (s .offset) (q .array) (q .offset) (sym p, (λ z. n (omega arith)), omega (arith, a, b), omega (arith, a, b))
+
+  -- no read before the one that it names collides
+  pub lower-apart : (n : ℕ) → loopHit (loop t k) ≡ Read n → (m : ℕ) → m < n → Collides t k m → ⊥
+  unfolding hits
+  lower-apart n e m l x = go (cases-cons (rw refs-one at (x .target-in)))
+    where
+      q : Reference
+      q = getD (reads k (s .items)) m (x .target)
+
+      meets : Meet (x .one) (x .other) (x .target) q
+      meets = rw reads-one at (x .meet)
+
+      go : (x .target ≡ destination k s) ⊎ Mem (x .target) (reads k (s .items)) → ⊥
+      go (inl u) =
+          let same : s .array ≡ q .array = sym (ap (λ (r : Reference). r .array) u) ∙ meets .0 .0 in
+          let at : x .one + s .offset ≡ x .other + q .offset = omega (arith, meets .1, ap (λ (r : Reference). r .offset) u) in
+          false-true
+          (sym (hit-lower k span (s .array) (s .offset) (s .items) 0 n (sym loop-hits ∙ e) m (x .target) (omega arith))
+          ∙ met-collides q (x .one) (x .other) (x .one-inside) (x .other-inside) (x .differ) same at)
+      go (inr v) = false-true (sym (read-stores k (s .items) (x .target) v) ∙ x .stores)
+
   -- where the test finds nothing, no two iterations meet
   clash : (q : Reference) (i j : ℕ) → Mem q (reads k (s .items)) → loopHit (loop t k) ≡ Nothing → Inside t (iteration k i) → Inside t (iteration k j)
       → i ≢ j → s .array ≡ q .array → i + s .offset ≡ j + q .offset → ⊥
   unfolding hits span
   clash q i j h e a b n p g =
       let f = hit-none k span (s .array) (s .offset) (s .items) 0 (sym loop-hits ∙ e) q h in
-      let c : collides span (s .array) (s .offset) (q .array) (q .offset) ≡ true =
-      apart-collides span (s .array) (s .offset) (q .array) (q .offset) (sym p, (λ z. n (omega arith)), omega (arith, a, b), omega (arith, a, b)) in
-      false-true (sym f ∙ c)
+      false-true (sym f ∙ met-collides q i j a b n p g)
 
   pub none-parallel : loopHit (loop t k) ≡ Nothing → Serial t k → ⊥
   none-parallel e x = go (cases-cons (rw refs-one at (x .left-in))) (cases-cons (rw refs-one at (x .right-in)))

@@ -5,8 +5,8 @@ use native.Mathlib.Decide.{ℕ-discrete}
 use mathlib.Core.Path.{_≡_, refl, ap, subst, _∙_}
 use mathlib.Core.List.{List}
 use Rattle.model.specs.Table.{Table, loop, count}
-use Rattle.reader.specs.Reading.{Answer, accepted, refused, reading}
-use Rattle.reader.specs.Accepting.{not-both}
+use Rattle.refusals.specs.Answers.{accepted, refused, not-both}
+use Rattle.reader.specs.Reading.{Answer, reading}
 use Rattle.serial.specs.declared.Collision.{Collision}
 use Rattle.serial.specs.declared.Collision.the-variants.{Nothing, Read}
 use Rattle.serial.specs.Serial.{loopHit, afterLoop, serialFrom, through, table}
@@ -47,7 +47,7 @@ unfolding table through
 accepted-parallel s t e = go (reading s) refl e
   where
     go : (x : Answer) → reading s ≡ x → through x ≡ accepted t → (reading s ≡ accepted t) × Parallel t
-    go (refused g p) f h = absurd (not-both h)
+    go (refused r) f h = absurd (not-both h)
     go (accepted u) f h =
         let (is, c) = clear-from u t 0 (count u) h in
         (f ∙ ap accepted is, subst Parallel is (λ k l. c k (omega arith) (omega arith)))

@@ -1,17 +1,14 @@
 -- Ground 9: two different iterations of one loop meet at an element, one of them storing. The test, and reading through it.
-use Prim.Native.Nat.{ℕ, zero, suc, _+_, _-_, _<_}
-use mathlib.Core.Path.{_≡_}
+use Prim.Native.Nat.{ℕ, zero, suc, _+_, _-_}
 use mathlib.Core.Bool.{Bool, true, false, not, _&&_}
 use mathlib.Core.List.{List, [], _∷_}
 use lib.Dec.{eqb, leb}
 use Rattle.model.specs.Table.{Item, read, constant, operation, Statement, Loop, Table, loop, count}
-use Rattle.reader.specs.Reading.{Answer, accepted, refused, reading}
-use Rattle.reader.specs.Store.{tableIn}
-use Rattle.reader.specs.Held.{Held}
+use Rattle.refusals.specs.Refusals.{naming}
+use Rattle.refusals.specs.Answers.{accepted, refused, after}
+use Rattle.reader.specs.Reading.{Answer, reading}
 use Rattle.serial.specs.declared.Collision.{Collision}
 use Rattle.serial.specs.declared.Collision.the-variants.{Nothing, Read}
-use Rattle.serial.specs.declared.Checked.{Checked}
-use Rattle.serial.specs.declared.Checked.the-variants.{Refused, Serial, Accepted}
 
 -- a read of array b at an offset o meets a store to array a at an offset c in another iteration: the array is one, the offsets differ,
 -- and by no more than the span, last - first
@@ -37,10 +34,10 @@ bodyHit span (s ∷ b) = hit span (s .array) (s .offset) (s .items) 0
 unfoldable pub loopHit : Loop → Collision
 loopHit l = bodyHit (l .last - l .first) (l .body)
 
--- the loops from loop k on: 9 carries the lowest that collides
+-- the loops from loop k on: 9 carries the lowest that collides, and names its first read that does
 abbrev pub afterLoop : ℕ → Collision → Answer → Answer
 afterLoop k Nothing more = more
-afterLoop k (Read n) more = refused 9 k
+afterLoop k (Read n) more = refused (naming 9 k n 0)
 
 unfoldable pub serialFrom : Table → ℕ → ℕ → Answer
 serialFrom t k zero = accepted t
@@ -48,35 +45,7 @@ serialFrom t k (suc n) = afterLoop k (loopHit (loop t k)) (serialFrom t (suc k) 
 
 -- a table, read through 9
 unfoldable pub through : Answer → Answer
-through (refused n p) = refused n p
-through (accepted t) = serialFrom t 0 (count t)
+through a = after a (λ t. serialFrom t 0 (count t))
 
 unfoldable pub table : List ℕ → Answer
 table s = through (reading s)
-
--- what the code's answer says, with the store that it left
-unfoldable pub answer : Checked → List ℕ → Answer
-answer (Refused g p) c = refused g p
-answer (Serial k n) c = refused 9 k
-answer Accepted c = accepted (tableIn c)
-
--- loop k of the table t collides, read n first
-abbrev pub Hits : Table → ℕ → ℕ → Type 0
-Hits t k n = (k < count t) × (loopHit (loop t k) ≡ Read n)
-
-abbrev pub Which : Checked → List ℕ → Type 0
-Which (Refused g p) c = ⊥
-Which (Serial k n) c = Hits (tableIn c) k n
-Which Accepted c = Unit {0}
-
--- the code's answer on a table in a store: its loop is the lowest that collides, its read the first in that loop
-pub record Lowest (r : Checked) (c : List ℕ) : Type 0 where
-  pub is : answer r c ≡ through (accepted (tableIn c))
-  pub named : Which r c
-
--- what is left with the answer: that the reading refused; of 9 that the loop is one of the table, with its first read that collides;
--- that the store holds an accepted table
-abbrev pub Left : Checked → List ℕ → List ℕ → Type 0
-Left (Refused g p) c s = reading s ≡ refused g p
-Left (Serial k n) c s = (reading s ≡ accepted (tableIn c)) × Hits (tableIn c) k n
-Left Accepted c s = Held c

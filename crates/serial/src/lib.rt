@@ -1,25 +1,22 @@
 // Ground 9: two different iterations of one loop meet at an element, one of them storing.
 use arithmetic::length_of;
 use arithmetic::wide;
-use reader::Reading;
+use records::STORE;
 use records::Store;
+use refusals::Refusal;
+use refusals::SERIAL;
 ghost use mathlib.Core.Path.{_≡_};
 ghost use Prim.Native.Nat.{_+_, _-_, _<_, _≤_};
-ghost use Rattle.reader.specs.Store.{Sized, startAt, itemsFrom, loopAt};
+ghost use Rattle.refusals.specs.Answers.{accepted, refusalOf};
+ghost use Rattle.reader.specs.Store.{Sized, startAt, itemsFrom, loopAt, tableIn};
 ghost use Rattle.reader.specs.Held.{Held};
-ghost use Rattle.serial.specs.Serial.{collides, hit, loopHit, table, answer, Lowest, Left};
+ghost use Rattle.reader.specs.ReadInto.{ReadInto};
+ghost use Rattle.serial.specs.Serial.{collides, hit, loopHit, through, table};
 
 // Whether a read of a loop meets its destination in another iteration, and which, numbered from 0 among the loop's reads.
 pub enum Collision {
     Nothing,
     Read(usize),
-}
-
-// A refusal with its number and its place; 9 with its loop and a read; or that the store then holds the table.
-pub enum Checked {
-    Refused { number: u32, place: usize },
-    Serial { number: usize, read: usize },
-    Accepted,
 }
 
 // A read of array b at offset o, and a destination in array a at offset c, where last - first is the span.
@@ -87,10 +84,10 @@ fn loop_hit(k: usize, store: &Store) -> Collision
     )
 }
 
-// The loops of a table in a store, from the first on.
-fn check_loops(store: &Store) -> Checked
+// The loops of a table in a store, from the first on: 9 names the lowest that collides and its first read that does.
+fn check_loops(store: &Store) -> Refusal
     requires { ⌜ Held (now store) ⌝ }
-    ensures { λ r. ⌜ Lowest r (now (store .entry)) ⌝ }
+    ensures { λ r. ⌜ ReadInto (through (accepted (tableIn (now (store .entry))))) r (now (store .entry)) ⌝ }
 {
     let loops = reader::loops_in(store);
     let mut k: usize = 0;
@@ -98,21 +95,28 @@ fn check_loops(store: &Store) -> Checked
         let hit = loop_hit(k, store);
         match hit {
             Collision::Nothing => k += 1,
-            Collision::Read(n) => return Checked::Serial { number: k, read: n },
+            Collision::Read(n) => return Refusal::naming(SERIAL, k, n, 0),
         }
     }
-    Checked::Accepted
+    Refusal::none()
 }
 
 // The table that the bytes are, read through 9 into the lent store, or the ground that they meet.
-pub fn check_table(s: &[u8], store: &mut Store) -> Checked
+pub fn read_through(s: &[u8], store: &mut Store) -> Refusal
     requires { ⌜ Sized (now store) ⌝ }
-    ensures { λ r. ⌜ answer r (now (store .exit)) ≡ table (now (s .entry)) ⌝ }
-    ensures { λ r. ⌜ Left r (now (store .exit)) (now (s .entry)) ⌝ }
+    ensures { λ r. ⌜ ReadInto (table (now (s .entry))) r (now (store .exit)) ⌝ }
 {
     let r = reader::read_table(s, store);
-    match r {
-        Reading::Refused { number, place } => Checked::Refused { number, place },
-        Reading::Accepted => check_loops(store),
+    if r.ground != 0 {
+        return r;
     }
+    check_loops(store)
+}
+
+// Whether the bytes are accepted, or the ground that they meet.
+pub fn check(s: &[u8]) -> Refusal
+    ensures { λ r. ⌜ r ≡ refusalOf (table (now (s .entry))) ⌝ }
+{
+    let mut store = [0u32; STORE];
+    read_through(s, &mut store)
 }

@@ -11,7 +11,7 @@ use Rattle.order.specs.Lists.{nth-mem, mem-joined}
 use Rattle.model.specs.declared.Iteration.{Iteration}
 use Rattle.model.specs.Table.{iteration, Inside}
 use Rattle.model.specs.Bodies.{run}
-use Rattle.reader.specs.Reading.{AnswerOf, accepted, refused}
+use Rattle.refusals.specs.Answers.{AnswerOf, accepted, refused}
 use Rattle.grounds.specs.Accepted.{valid-last}
 use Rattle.blocks.specs.Sums.{column}
 use Rattle.lists.specs.Fusion.{once}

@@ -6,7 +6,7 @@ use lib.ListN.{length}
 use lib.Ieee.{Float}
 use Rattle.model.specs.Table.{iteration}
 use Rattle.model.specs.Bodies.{run}
-use Rattle.reader.specs.Reading.{accepted}
+use Rattle.refusals.specs.Answers.{accepted}
 use Rattle.turns.specs.Turn.{refuses, stays, turn}
 use Rattle.turns.specs.Reach.{Reachable, stepped-turn}
 use Rattle.plans.specs.Plans.{Settings, Planned, planned}

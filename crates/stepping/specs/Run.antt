@@ -3,7 +3,7 @@ use Prim.Native.Nat.{ℕ}
 use mathlib.Core.List.{List}
 use lib.ListN.{length}
 use lib.Ieee.{Float}
-use Rattle.reader.specs.Reading.{AnswerOf, accepted, refused}
+use Rattle.refusals.specs.Answers.{AnswerOf, accepted, refused}
 use Rattle.turns.specs.Row.{noneDone, reports, memoryAfter, idle, listed, rowOf}
 use Rattle.plans.specs.Plans.{Settings, Planned, planned}
 use Rattle.iterations.specs.Memory.{remembered}

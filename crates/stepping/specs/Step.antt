@@ -9,7 +9,7 @@ use lib.Ieee.{Float}
 use Rattle.model.specs.declared.Iteration.{Iteration}
 use Rattle.model.specs.Table.{iteration}
 use Rattle.model.specs.Bodies.{run}
-use Rattle.reader.specs.Reading.{AnswerOf, accepted, refused}
+use Rattle.refusals.specs.Answers.{AnswerOf, accepted, refused}
 use Rattle.blocks.specs.Sums.{column, some}
 use Rattle.lists.specs.Fusion.{phases, work, fusedList, peeledList}
 use Rattle.turns.specs.Turn.{Work, Said, refuses, performs, waits, ends, After, stays, closed, wrongCount, next, stepped}

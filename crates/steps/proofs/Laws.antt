@@ -10,7 +10,7 @@ use lib.Ieee.{Float}
 use Rattle.model.specs.declared.Iteration.{Iteration}
 use Rattle.model.specs.Table.{iteration}
 use Rattle.model.specs.Bodies.{run}
-use Rattle.reader.specs.Reading.{AnswerOf, accepted, refused, choose}
+use Rattle.refusals.specs.Answers.{AnswerOf, accepted, refused, _if_else_}
 use Rattle.reader.specs.Store.{tableIn}
 use Rattle.blocks.specs.declared.Axis.{Axis}
 use Rattle.bodies.specs.Workable.{Based}

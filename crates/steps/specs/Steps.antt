@@ -4,7 +4,8 @@ use mathlib.Core.Path.{_≡_}
 use mathlib.Core.List.{List}
 use lib.Ieee.{Float}
 use Rattle.model.specs.Table.{Table}
-use Rattle.reader.specs.Reading.{accepted, reading}
+use Rattle.refusals.specs.Answers.{accepted}
+use Rattle.reader.specs.Reading.{reading}
 use Rattle.serial.specs.Meeting.{Collides}
 use Rattle.plans.specs.Plans.{Settings}
 use Rattle.stepping.specs.declared.Report.the-variants.{Refused}

@@ -16,7 +16,7 @@ ghost use lib.ListN.{length};
 ghost use Rattle.model.specs.Table.{iteration};
 ghost use Rattle.model.specs.Bodies.{run};
 ghost use Rattle.model.specs.declared.Iteration.{Iteration};
-ghost use Rattle.reader.specs.Reading.{accepted};
+ghost use Rattle.refusals.specs.Answers.{accepted};
 ghost use Rattle.reader.specs.Store.{tableIn};
 ghost use Rattle.iterations.specs.Memory.{total, remembered};
 ghost use Rattle.turns.specs.Turn as turns;

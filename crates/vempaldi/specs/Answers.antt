@@ -5,7 +5,8 @@ use mathlib.Core.List.{List}
 use lib.ListN.{set}
 use lib.Ieee.{Float}
 use Rattle.model.specs.Table.{Table}
-use Rattle.reader.specs.Reading.{AnswerOf, accepted, reading}
+use Rattle.refusals.specs.Answers.{AnswerOf, accepted}
+use Rattle.reader.specs.Reading.{reading}
 use Rattle.serial.specs.Meeting.{Collides}
 use Rattle.stepping.specs.declared.Report.{Report}
 use Rattle.stepping.specs.declared.Report.the-variants.{Refused, Performed, Waiting, Finished}

@@ -1,5 +1,4 @@
 use Rattle.records.specs.Ways.{absent, refused-early, torn, refused-fields, clear, record-found}
-use Rattle.records.specs.Ways.{absent, refused-early, torn, refused-fields, clear}
 use denote.Ref.{now}
 use Prim.Native.Nat.{_+_, _<_, _≤_}
 use lib.ListN.{length}
@@ -14,37 +13,40 @@ use Rattle.decoding.proofs.read_record.Tie as tie
 
 returns : tie.Need-returns
 returns c =
-    let b = c .before .before in
+    let d₀ = c .before in
+    let b = d₀ .before .before in
     let s = now (b .args .s) in
     let at = b .args .at in
     let t = b .args .t in
     let ns = now (b .args .lens) in
-    sym (absent s at t ns (c .if1 .taken))
+    c .refused .ensures ∙ sym (absent s at t ns (d₀ .if1 .taken))
 
 returns-2 : tie.Need-returns-2
 returns-2 c =
-    let b = c .before .before .before .before .before .before in
+    let d₀ = c .before in
+    let b = d₀ .before .before .before .before .before .before in
     let s = now (b .args .s) in
     let at = b .args .at in
     let t = b .args .t in
     let ns = now (b .args .lens) in
-    let e : early (kindOf (byte s at)) t ≡ c .before .early-ground .result = cc in
-    sym (refused-early s at t ns _ (c .before .before .before .before .if1 .left) e (c .if2 .taken))
+    let e : early (kindOf (byte s at)) t ≡ d₀ .before .early-ground .result = cc in
+    c .refused2 .ensures ∙ sym (refused-early s at t ns _ (d₀ .before .before .before .before .if1 .left) e (d₀ .if2 .taken))
 
 add-if3-2 : tie.Need-add-if3-2
 add-if3-2 c = omega (arith, c .body-length .ensures, length-max (c .before .before .before .before .one-at .result))
 
 returns-3 : tie.Need-returns-3
 returns-3 c =
-    let b = c .before .before .before .before .before .before .before .before in
+    let d₀ = c .before in
+    let b = d₀ .before .before .before .before .before .before .before .before in
     let s = now (b .args .s) in
     let at = b .args .at in
     let t = b .args .t in
     let ns = now (b .args .lens) in
-    let e : early (kindOf (byte s at)) t ≡ c .before .before .before .early-ground .result = cc in
+    let e : early (kindOf (byte s at)) t ≡ d₀ .before .before .before .early-ground .result = cc in
     let l : length s < at + 1 + bodyLength (byte s at) =
-    rw (← (c .before .before .before .before .before .one-at .ensures .0), ← (c .before .body-length .ensures)) (c .if3 .taken) in
-    sym (torn s at t ns (c .before .before .before .before .before .before .if1 .left) (e ∙ c .before .before .if2 .left) l)
+    rw (← (d₀ .before .before .before .before .before .one-at .ensures .0), ← (d₀ .before .body-length .ensures)) (d₀ .if3 .taken) in
+    c .refused3 .ensures ∙ sym (torn s at t ns (d₀ .before .before .before .before .before .before .if1 .left) (e ∙ d₀ .before .before .if2 .left) l)
 
 record-of-requires : tie.Need-record-of-requires
 record-of-requires c κs =
@@ -52,7 +54,8 @@ record-of-requires c κs =
 
 returns-4 : tie.Need-returns-4
 returns-4 c =
-    let b = c .before .before in
+    let d₀ = c .before in
+    let b = d₀ .before .before in
     let d = b .before .before .before .before .before in
     let g = d .before in
     let h = g .before .before .before in
@@ -66,8 +69,8 @@ returns-4 c =
     let r =
     record-found s at (g .one-at .result) (d .kind-of .result) (b .record-of .result) (g .one-at .ensures .0) (d .kind-of .ensures)
     (b .record-of .ensures) in
-    let f : fields (recordAt s at) t ns ≡ c .before .fields-ground .result = rw (← r) (sym (c .before .fields-ground .ensures)) in
-    sym (refused-fields s at t ns _ (g .before .if1 .left) (e ∙ b .before .before .before .if2 .left) l f (c .if4 .taken))
+    let f : fields (recordAt s at) t ns ≡ d₀ .before .fields-ground .result = rw (← r) (sym (d₀ .before .fields-ground .ensures)) in
+    c .refused4 .ensures ∙ sym (refused-fields s at t ns _ (g .before .if1 .left) (e ∙ b .before .before .before .if2 .left) l f (d₀ .if4 .taken))
 
 add-passing-2 : tie.Need-add-passing-2
 add-passing-2 c =
@@ -98,6 +101,6 @@ returns-5 c =
 pub read-record-spec : {M : Type 1} → statement M
 read-record-spec =
     tie.close (tie.spec
-    returns (λ c κs. search needs) (λ c κs. search needs) (λ c κs. search needs) returns-2 (λ c κs. search needs)
-    (λ c. search needs) add-if3-2 returns-3 (λ c. search needs) record-of-requires (λ c κs. search needs)
-    returns-4 (λ c. search needs) add-passing-2 (λ c κs. search needs) returns-5)
+    (λ c κs. search needs) returns (λ c κs. search needs) (λ c κs. search needs) (λ c κs. search needs) (λ c κs. search needs) returns-2
+    (λ c κs. search needs) (λ c. search needs) add-if3-2 (λ c κs. search needs) returns-3 (λ c. search needs) record-of-requires
+    (λ c κs. search needs) (λ c κs. search needs) returns-4 (λ c. search needs) add-passing-2 (λ c κs. search needs) returns-5)

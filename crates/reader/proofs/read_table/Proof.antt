@@ -30,11 +30,9 @@ returns : tie.Need-returns Inv-loop μ-loop
 returns c =
     let b = c .before .before .before in
     let l = b .before .before .loop in
-    let s = now (b .before .before .before .before .before .args .s) in (
-      turn-refused s (l .store) (l .t) (l .at) (l .rows) (l .inv) (b .read-record .result) (b .read-record .ensures)
-          (c .before .found .given .0 .0) (c .before .found .given .1),
-      tt,
-    )
+    let s = now (b .before .before .before .before .before .args .s) in
+    turn-refused s (l .store) (l .t) (l .at) (l .rows) (l .inv) (b .read-record .result) (b .read-record .ensures)
+    (c .before .found .given .0 .0) (c .before .found .given .1)
 
 keep-requires : tie.Need-keep-requires Inv-loop μ-loop
 keep-requires c κs =
@@ -77,27 +75,28 @@ loop-again c =
 
 returns-2 : tie.Need-returns-2 Inv-loop μ-loop
 returns-2 c =
-    let b = c .before .before in
+    let b = c .before .before .before in
     let d = b .before .before in
     let l = d .before .before .loop in
-    let s = now (d .before .before .before .before .before .args .s) in (
-      turn-tail s (l .store) (l .t) (l .at) (l .rows) (l .inv) (d .read-record .result) (d .read-record .ensures) (b .found3 .given .0 .0)
-          (b .found3 .given .1) (c .if1 .taken),
-      tt,
-    )
+    let s = now (d .before .before .before .before .before .args .s) in
+    rw (c .met .ensures)
+    (turn-tail s (l .store) (l .t) (l .at) (l .rows) (l .inv) (d .read-record .result) (d .read-record .ensures) (b .found3 .given .0 .0)
+    (b .found3 .given .1) (c .before .if1 .taken))
 
 returns-3 : tie.Need-returns-3 Inv-loop μ-loop
 returns-3 c =
-    let b = c .before .before .before .before in
+    let e = c .before in
+    let b = e .before .before .before .before in
     let l = b .before .before .before .before .loop in
     let s = now (b .before .before .before .before .before .before .before .args .s) in
     let x = b .before .before .read-record in
-    turn-ended s (l .store) (l .t) (l .at) (l .rows) (l .inv) (x .result) (x .ensures) (b .found3 .given .0 .0) _ (b .found3 .given .1)
-    (c .before .before .if1 .left) (c .put-counts .ensures)
+    rw (c .none .ensures)
+    (turn-ended s (l .store) (l .t) (l .at) (l .rows) (l .inv) (x .result) (x .ensures) (b .found3 .given .0 .0) _ (b .found3 .given .1)
+    (e .before .before .if1 .left) (e .put-counts .ensures))
 
 pub read-table-spec : {M : Type 1} → statement M
 read-table-spec =
     tie.close (tie.spec
     Inv-loop μ-loop (λ c κs. search needs) (λ c. search needs) loop-holds read-record-requires (λ c. search needs)
-    returns (λ c. search needs) keep-requires advance-requires loop-less loop-again (λ c. search needs) returns-2
-    (λ c κs. search needs) returns-3)
+    returns (λ c. search needs) keep-requires advance-requires loop-less loop-again (λ c. search needs) (λ c κs. search needs)
+    returns-2 (λ c κs. search needs) (λ c κs. search needs) returns-3)

@@ -38,21 +38,23 @@ loop-again c =
 
 returns : tie.Need-returns Inv-loop μ-loop
 returns c =
-    let d = c .before .before .before in
+    let d = c .before .before .before .before in
     let l = d .before .before .loop in
     let b = d .before .before .before .before in
-    let g = c .before .hit .given in
-    loop-collides (now (b .args .store)) (b .pre) _ (l .k) (l .inv) (d .before .loop-test .taken) (d .loop-hit .result)
-    (d .loop-hit .ensures) (g .0 .0) (g .1)
+    let g = c .before .before .hit .given in
+    rw (c .naming .ensures)
+    (loop-collides (now (b .args .store)) (b .pre) _ (l .k) (l .inv) (d .before .loop-test .taken) (d .loop-hit .result)
+    (d .loop-hit .ensures) (g .0 .0) (g .1))
 
 returns-2 : tie.Need-returns-2 Inv-loop μ-loop
 returns-2 c =
-    let l = c .before .loop in
-    let b = c .before .before .before in
-    loops-done (now (b .args .store)) (b .pre) _ (l .k) (l .inv) (c .loop-test .left)
+    let d = c .before in
+    let l = d .before .loop in
+    let b = d .before .before .before in
+    rw (c .none .ensures) (loops-done (now (b .args .store)) (b .pre) _ (l .k) (l .inv) (d .loop-test .left))
 
 pub check-loops-spec : {M : Type 1} → statement M
 check-loops-spec =
     tie.close (tie.spec
     Inv-loop μ-loop (λ c κs. search needs) loop-holds loop-hit-requires (λ c. search needs) add-k
-    (λ c. omega arith) loop-again (λ c. search needs) returns returns-2)
+    (λ c. omega arith) loop-again (λ c. search needs) (λ c κs. search needs) returns (λ c κs. search needs) returns-2)

@@ -1,0 +1,61 @@
+-- An answer: what was asked for, or a refusal. Tests stand in the order in which they are made.
+use Prim.Native.Nat.{ℕ}
+use native.Mathlib.Omega.{arith}
+use mathlib.Core.Path.{_≡_, refl, sym, ap}
+use mathlib.Core.Logic.{_⊎_, inl, inr}
+use mathlib.Core.Bool.{Bool, true, false}
+use Rattle.refusals.specs.declared.Refusal.{Refusal}
+use Rattle.refusals.specs.Refusals.{none}
+
+pub data AnswerOf (T : Type 0) : Type 0 where
+  accepted : T → AnswerOf T
+  refused : Refusal → AnswerOf T
+
+-- the first where the test holds, else the rest
+infixr 20 _if_else_
+abbrev pub _if_else_ : {T : Type 0} → AnswerOf T → Bool → AnswerOf T → AnswerOf T
+_if_else_ a true b = a
+_if_else_ a false b = b
+
+-- what follows an answer: its refusal, or more of what it accepts
+abbrev pub after : {T U : Type 0} → AnswerOf T → (T → AnswerOf U) → AnswerOf U
+after (refused r) more = refused r
+after (accepted t) more = more t
+
+-- what is told of an answer
+abbrev pub refusalOf : {T : Type 0} → AnswerOf T → Refusal
+refusalOf (refused r) = r
+refusalOf (accepted t) = none
+
+-- LAWS
+module _ {T : Type 0} where
+  pub not-both : {r : Refusal} {t : T} → refused r ≡ accepted t → ⊥
+  not-both e = let z : _≡_ {A = ℕ} 0 1 = cc in omega arith
+
+  -- where something is refused, what is told is what is refused
+  pub told-refused : (a : AnswerOf T) (r : Refusal) → r ≡ refusalOf a → (r .ground ≡ 0 → ⊥) → a ≡ refused r
+  told-refused (refused q) r e some = ap refused (sym e)
+  told-refused (accepted t) r e some = absurd (some (ap (λ (x : Refusal). x .ground) e))
+
+  -- a test before what is accepted
+  pub passed : (r : Refusal) (b : Bool) (more : AnswerOf T) (t : T) → (refused r if b else more) ≡ accepted t → (b ≡ false) × (more ≡ accepted t)
+  passed r true more t e = absurd (not-both e)
+  passed r false more t e = (refl, e)
+
+  -- a test before a refusal
+  pub stopped : (r : Refusal) (b : Bool) (more : AnswerOf T) (q : Refusal) → (refused r if b else more) ≡ refused q
+      → ((b ≡ true) × (r ≡ q)) ⊎ ((b ≡ false) × (more ≡ refused q))
+  stopped r true more q e = inl (refl, ap refusalOf e)
+  stopped r false more q e = inr (refl, e)
+
+module _ {T U : Type 0} where
+  -- what is accepted after an answer
+  pub after-accepted : (a : AnswerOf T) (more : T → AnswerOf U) (u : U) → after a more ≡ accepted u → (t : T) × (a ≡ accepted t) × (more t ≡ accepted u)
+  after-accepted (refused r) more u e = absurd (not-both e)
+  after-accepted (accepted t) more u e = (t, refl, e)
+
+  -- what is refused after it
+  pub after-refused : (a : AnswerOf T) (more : T → AnswerOf U) (r : Refusal) → after a more ≡ refused r
+      → (a ≡ refused r) ⊎ ((t : T) × (a ≡ accepted t) × (more t ≡ refused r))
+  after-refused (refused q) more r e = inl (let z : q ≡ r = ap refusalOf e in ap refused z)
+  after-refused (accepted t) more r e = inr (t, refl, e)

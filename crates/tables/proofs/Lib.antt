@@ -1,2 +1,0 @@
--- what the answer of reading through 9 tells
-pub mod Laws
