@@ -1,5 +1,3 @@
--- what the answer of reading a table says
-pub mod Sides
 -- the comparison of lengths, and the copies
 pub mod Walks
 -- the answers of joining

@@ -9,10 +9,10 @@ use lib.Seq.{length-take-le}
 use lib.Dec.{eqb, ltb}
 use borrow.Author.Tests.{eqb-true, eq-eqb, ltb-false, not-false}
 use Rattle.model.specs.Table.{Table, count}
-use Rattle.refusals.specs.Answers.{AnswerOf, accepted}
-use Rattle.reader.specs.Reading.{Answer}
+use Rattle.refusals.specs.Refusals.{met}
+use Rattle.refusals.specs.Answers.{accepted, refused, _if_else_, after, passed, after-accepted}
 use Rattle.serial.specs.Serial.{table}
-use Rattle.outputs.specs.Given.{Given, refused, written, _if_else_, after, fitted, refused-written, passed}
+use Rattle.outputs.specs.Given.{Given, fitted}
 
 -- two lists of arrays' lengths are the same
 unfoldable pub alike : List ℕ → List ℕ → Bool
@@ -30,8 +30,8 @@ unfoldable pub joining : List ℕ → List ℕ → ℕ → Given
 joining left right room =
     after (table left) λ t.
     after (table right) λ u.
-    refused 14 0 if not (alike (t .lengths) (u .lengths)) else
-    refused 4 0 if ltb 16 (count t + count u) else
+    refused (met 14 0) if not (alike (t .lengths) (u .lengths)) else
+    refused (met 4 0) if ltb 16 (count t + count u) else
     fitted room (bytes left right (length (t .lengths)))
 
 -- LAWS
@@ -69,31 +69,22 @@ pub record Written (left right : List ℕ) (room : ℕ) (bs : List ℕ) : Type 0
   pub fits : length bs ≤ room
   pub made : bs ≡ bytes left right (length (ours .lengths))
 
-pub written-known : (left right : List ℕ) (room : ℕ) (bs : List ℕ) → joining left right room ≡ written bs → Written left right room bs
+pub written-known : (left right : List ℕ) (room : ℕ) (bs : List ℕ) → joining left right room ≡ accepted bs → Written left right room bs
 unfolding joining fitted
-written-known left right room bs e = go (table left) refl (table right) refl e
-  where
-    go : (x : Answer) → table left ≡ x → (y : Answer) → table right ≡ y
-        → (after x λ t.
-        after y λ u.
-        refused 14 0 if not (alike (t .lengths) (u .lengths)) else
-        refused 4 0 if ltb 16 (count t + count u) else
-        fitted room (bytes left right (length (t .lengths)))) ≡ written bs
-        → Written left right room bs
-    go (AnswerOf.refused n p) f y g h = absurd (refused-written h)
-    go (accepted t) f (AnswerOf.refused n p) g h = absurd (refused-written h)
-    go (accepted t) f (accepted u) g h =
-        let (like, h₂) = passed 14 0 (not (alike (t .lengths) (u .lengths))) _ bs h in
-        let (few, h₃) = passed 4 0 (ltb 16 (count t + count u)) _ bs h₂ in
-        let (fits, h₄) = passed 13 0 (ltb room (length (bytes left right (length (t .lengths))))) _ bs h₃ in
-        let made : bytes left right (length (t .lengths)) ≡ bs = cc in
-        record {
-          ours = t;
-          theirs = u;
-          left-is = f;
-          right-is = g;
-          like = alike-same (t .lengths) (u .lengths) (not-false (alike (t .lengths) (u .lengths)) like);
-          few = ltb-false 16 (count t + count u) few;
-          fits = rw made at (ltb-false room (length (bytes left right (length (t .lengths)))) fits);
-          made = sym made;
-        }
+written-known left right room bs e =
+    let (t, f, h) = after-accepted (table left) _ bs e in
+    let (u, g, k) = after-accepted (table right) _ bs h in
+    let (like, k₂) = passed (met 14 0) (not (alike (t .lengths) (u .lengths))) _ bs k in
+    let (few, k₃) = passed (met 4 0) (ltb 16 (count t + count u)) _ bs k₂ in
+    let (fits, k₄) = passed (met 13 0) (ltb room (length (bytes left right (length (t .lengths))))) _ bs k₃ in
+    let made : bytes left right (length (t .lengths)) ≡ bs = cc in
+    record {
+      ours = t;
+      theirs = u;
+      left-is = f;
+      right-is = g;
+      like = alike-same (t .lengths) (u .lengths) (not-false (alike (t .lengths) (u .lengths)) like);
+      few = ltb-false 16 (count t + count u) few;
+      fits = rw made at (ltb-false room (length (bytes left right (length (t .lengths)))) fits);
+      made = sym made;
+    }

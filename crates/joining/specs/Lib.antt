@@ -1,7 +1,5 @@
 -- two tables joined: the answer, and what the lent output then holds
 pub mod Joining
--- what the code's answers say
-pub mod Told
 -- a table's loops behind those of another: the two readings side by side
 pub mod Beside
 -- what is written is read back as one table

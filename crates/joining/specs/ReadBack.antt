@@ -22,7 +22,6 @@ use Rattle.reader.specs.Accepting.{Rest, ended, passed, rest-there, rest-accept
 use Rattle.serial.specs.declared.Collision.the-variants.{Nothing}
 use Rattle.serial.specs.Serial.{table, loopHit}
 use Rattle.serial.specs.Parallel.{Parallel, parallel-accepted, accepted-parallel}
-use Rattle.outputs.specs.Given.{written}
 use Rattle.joining.specs.Joining.{bytes, bytes-length, joining, written-known}
 use Rattle.joining.specs.Beside.{Opening, opening, rest-opened, rest-end, Behind, behind-first, behind-clear, behind-more}
 
@@ -194,7 +193,7 @@ both-parallel t u p r k l = go (decLt k (count t))
         ∙ r j (omega (arith, length-append (t .loops) (u .loops)))
 
 -- THE THEOREM: the bytes that are written are an accepted table, of left's arrays and both tables' loops
-pub read-back : (left right : List ℕ) (room : ℕ) (bs : List ℕ) (t u : Table) → joining left right room ≡ written bs → table left ≡ accepted t
+pub read-back : (left right : List ℕ) (room : ℕ) (bs : List ℕ) (t u : Table) → joining left right room ≡ accepted bs → table left ≡ accepted t
     → table right ≡ accepted u → table bs ≡ accepted (together t u)
 read-back left right room bs t u e g h =
     let w = written-known left right room bs e in

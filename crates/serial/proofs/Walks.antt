@@ -11,10 +11,10 @@ use Rattle.model.specs.Table.{Item, read, constant, operation, loop, count}
 use Rattle.refusals.specs.declared.Refusal.{Refusal}
 use Rattle.refusals.specs.Refusals.{naming}
 use Rattle.refusals.specs.Refusals.{none as nothing-refused}
-use Rattle.refusals.specs.Answers.{accepted, told-refused}
+use Rattle.refusals.specs.Answers.{accepted}
 use Rattle.reader.specs.Reading.{Answer, reading}
 use Rattle.reader.specs.Store.{startAt, kindAt, arrayAt, valueAt, loopsIn, itemOf, itemAt, itemsFrom, loopAt, tableIn}
-use Rattle.reader.specs.ReadInto.{ReadInto, into-refused, into-accepted}
+use Rattle.reader.specs.ReadInto.{ReadInto, into-refused, into-told, into-accepted}
 use Rattle.reader.specs.Held.{Held, count-held, few-loops, few-rows, rows-rise, loop-held}
 use Rattle.serial.specs.declared.Collision.{Collision}
 use Rattle.serial.specs.declared.Collision.the-variants.{Nothing, Read}
@@ -128,7 +128,7 @@ module _ (c : List ℕ) (h : Held c) where
 module _ (c s : List ℕ) (r : Refusal) (read : ReadInto (reading s) r c) where
   pub refused-reading : (r .ground ≡ 0 → ⊥) → ReadInto (table s) r c
   unfolding table through
-  refused-reading some = into-refused (table s) c r (ap through (told-refused (reading s) r (read .told) some)) some
+  refused-reading some = into-refused (table s) c r (ap through (into-told (reading s) c r read some)) some
 
   pub checked : (q : Refusal) → r .ground ≡ 0 → ReadInto (through (accepted (tableIn c))) q c → ReadInto (table s) q c
   unfolding table

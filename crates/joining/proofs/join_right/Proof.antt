@@ -1,100 +1,87 @@
 use native.Mathlib.Omega.{arith}
 use mathlib.Core.Path.{sym, _∙_}
 use denote.Ref.{now}
+use Rattle.serial.specs.Serial.{table}
 use Rattle.reader.specs.Held.{few-loops}
-use Rattle.joining.proofs.Sides.{refused-side, accepted-side}
+use Rattle.reader.specs.ReadInto.{into-told}
 use Rattle.joining.proofs.Answers.{right-refused, unlike-arrays, many-loops, joined, enough}
 use borrow.Author.Tests.{not-true, not-false}
 use borrow.Author.Needs.{needs}
 use Rattle.joining.proofs.join_right.Statement.{statement}
 use Rattle.joining.proofs.join_right.Tie as tie
 
-same-lengths-requires : tie.Need-same-lengths-requires
-same-lengths-requires c κs =
-    let e = c .before in
-    let d = e .before .before in
+returns : tie.Need-returns
+returns c =
+    let d = c .before .before .before in
     let b = d .before .before .before .before .before in
-    let theirs = d .read-side .last .1 .0 in
-    let h = accepted-side (now (b .args .right)) theirs (d .read-side .result) (d .read-side .ensures) (e .enum-told .given .1) in
-    (b .pre .held, h .held)
+    let a = b .args in
+    let r = d .read-through in
+    rw (c .refused .ensures)
+    (right-refused (now (a .left)) (now (a .right)) (now (a .out)) (now (a .ours)) (b .pre .0) (b .pre .1) (r .result)
+    (into-told (table (now (a .right))) (r .last .1 .0) (r .result) (r .ensures) (c .before .if1 .taken)))
+
+same-lengths-requires : tie.Need-same-lengths-requires
+same-lengths-requires c κs = (c .before .before .before .before .before .before .before .before .pre .1, c .before .before .before .read-through .ensures .held (c .before .if1 .left) .1)
 
 add-total : tie.Need-add-total
 add-total c =
-    let l = c .before .before in
-    let e = l .before .before .before in
-    let d = e .before .before in
-    let b = d .before .before .before .before .before in
-    let theirs = d .read-side .last .1 .0 in
-    let h = accepted-side (now (b .args .right)) theirs (d .read-side .result) (d .read-side .ensures) (e .enum-told .given .1) in
-    omega (arith, l .loops-in .ensures, c .loops-in2 .ensures, few-loops (b .pre .held), few-loops (h .held))
-
-returns : tie.Need-returns
-returns c =
-    let g = c .before .before .before .before .before in
-    let e = g .before .before in
-    let d = e .before .before in
-    let b = d .before .before .before .before .before in
-    let theirs = d .read-side .last .1 .0 in
-    let h = accepted-side (now (b .args .right)) theirs (d .read-side .result) (d .read-side .ensures) (e .enum-told .given .1) in
-    unlike-arrays (now (b .args .left)) (now (b .args .right)) (now (b .args .out)) (now (b .args .ours)) (b .pre) theirs h
-    (c .refusal .result) (c .refusal .ensures) (sym (not-true _ (c .before .if1 .taken)) ∙ g .same-lengths .ensures)
+    let h = c .before .before .before .before .before .before .before .read-through .ensures .held (c .before .before .before .before .before .if1 .left) in
+    omega (arith, c .before .before .loops-in .ensures, c .loops-in2 .ensures, few-loops (c .before .before .before .before .before .before .before .before .before .before .before .before .pre .1), few-loops (h .1))
 
 returns-2 : tie.Need-returns-2
 returns-2 c =
-    let f = c .before .before in
-    let l = f .before .before .before in
-    let g = l .before in
-    let e = g .before .before in
-    let d = e .before .before in
+    let g = c .before .before .before .before .before .before in
+    let d = g .before .before .before .before in
     let b = d .before .before .before .before .before in
-    let theirs = d .read-side .last .1 .0 in
-    let h = accepted-side (now (b .args .right)) theirs (d .read-side .result) (d .read-side .ensures) (e .enum-told .given .1) in
-    many-loops (now (b .args .left)) (now (b .args .right)) (now (b .args .out)) (now (b .args .ours)) (b .pre) theirs h
-    (sym (not-false _ (f .if1 .left)) ∙ g .same-lengths .ensures) (c .refusal2 .result) (c .refusal2 .ensures)
-    (omega (arith, c .before .if2 .taken, l .loops-in .ensures, f .before .loops-in2 .ensures))
-
-write-requires : tie.Need-write-requires
-write-requires c κs =
-    let f = c .before .before .before in
-    let g = f .before .before .before .before in
-    let e = g .before .before in
-    let d = e .before .before in
-    let b = d .before .before .before .before .before in
-    let theirs = d .read-side .last .1 .0 in
-    let h = accepted-side (now (b .args .right)) theirs (d .read-side .result) (d .read-side .ensures) (e .enum-told .given .1) in
-    rw (c .before .arrays-in .ensures)
-    (enough (now (b .args .left)) (now (b .args .right)) (now (b .args .out)) (now (b .args .ours)) (b .pre) theirs h
-    (sym (not-false _ (f .if1 .left)) ∙ g .same-lengths .ensures))
+    let a = b .args in
+    let r = d .read-through in
+    let h = r .ensures .held (g .before .before .if1 .left) in
+    rw (c .refused2 .ensures, c .before .met .ensures)
+    (unlike-arrays (now (a .left)) (now (a .right)) (now (a .out)) (now (a .ours)) (b .pre .0) (b .pre .1) (r .last .1 .0) (h .0) (h .1)
+    (sym (not-true _ (c .before .before .if2 .taken)) ∙ g .same-lengths .ensures))
 
 returns-3 : tie.Need-returns-3
 returns-3 c =
-    let d = c .before .before .before in
+    let g = c .before .before .before .before .before .before .before in
+    let d = g .before .before .before .before in
     let b = d .before .before .before .before .before in
-    let h =
-    refused-side (now (b .args .right)) (d .read-side .last .1 .0) (d .read-side .result) (d .read-side .ensures) _
-    (c .before .r .given .1) in
-    right-refused (now (b .args .left)) (now (b .args .right)) (now (b .args .out)) (now (b .args .ours)) (b .pre) _ h
+    let a = b .args in
+    let r = d .read-through in
+    let h = r .ensures .held (g .before .before .if1 .left) in
+    rw (c .refused3 .ensures, c .before .met2 .ensures)
+    (many-loops (now (a .left)) (now (a .right)) (now (a .out)) (now (a .ours)) (b .pre .0) (b .pre .1) (r .last .1 .0) (h .0) (h .1)
+    (sym (not-false _ (c .before .before .before .if2 .left)) ∙ g .same-lengths .ensures)
+    (omega (arith, c .before .before .if3 .taken, c .before .before .before .before .before .before .loops-in .ensures, c .before .before .before .before .loops-in2 .ensures)))
+
+write-requires : tie.Need-write-requires
+write-requires c κs =
+    let g = c .before .before .before .before .before .before .before in
+    let d = g .before .before .before .before in
+    let b = d .before .before .before .before .before in
+    let a = b .args in
+    let r = d .read-through in
+    let h = r .ensures .held (g .before .before .if1 .left) in
+    rw (c .before .arrays-in .ensures)
+    (enough (now (a .left)) (now (a .right)) (now (a .out)) (now (a .ours)) (b .pre .0) (b .pre .1) (r .last .1 .0) (h .0) (h .1)
+    (sym (not-false _ (c .before .before .before .if2 .left)) ∙ g .same-lengths .ensures))
 
 returns-4 : tie.Need-returns-4
 returns-4 c =
     let w = c .before .before in
-    let i = w .before .before .before in
-    let f = i .before in
-    let l = f .before .before .before in
-    let g = l .before in
-    let e = g .before .before in
-    let d = e .before .before in
+    let g = w .before .before .before .before .before .before .before .before in
+    let d = g .before .before .before .before in
     let b = d .before .before .before .before .before in
-    let theirs = d .read-side .last .1 .0 in
-    let h = accepted-side (now (b .args .right)) theirs (d .read-side .result) (d .read-side .ensures) (e .enum-told .given .1) in
-    joined (now (b .args .left)) (now (b .args .right)) (now (b .args .out)) (now (b .args .ours)) (b .pre) theirs h
-    (sym (not-false _ (f .if1 .left)) ∙ g .same-lengths .ensures) (w .write .result) (w .write .last .1 .1 .1 .0)
-    (omega (arith, i .if2 .left, l .loops-in .ensures, f .before .loops-in2 .ensures))
+    let a = b .args in
+    let r = d .read-through in
+    let h = r .ensures .held (g .before .before .if1 .left) in
+    joined (now (a .left)) (now (a .right)) (now (a .out)) (now (a .ours)) (b .pre .0) (b .pre .1) (r .last .1 .0) (h .0) (h .1)
+    (sym (not-false _ (w .before .before .before .before .if2 .left)) ∙ g .same-lengths .ensures) (w .write .result) (w .write .last .1 .1 .1 .0)
+    (omega (arith, w .before .before .before .if3 .left, w .before .before .before .before .before .before .before .loops-in .ensures, w .before .before .before .before .before .loops-in2 .ensures))
     (rw (w .before .before .arrays-in .ensures) at (w .write .ensures))
 
 pub join-right-spec : {M : Type 1} → statement M
 join-right-spec =
     tie.close (tie.spec
-    (λ c κs. search needs) (λ c. search needs) (λ c. search needs) same-lengths-requires (λ c κs. search needs)
-    (λ c κs. search needs) add-total (λ c κs. search needs) returns (λ c κs. search needs) returns-2
-    (λ c κs. search needs) write-requires returns-3 (λ c. search needs) returns-4)
+    (λ c κs. search needs) (λ c κs. search needs) returns same-lengths-requires (λ c κs. search needs) (λ c κs. search needs) add-total
+    (λ c κs. search needs) (λ c κs. search needs) returns-2 (λ c κs. search needs) (λ c κs. search needs) returns-3
+    (λ c κs. search needs) write-requires (λ c. search needs) returns-4)

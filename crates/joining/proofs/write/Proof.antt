@@ -13,7 +13,7 @@ returns : tie.Need-returns
 returns c =
     let b = c .before .before .before .before .before in
     let a = b .args in
-    rw (c .refusal .ensures)
+    rw (c .short .ensures)
     (too-long (now (a .left)) (now (a .right)) (now (a .out)) (a .arrays) (b .pre .0) (omega (arith, c .before .if1 .taken)))
 
 slice-aggregate-copy : tie.Need-slice-aggregate-copy
