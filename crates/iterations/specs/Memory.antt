@@ -1,19 +1,19 @@
 -- The memory of a table: its length, which no iteration changes, and ground 12.
 use Prim.Native.Nat.{ℕ, zero, suc, _-_}
 use mathlib.Core.Path.{_≡_, refl, ap, _∙_}
-use mathlib.Core.Bool.{Bool, true, false}
+use mathlib.Core.Bool.{not}
 use mathlib.Core.List.{List, [], _∷_}
-use native.Mathlib.Omega.{arith}
 use lib.Dec.{eqb}
 use lib.ListN.{length, length-set}
-use borrow.Author.Tests.{eqb-true, eq-eqb, ne-eqb}
+use borrow.Author.Tests.{eqb-true, not-false, eq-eqb, ne-eqb}
 use lib.Ieee.{Float}
 use Rattle.order.specs.Reorder.{runAll}
 use Rattle.model.specs.declared.Iteration.{Iteration}
 use Rattle.model.specs.Table.{Statement, Table, loop, count, first, last, iteration}
 use Rattle.model.specs.Bodies.{place, value, performed, run}
 use Rattle.model.specs.PlainRun.{upward, looped, plainRun}
-use Rattle.refusals.specs.Answers.{AnswerOf, accepted, refused, _if_else_}
+use Rattle.refusals.specs.Refusals.{met}
+use Rattle.refusals.specs.Answers.{AnswerOf, accepted, refused, _if_else_, after, passed, after-accepted}
 use Rattle.grounds.specs.Statements.{sum}
 
 -- how many elements the arrays have in all
@@ -23,25 +23,23 @@ total t = sum (t .lengths)
 -- 12: the memory's length n isn't the element total of what was asked for. It is asked of what is accepted alone
 module _ {T : Type 0} (size : T → ℕ) where
   unfoldable pub remembered : ℕ → AnswerOf T → AnswerOf T
-  remembered n (refused g p) = refused g p
-  remembered n (accepted t) = choose (eqb n (size t)) (accepted t) (refused 12 0)
+  remembered n a = after a (λ t. refused (met 12 0) if not (eqb n (size t)) else accepted t)
 
   -- LAWS
   pub remembered-accepted : (n : ℕ) (a : AnswerOf T) (t : T) → remembered n a ≡ accepted t → (a ≡ accepted t) × (n ≡ size t)
   unfolding remembered
-  remembered-accepted n (refused g p) t e = let z : _≡_ {A = ℕ} 0 1 = cc in absurd (omega arith)
-  remembered-accepted n (accepted u) t e = go (eqb n (size u)) refl e
-    where
-      go : (b : Bool) → eqb n (size u) ≡ b → choose b (accepted u) (refused 12 0) ≡ accepted t → (accepted u ≡ accepted t) × (n ≡ size t)
-      go true f g = let z : u ≡ t = cc in (g, eqb-true n (size u) f ∙ ap size z)
-      go false f g = let z : _≡_ {A = ℕ} 0 1 = cc in absurd (omega arith)
+  remembered-accepted n a t e =
+      let (u, f, g) = after-accepted a _ t e in
+      let (like, h) = passed (met 12 0) (not (eqb n (size u))) (accepted u) t g in
+      let z : u ≡ t = cc in
+      (f ∙ h, eqb-true n (size u) (not-false (eqb n (size u)) like) ∙ ap size z)
 
   -- a memory of that length is accepted, and one of another length refused
   pub remembered-as-long : (n : ℕ) (t : T) → n ≡ size t → remembered n (accepted t) ≡ accepted t
   unfolding remembered
   remembered-as-long n t e = rw (eq-eqb n (size t) e)
 
-  pub remembered-unlike : (n : ℕ) (t : T) → (n ≡ size t → ⊥) → remembered n (accepted t) ≡ refused 12 0
+  pub remembered-unlike : (n : ℕ) (t : T) → (n ≡ size t → ⊥) → remembered n (accepted t) ≡ refused (met 12 0)
   unfolding remembered
   remembered-unlike n t e = rw (ne-eqb n (size t) e)
 

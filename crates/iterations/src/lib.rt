@@ -10,9 +10,6 @@ ghost use Rattle.bodies.specs.Workable.{Based, Element};
 ghost use Rattle.iterations.specs.Memory.{total};
 ghost use Rattle.iterations.specs.Loaded.{Loaded};
 
-// Ground 12: the memory's length is not the arrays'.
-pub const MEMORY: usize = 12;
-
 // Where each array begins in the memory; past the last one, where the memory ends.
 pub struct Bases {
     pub firsts: [u32; 17],

@@ -1,7 +1,6 @@
 -- The iterations of a loop one after the other, the loops one after the other, and what is told of the run.
 use Prim.Native.Nat.{ℕ, suc, _+_, _-_, _≤_, _<_}
 use native.Mathlib.Omega.{arith}
-use native.Mathlib.Decide.{ℕ-discrete}
 use native.Mathlib.Numerals.{add-one}
 use mathlib.Core.Path.{_≡_, refl, sym, ap, ap₂, _∙_}
 use mathlib.Core.List.{List}
@@ -10,19 +9,19 @@ use lib.Ieee.{Float}
 use Rattle.model.specs.Table.{Table, count, first, last, iteration, Inside}
 use Rattle.model.specs.Bodies.{run}
 use Rattle.model.specs.PlainRun.{upward, looped, plainRun, upward-turn, upward-ended}
-use Rattle.refusals.specs.Answers.{accepted, refused}
-use Rattle.reader.specs.Reading.{Answer}
+use Rattle.refusals.specs.declared.Refusal.{Refusal}
+use Rattle.refusals.specs.Refusals.{met, none}
+use Rattle.refusals.specs.Answers.{accepted, refusalOf}
 use Rattle.reader.specs.Store.{firstAt, lastAt, loopsIn, tableIn}
 use Rattle.reader.specs.Held.{Held, count-held, first-held, last-held}
+use Rattle.reader.specs.ReadInto.{ReadInto, into-told}
 use Rattle.serial.specs.Serial.{table}
 use Rattle.grounds.specs.Accepted.{Valid, accepted-valid, valid-last}
-use Rattle.tables.specs.declared.Verdict.{Verdict}
-use Rattle.tables.specs.Verdict.{numberOf, placeOf, verdict, Told, ReadThrough}
 use Rattle.tables.specs.Nine.{accepted-read}
 use Rattle.bodies.specs.Workable.{Based}
 use Rattle.iterations.specs.Memory.{total, remembered, remembered-as-long, remembered-unlike, run-length, looped-length}
 use Rattle.iterations.specs.Loaded.{Loaded, based-total}
-use Rattle.plain.specs.Plain.{plainAnswer, after, plainMemory}
+use Rattle.plain.specs.Plain.{plainAnswer, runOf, plainMemory}
 use Rattle.plain.specs.Running.{Running}
 
 -- A WALK: the turns from i on give, from what the memory now holds, what all turns give; none changes the memory's length
@@ -117,57 +116,38 @@ module _ (cs bs : List ℕ) (m₀ : List Float) where
 
 -- A TABLE IN A STORE, ON A MEMORY
 module _ (c : List ℕ) (h : Held c × Valid (tableIn c)) (bs : List ℕ) (b : Based bs (tableIn c .lengths)) (m : List Float) where
-  abbrev Answered : ℕ → List Float → Type 0
+  abbrev Answered : Refusal → List Float → Type 0
   Answered r n =
-      (r ≡ numberOf (remembered total (length m) (accepted (tableIn c)))) × (n ≡ after (remembered total (length m) (accepted (tableIn c))) m)
+      (r ≡ refusalOf (remembered total (length m) (accepted (tableIn c)))) × (n ≡ runOf (remembered total (length m) (accepted (tableIn c))) m)
 
   held-total : getD bs 16 0 ≡ total (tableIn c)
   held-total = based-total bs (tableIn c .lengths) 16 b (h .1 .few-arrays) (omega arith)
 
-  pub held-unlike : (length m ≡ getD bs 16 0 → ⊥) → Answered 12 m
-  unfolding after
+  pub held-unlike : (length m ≡ getD bs 16 0 → ⊥) → Answered (met 12 0) m
+  unfolding runOf
   held-unlike e = let z = remembered-unlike total (length m) (tableIn c) (λ q. e (q ∙ sym held-total)) in rw z (refl, refl)
 
   module _ (e : length m ≡ getD bs 16 0) where
     pub held-asks : Running c bs m
     held-asks = record { loaded = record { holds = h .0; valid = h .1; based = b }; long = e ∙ held-total }
 
-    pub held-run : (n : List Float) → n ≡ plainRun (tableIn c) m → Answered 0 n
-    unfolding after
+    pub held-run : (n : List Float) → n ≡ plainRun (tableIn c) m → Answered none n
+    unfolding runOf
     held-run n f = let z = remembered-as-long total (length m) (tableIn c) (e ∙ held-total) in rw z (refl, f)
 
--- WHAT IS TOLD
--- 12 has place 0, and is not 9
-twelve : (n : ℕ) (t : Table) → (0 ≡ placeOf (remembered total n (accepted t))) × (numberOf (remembered total n (accepted t)) ≡ 9 → ⊥)
-twelve n t = go (ℕ-discrete n (total t))
-  where
-    go : Dec (n ≡ total t) → (0 ≡ placeOf (remembered total n (accepted t))) × (numberOf (remembered total n (accepted t)) ≡ 9 → ⊥)
-    go (yes e) = rw (remembered-as-long total n t e) (refl, λ q. omega (arith, q))
-    go (no e) = rw (remembered-unlike total n t e) (refl, λ q. omega (arith, q))
+-- WHAT IS TOLD: 12 is asked of an accepted table alone
+module _ (s c : List ℕ) (r : Refusal) (through : ReadInto (table s) r c) (m : List Float) where
+  pub run-refused : (r .ground ≡ 0 → ⊥) → (r ≡ refusalOf (plainAnswer s (length m))) × (m ≡ plainMemory s m)
+  unfolding plainAnswer plainMemory remembered runOf
+  run-refused some = rw (into-told (table s) c r through some) (refl, refl)
 
--- 12 is asked of an accepted table alone
-refused-stays : (n : ℕ) (a : Answer) → (numberOf a ≡ 0 → ⊥) → (remembered total n a ≡ a) × ((m : List Float) → m ≡ after a m)
-unfolding remembered after
-refused-stays n (accepted t) e = absurd (e refl)
-refused-stays n (refused g p) e = (refl, λ m. refl)
-
-module _ (s c : List ℕ) (r : Verdict) (through : ReadThrough s r c) (m : List Float) where
-  pub run-refused : (r .number ≡ 0 → ⊥) → Told s (plainAnswer s (length m)) r × (m ≡ plainMemory s m)
-  unfolding plainAnswer plainMemory
-  run-refused e =
-      let told = through .told in
-      let (z, same) = refused-stays (length m) (table s) (λ q. e (told .number-is ∙ q)) in
-      rw z (told, same m)
-
-  module _ (none : r .number ≡ 0) where
+  module _ (nothing : r .ground ≡ 0) where
     pub run-held : Held c × Valid (tableIn c)
     run-held =
-        let (e, h) = through .held none in
+        let (e, h) = through .held nothing in
         (h, accepted-valid s (tableIn c) (accepted-read s (tableIn c) e .0))
 
-    pub run-accepted : (x : ℕ) (n : List Float) → x ≡ numberOf (remembered total (length m) (accepted (tableIn c)))
-        → n ≡ after (remembered total (length m) (accepted (tableIn c))) m → Told s (plainAnswer s (length m)) (verdict x 0 0) × (n ≡ plainMemory s m)
+    pub run-accepted : (x : Refusal) (n : List Float) → x ≡ refusalOf (remembered total (length m) (accepted (tableIn c)))
+        → n ≡ runOf (remembered total (length m) (accepted (tableIn c))) m → (x ≡ refusalOf (plainAnswer s (length m))) × (n ≡ plainMemory s m)
     unfolding plainAnswer plainMemory
-    run-accepted x n e f =
-        let (place, other) = twelve (length m) (tableIn c) in
-        rw (through .held none .0) (record { number-is = e; place-is = place; named = λ u q z. absurd (other (sym e ∙ z)); unnamed = λ q. refl }, f)
+    run-accepted x n e f = rw (through .held nothing .0) (e, f)

@@ -17,14 +17,14 @@ unfoldable pub plainAnswer : List ℕ → ℕ → Answer
 plainAnswer s n = remembered total n (table s)
 
 -- a refused run changes nothing
-unfoldable pub after : Answer → List Float → List Float
-after (refused g p) m = m
-after (accepted t) m = plainRun t m
+unfoldable pub runOf : Answer → List Float → List Float
+runOf (refused r) m = m
+runOf (accepted t) m = plainRun t m
 
 unfoldable pub plainMemory : List ℕ → List Float → List Float
-plainMemory s m = after (plainAnswer s (length m)) m
+plainMemory s m = runOf (plainAnswer s (length m)) m
 
 -- LAW: of an accepted table and a memory of its length it is the plain run of the table
 pub plain-memory : (s : List ℕ) (t : Table) (m : List Float) → table s ≡ accepted t → length m ≡ total t → plainMemory s m ≡ plainRun t m
-unfolding plainMemory after plainAnswer remembered
+unfolding plainMemory runOf plainAnswer remembered
 plain-memory s t m e l = rw (e, eq-eqb (length m) (total t) l)

@@ -1,20 +1,19 @@
 // The plain run: the loops in table order, each from first to last, every iteration once. It knows nothing of a plan.
-use iterations::MEMORY;
 use records::STORE;
 use records::Store;
-use tables::Verdict;
+use refusals::MEMORY;
+use refusals::Refusal;
 ghost use mathlib.Core.Path.{_≡_};
 ghost use Prim.Native.Nat.{_<_};
 ghost use lib.ListN.{length};
 ghost use Rattle.model.specs.Table.{count};
 ghost use Rattle.model.specs.PlainRun.{looped, plainRun};
-ghost use Rattle.refusals.specs.Answers.{accepted};
+ghost use Rattle.refusals.specs.Answers.{accepted, refusalOf};
 ghost use Rattle.reader.specs.Store.{tableIn};
 ghost use Rattle.reader.specs.Held.{Held};
 ghost use Rattle.grounds.specs.Accepted.{Valid};
-ghost use Rattle.tables.specs.Verdict.{numberOf, Told};
 ghost use Rattle.iterations.specs.Memory.{total, remembered};
-ghost use Rattle.plain.specs.Plain.{plainAnswer, after, plainMemory};
+ghost use Rattle.plain.specs.Plain.{plainAnswer, runOf, plainMemory};
 ghost use Rattle.plain.specs.Running.{Running};
 
 // One loop, from first to last.
@@ -44,34 +43,29 @@ fn run_loops(store: &Store, bases: &[u32; 17], memory: &mut [f64])
 }
 
 // The table in this store, on a memory of its length; else 12.
-fn run_table(store: &Store, memory: &mut [f64]) -> usize
+fn run_table(store: &Store, memory: &mut [f64]) -> Refusal
     requires { ⌜ Held (now store) × Valid (tableIn (now store)) ⌝ }
-    ensures { λ r. ⌜ r ≡ numberOf (remembered total (length (now (memory .entry))) (accepted (tableIn (now (store .entry))))) ⌝ }
-    ensures { λ r. ⌜ now (memory .exit) ≡ after (remembered total (length (now (memory .entry))) (accepted (tableIn (now (store .entry))))) (now (memory .entry)) ⌝ }
+    ensures { λ r. ⌜ r ≡ refusalOf (remembered total (length (now (memory .entry))) (accepted (tableIn (now (store .entry))))) ⌝ }
+    ensures { λ r. ⌜ now (memory .exit) ≡ runOf (remembered total (length (now (memory .entry))) (accepted (tableIn (now (store .entry))))) (now (memory .entry)) ⌝ }
 {
     let b = iterations::bases_of(store);
     let bases = b.firsts;
     if memory.len() != bases[16] as usize {
-        return MEMORY;
+        return Refusal::met(MEMORY, 0);
     }
     run_loops(store, &bases, memory);
-    0
+    Refusal::none()
 }
 
 // A table's bytes and a memory: 1 to 9, then 12, and a refused run changes nothing.
-pub fn plain_run(s: &[u8], memory: &mut [f64]) -> Verdict
-    ensures { λ r. ⌜ Told (now (s .entry)) (plainAnswer (now (s .entry)) (length (now (memory .entry)))) r ⌝ }
+pub fn plain_run(s: &[u8], memory: &mut [f64]) -> Refusal
+    ensures { λ r. ⌜ r ≡ refusalOf (plainAnswer (now (s .entry)) (length (now (memory .entry)))) ⌝ }
     ensures { λ r. ⌜ now (memory .exit) ≡ plainMemory (now (s .entry)) (now (memory .entry)) ⌝ }
 {
     let mut store = [0u32; STORE];
-    let r = tables::read_through(s, &mut store);
-    if r.number != 0 {
+    let r = serial::read_through(s, &mut store);
+    if r.ground != 0 {
         return r;
     }
-    let number = run_table(&store, memory);
-    Verdict {
-        number,
-        place: 0,
-        read: 0,
-    }
+    run_table(&store, memory)
 }

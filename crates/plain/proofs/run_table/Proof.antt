@@ -6,9 +6,11 @@ use Rattle.plain.proofs.run_table.Tie as tie
 
 returns : tie.Need-returns
 returns c =
-    let d = c .before .before in
+    let d = c .before .before .before in
     let b = d .before .before in
-    held-unlike (now (b .args .store)) (b .pre) (d .bases-of .result .firsts) (d .bases-of .ensures) (now (b .args .memory)) (c .if1 .taken)
+    rw (c .met .ensures)
+    (held-unlike (now (b .args .store)) (b .pre) (d .bases-of .result .firsts) (d .bases-of .ensures) (now (b .args .memory))
+    (c .before .if1 .taken))
 
 run-loops-requires : tie.Need-run-loops-requires
 run-loops-requires c κs =
@@ -19,14 +21,15 @@ run-loops-requires c κs =
 
 returns-2 : tie.Need-returns-2
 returns-2 c =
-    let i = c .before .before .before .before .before in
+    let i = c .before .before .before .before .before .before in
     let d = i .before .before in
     let b = d .before .before in
-    held-run (now (b .args .store)) (b .pre) (d .bases-of .result .firsts) (d .bases-of .ensures) (now (b .args .memory)) (i .if1 .left) _
-    (c .before .before .run-loops .ensures)
+    rw (c .none .ensures)
+    (held-run (now (b .args .store)) (b .pre) (d .bases-of .result .firsts) (d .bases-of .ensures) (now (b .args .memory)) (i .if1 .left) _
+    (c .before .before .before .run-loops .ensures))
 
 pub run-table-spec : {M : Type 1} → statement M
 run-table-spec =
     tie.close (tie.spec
-    (λ c κs. search needs) (λ c. search needs) (λ c. search needs) returns run-loops-requires (λ c. search needs)
-    returns-2)
+    (λ c κs. search needs) (λ c. search needs) (λ c. search needs) (λ c κs. search needs) returns run-loops-requires (λ c κs. search needs)
+    (λ c. search needs) returns-2)
