@@ -1,20 +1,20 @@
 -- What the code found is the table's plan.
 use Prim.Native.Nat.{ℕ, _+_, _-_, _≤_, _<_}
 use native.Mathlib.Omega.{arith}
-use mathlib.Core.Path.{_≡_, refl, sym, ap, _∙_}
+use mathlib.Core.Path.{_≡_, sym, ap, subst, _∙_}
 use mathlib.Core.Bool.{Bool, true, false}
 use mathlib.Core.List.{List}
 use lib.ListN.{length}
 use Rattle.model.specs.Table.{count, first, last}
 use Rattle.model.specs.References.{allRefs}
-use Rattle.refusals.specs.Answers.{accepted, refused, _if_else_}
-use Rattle.reader.specs.Reading.{Answer}
+use Rattle.refusals.specs.declared.Refusal.{Refusal}
+use Rattle.refusals.specs.Refusals.{met, none}
+use Rattle.refusals.specs.Answers.{AnswerOf, accepted, refused, _if_else_, refusalOf}
 use Rattle.reader.specs.Store.{firstAt, lastAt, loopsIn, tableIn}
 use Rattle.reader.specs.Held.{Held, count-held, first-held, last-held}
+use Rattle.reader.specs.ReadInto.{ReadInto, into-told}
 use Rattle.serial.specs.Serial.{table}
 use Rattle.grounds.specs.Accepted.{Valid, valid-last}
-use Rattle.tables.specs.declared.Verdict.{Verdict}
-use Rattle.tables.specs.Verdict.{numberOf, placeOf, ReadThrough}
 use Rattle.amounts.specs.declared.Amounts.{Amounts}
 use Rattle.chains.specs.Dependence.{backward, forward}
 use Rattle.chains.specs.Walk.{shifts, peels, numbers-length}
@@ -24,9 +24,9 @@ use Rattle.blocks.specs.Sums.{least, largest}
 use Rattle.blocks.specs.Span.{spanOf, tableSpan, span-found, span-same}
 use Rattle.blocks.specs.Blocks.{isShort}
 use Rattle.plans.specs.declared.Plan.{Plan}
-use Rattle.plans.specs.Plans.{settings, thresholdOf, planOf, shortFor, fits, fitting}
+use Rattle.plans.specs.Plans.{Planned, settings, thresholdOf, planOf, shortFor, fits, fitting}
 use Rattle.plans.specs.Accepted.{valid, threshold-small}
-use Rattle.plans.specs.Code.{Plans, Chosen, refusing}
+use Rattle.plans.specs.Code.{Plans, refusing}
 
 -- THE SPAN, over the loops of a store
 module _ (c : List ℕ) (h : Held c) (v : Valid (tableIn c)) where
@@ -44,6 +44,10 @@ module _ (c : List ℕ) (h : Held c) (v : Valid (tableIn c)) where
       ∙ span-same (loopsIn c) (first (tableIn c)) (last (tableIn c)) (firstAt c) (lastAt c) some-loops
       (λ k i. first-held h k (omega (arith, count-held h))) (λ k i. last-held h k (omega (arith, count-held h))))
 
+-- a refusal tells itself, and has no plan
+plans-refused : (a : AnswerOf Planned) (c : List ℕ) (r : Refusal) → a ≡ refused r → (r .ground ≡ 0 → ⊥) → Plans a (refusing r) c
+plans-refused a c r e some = record { tells = sym (ap refusalOf e); made = λ z. absurd (some z) }
+
 -- THE PLAN of the table in a store
 module _ (P : ℕ) (c : List ℕ) (h : Held c) (v : Valid (tableIn c)) (a : Amounts)
     (shifts-are : a .shifts ≡ shifts (allRefs (tableIn c))) (peels-are : a .peels ≡ peels (allRefs (tableIn c))) where
@@ -57,27 +61,19 @@ module _ (P : ℕ) (c : List ℕ) (h : Held c) (v : Valid (tableIn c)) (a : Amou
     short-is : shortFor (tableIn c) (settings P) ≡ b
     short-is = ap (λ (q : Span). isShort (q .count) P (thresholdOf (tableIn c))) (sym span-is) ∙ ap (isShort (x .count) P) (sym (found ∙ threshold-is)) ∙ sym asked
 
-    chosen : {d : Bool} → b ≡ d → fits (settings P) (tableIn c) ≡ choose d (refused 11 0) (accepted (record { table = tableIn c; plan = planOf (tableIn c) (settings P) }))
+    chosen : {d : Bool} → b ≡ d
+        → fits (settings P) (tableIn c) ≡ (refused (met 11 0) if d else accepted (record { table = tableIn c; plan = planOf (tableIn c) (settings P) }))
     chosen e = rw (short-is ∙ e)
 
-    pub chosen-short : b ≡ true → Chosen (fits (settings P) (tableIn c)) (refusing 11 0 0) c
-    chosen-short e = record {
-      number-is = sym (ap numberOf (chosen e));
-      place-is = sym (ap placeOf (chosen e));
-      unnamed = refl;
-      other = λ z. omega (arith, z);
-      made = λ z. absurd (omega (arith, z));
-    }
+    pub chosen-short : b ≡ true → Plans (fits (settings P) (tableIn c)) (refusing (met 11 0)) c
+    chosen-short e = plans-refused (fits (settings P) (tableIn c)) c (met 11 0) (chosen e) (λ z. omega (arith, z))
 
     abbrev pub plan : Plan
-    plan = record { number = 0; place = 0; read = 0; axis = record { first = x .first; count = x .count; blocks = P; shifts = a .shifts; peels = a .peels } }
+    plan = record { refusal = none; axis = record { first = x .first; count = x .count; blocks = P; shifts = a .shifts; peels = a .peels } }
 
-    pub chosen-made : b ≡ false → Chosen (fits (settings P) (tableIn c)) plan c
+    pub chosen-made : b ≡ false → Plans (fits (settings P) (tableIn c)) plan c
     chosen-made e = record {
-      number-is = sym (ap numberOf (chosen e));
-      place-is = sym (ap placeOf (chosen e));
-      unnamed = refl;
-      other = λ z. omega (arith, z);
+      tells = sym (ap refusalOf (chosen e));
       made = λ z. record {
         is = chosen e ∙ ap accepted (sym (rw (span-is, shifts-are, peels-are)));
         held = h;
@@ -86,52 +82,25 @@ module _ (P : ℕ) (c : List ℕ) (h : Held c) (v : Valid (tableIn c)) (a : Amou
       };
     }
 
--- AFTER THE READING
--- 10 and 11 are asked of an accepted table alone
-refused-stays : (wrong : Bool) (P : ℕ) (a : Answer) → (numberOf a ≡ 0 → ⊥)
-    → (numberOf a ≡ numberOf (fitting wrong (settings P) a)) × (placeOf a ≡ placeOf (fitting wrong (settings P) a))
-unfolding fitting
-refused-stays wrong P (accepted t) n = absurd (n refl)
-refused-stays wrong P (refused g p) n = (refl, refl)
+-- AFTER THE READING: 10 and 11 are asked of an accepted table alone
+module _ (s : List ℕ) (wrong : Bool) (P : ℕ) (v : Refusal) (c : List ℕ) (r : ReadInto (table s) v c) where
+  abbrev pub answer : AnswerOf Planned
+  answer = fitting wrong (settings P) (table s)
 
-module _ (s : List ℕ) (wrong : Bool) (P : ℕ) (v : Verdict) (c : List ℕ) (r : ReadThrough s v c) where
-  pub plans-refused : (v .number ≡ 0 → ⊥) → Plans s (fitting wrong (settings P) (table s)) (refusing (v .number) (v .place) (v .read)) c
-  plans-refused n = record {
-    tells = record {
-      number-is = r .told .number-is ∙ same .0;
-      place-is = r .told .place-is ∙ same .1;
-      named = r .told .named;
-      unnamed = r .told .unnamed;
-    };
-    made = λ e. absurd (n e);
-  }
-    where
-      same : (numberOf (table s) ≡ numberOf (fitting wrong (settings P) (table s))) × (placeOf (table s) ≡ placeOf (fitting wrong (settings P) (table s)))
-      same = refused-stays wrong P (table s) (λ z. n (r .told .number-is ∙ z))
+  pub read-refused : (v .ground ≡ 0 → ⊥) → Plans answer (refusing v) c
+  unfolding fitting
+  read-refused some = plans-refused answer c v (ap (fitting wrong (settings P)) (into-told (table s) c v r some)) some
 
-  module _ (zero-number : v .number ≡ 0) where
+  module _ (nothing : v .ground ≡ 0) where
     pub read-held : Held c × Valid (tableIn c)
-    read-held = let (e, h) = r .held zero-number in (h, valid s (tableIn c) e)
+    read-held = let (e, h) = r .held nothing in (h, valid s (tableIn c) e)
 
-    found : {d : Bool} → wrong ≡ d → fitting wrong (settings P) (table s) ≡ choose d (refused 10 0) (fits (settings P) (tableIn c))
+    found : {d : Bool} → wrong ≡ d → answer ≡ (refused (met 10 0) if d else fits (settings P) (tableIn c))
     unfolding fitting
-    found e = ap (fitting wrong (settings P)) (r .held zero-number .0) ∙ ap (λ (x : Bool). choose x (refused 10 0) (fits (settings P) (tableIn c))) e
+    found e = rw (r .held nothing .0, e)
 
-    pub plans-ten : wrong ≡ true → Plans s (fitting wrong (settings P) (table s)) (refusing 10 0 0) c
-    plans-ten e = record {
-      tells = record { number-is = sym (ap numberOf (found e)); place-is = sym (ap placeOf (found e)); named = λ t q z. absurd (omega (arith, z)); unnamed = λ q. refl };
-      made = λ z. absurd (omega (arith, z));
-    }
+    pub plans-ten : wrong ≡ true → Plans answer (refusing (met 10 0)) c
+    plans-ten e = plans-refused answer c (met 10 0) (found e) (λ z. omega (arith, z))
 
-    pub plans-chosen : wrong ≡ false → (p : Plan) → Chosen (fits (settings P) (tableIn c)) p c → Plans s (fitting wrong (settings P) (table s)) p c
-    plans-chosen e p h = record {
-      tells = record {
-        number-is = h .number-is ∙ sym (ap numberOf (found e));
-        place-is = h .place-is ∙ sym (ap placeOf (found e));
-        named = λ t q z. absurd (h .other z);
-        unnamed = λ q. h .unnamed;
-      };
-      made = λ z.
-          let m = h .made z in
-          record { is = found e ∙ m .is; held = m .held; shifts-long = m .shifts-long; peels-long = m .peels-long };
-    }
+    pub plans-chosen : wrong ≡ false → (p : Plan) → Plans (fits (settings P) (tableIn c)) p c → Plans answer p c
+    plans-chosen e p h = subst (λ (a : AnswerOf Planned). Plans a p c) (sym (found e)) h

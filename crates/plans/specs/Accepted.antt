@@ -3,14 +3,15 @@ use Prim.Native.Nat.{ℕ, zero, suc, _+_, _*_, _/_, _%_, _≤_, _<_}
 use native.Mathlib.Nat.{mod-lt, div-add-mod, mul-zero}
 use native.Mathlib.Omega.{arith}
 use mathlib.Core.Path.{_≡_, refl, sym, ap, subst, _∙_}
-use mathlib.Core.Bool.{Bool, true, false, or-false, or-true}
+use mathlib.Core.Bool.{Bool, false, or-false, or-true}
 use mathlib.Core.List.{List}
 use lib.Dec.{eqb, ltb, leb}
 use borrow.Author.Tests.{eqb-false, ltb-false, leb-false, lt-leb, le-leb}
 use Rattle.model.specs.Table.{Table, count, first, last}
 use Rattle.model.specs.References.{allRefs}
 use Rattle.model.specs.Sound.{Sound}
-use Rattle.refusals.specs.Answers.{accepted, refused, _if_else_}
+use Rattle.refusals.specs.Refusals.{met}
+use Rattle.refusals.specs.Answers.{AnswerOf, accepted, refused, passed, after-accepted}
 use Rattle.reader.specs.Reading.{Answer}
 use Rattle.serial.specs.Serial.{table}
 use Rattle.grounds.specs.Accepted.{Valid, accepted-valid, valid-last}
@@ -25,7 +26,7 @@ use Rattle.blocks.specs.Sums.{neither}
 use Rattle.blocks.specs.Blocks.{start-next, start-up, start-last, size-least, short-not}
 use Rattle.lists.specs.Fusion.{Fusion, Wide, fusion-wide}
 use Rattle.rows.specs.Legal.{Legal}
-use Rattle.plans.specs.Plans.{Settings, Planned, shiftOf, peelOf, thresholdOf, planOf, shortFor, badProcessors, badNumber, fitting, planned, plannedFor}
+use Rattle.plans.specs.Plans.{Settings, Planned, shiftOf, peelOf, thresholdOf, planOf, shortFor, badProcessors, badNumber, fits, fitting, planned, plannedFor}
 
 -- the table meets none of the grounds 1 to 9; every dependence is kept; the blocks are no smaller than any loop's shift and peel together, and
 -- none is empty; and the bounds that the code's sums need
@@ -118,18 +119,13 @@ valid s t e = accepted-valid s t (accepted-read s t e .0)
 fitting-accepted : (wrong : Bool) (w : Settings) (a : Answer) (q : Planned) → fitting wrong w a ≡ accepted q
     → (a ≡ accepted (q .table)) × (q .plan ≡ planOf (q .table) w) × (wrong ≡ false) × (shortFor (q .table) w ≡ false)
 unfolding fitting
-fitting-accepted wrong w (refused n p) q e = let z : _≡_ {A = ℕ} 0 1 = cc in absurd (omega arith)
-fitting-accepted wrong w (accepted t) q e = go wrong (shortFor t w) refl e
-  where
-    go : (b d : Bool) → shortFor t w ≡ d
-        → choose b (refused 10 0) (choose d (refused 11 0) (accepted (record { table = t; plan = planOf t w }))) ≡ accepted q
-        → (accepted t ≡ accepted (q .table)) × (q .plan ≡ planOf (q .table) w) × (b ≡ false) × (shortFor (q .table) w ≡ false)
-    go true d g r = let z : _≡_ {A = ℕ} 0 1 = cc in absurd (omega arith)
-    go false true g r = let z : _≡_ {A = ℕ} 0 1 = cc in absurd (omega arith)
-    go false false g r =
-        let z : record { table = t; plan = planOf t w } ≡ q = cc in
-        subst (λ (x : Planned). (accepted t ≡ accepted (x .table)) × (x .plan ≡ planOf (x .table) w) × (false ≡ false) × (shortFor (x .table) w ≡ false)) z
-        (refl, refl, refl, g)
+fitting-accepted wrong w a q e =
+    let (t, f, g) = after-accepted a _ q e in
+    let (b, h) = passed (met 10 0) wrong (fits w t) q g in
+    let (short, k) = passed (met 11 0) (shortFor t w) (accepted (record { table = t; plan = planOf t w })) q h in
+    let z : record { table = t; plan = planOf t w } ≡ q = cc in
+    subst (λ (x : Planned). (a ≡ accepted (x .table)) × (x .plan ≡ planOf (x .table) w) × (wrong ≡ false) × (shortFor (x .table) w ≡ false)) z
+    (f, refl, b, short)
 
 pub planned-accepts : (s : List ℕ) (w : Settings) (q : Planned) → planned s w ≡ accepted q → AcceptedPlan s w q
 unfolding planned
@@ -157,7 +153,7 @@ pub named-below : (s : List ℕ) (w : Settings) (b : ℕ) (q : Planned) → plan
 named-below s w b q e l = named-same s w b (omega (arith, counted s w q e)) ∙ e
 
 -- beside a plan that is accepted, a number that is not below P is 10
-pub named-past : (s : List ℕ) (w : Settings) (b : ℕ) (q : Planned) → planned s w ≡ accepted q → q .plan .processors ≤ b → plannedFor s w b ≡ refused 10 0
+pub named-past : (s : List ℕ) (w : Settings) (b : ℕ) (q : Planned) → planned s w ≡ accepted q → q .plan .processors ≤ b → plannedFor s w b ≡ refused (met 10 0)
 unfolding plannedFor fitting
 named-past s w b q e l =
     let past : w .processors ≤ b = omega (arith, counted s w q e) in

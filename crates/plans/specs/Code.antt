@@ -3,10 +3,10 @@ use Prim.Native.Nat.{ℕ}
 use mathlib.Core.Path.{_≡_}
 use mathlib.Core.List.{List}
 use lib.ListN.{length, replicate}
-use Rattle.refusals.specs.Answers.{AnswerOf, accepted}
+use Rattle.refusals.specs.declared.Refusal.{Refusal}
+use Rattle.refusals.specs.Answers.{AnswerOf, accepted, refusalOf}
 use Rattle.reader.specs.Store.{tableIn}
 use Rattle.reader.specs.Held.{Held}
-use Rattle.tables.specs.Verdict.{Tells, numberOf, placeOf}
 use Rattle.blocks.specs.declared.Axis.{Axis}
 use Rattle.lists.specs.Fusion.{fusionIn}
 use Rattle.plans.specs.declared.Plan.{Plan}
@@ -24,27 +24,14 @@ pub record Made (a : AnswerOf Planned) (r : Plan) (c : List ℕ) : Type 0 where
   pub shifts-long : length (r .axis .shifts) ≡ 16
   pub peels-long : length (r .axis .peels) ≡ 16
 
--- a plan tells the answer a, for the table's bytes s
-pub record Plans (s : List ℕ) (a : AnswerOf Planned) (r : Plan) (c : List ℕ) : Type 0 where
-  pub tells : Tells s a (r .number) (r .place) (r .read)
-  pub made : r .number ≡ 0 → Made a r c
+-- a plan tells the answer a
+pub record Plans (a : AnswerOf Planned) (r : Plan) (c : List ℕ) : Type 0 where
+  pub tells : r .refusal ≡ refusalOf a
+  pub made : r .refusal .ground ≡ 0 → Made a r c
 
 -- a refusal has no plan
-abbrev pub refusing : ℕ → ℕ → ℕ → Plan
-refusing number place read = record {
-  number = number;
-  place = place;
-  read = read;
-  axis = record { first = 0; count = 0; blocks = 0; shifts = replicate 16 0; peels = replicate 16 0 };
-}
-
--- the same where no table's bytes are at hand, and so no read is named
-pub record Chosen (a : AnswerOf Planned) (r : Plan) (c : List ℕ) : Type 0 where
-  pub number-is : r .number ≡ numberOf a
-  pub place-is : r .place ≡ placeOf a
-  pub unnamed : r .read ≡ 0
-  pub other : r .number ≡ 9 → ⊥
-  pub made : r .number ≡ 0 → Made a r c
+abbrev pub refusing : Refusal → Plan
+refusing r = record { refusal = r; axis = record { first = 0; count = 0; blocks = 0; shifts = replicate 16 0; peels = replicate 16 0 } }
 
 -- WHAT CODE IS LENT of an accepted plan: the plan along an index, and the table in the store
 pub record Laid (a : Axis) (c : List ℕ) : Type 0 where

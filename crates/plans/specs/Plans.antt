@@ -6,7 +6,8 @@ use lib.Dec.{eqb, ltb, leb}
 use lib.ListN.{getD}
 use Rattle.model.specs.Table.{Table}
 use Rattle.model.specs.References.{allRefs}
-use Rattle.refusals.specs.Answers.{AnswerOf, accepted, refused, _if_else_}
+use Rattle.refusals.specs.Refusals.{met}
+use Rattle.refusals.specs.Answers.{AnswerOf, accepted, refused, _if_else_, after}
 use Rattle.reader.specs.Reading.{Answer}
 use Rattle.serial.specs.Serial.{table}
 use Rattle.chains.specs.Walk.{shifts, peels}
@@ -55,12 +56,11 @@ badNumber w b = badProcessors w || leb (w .processors) b
 
 -- 11, or the table with its plan
 abbrev pub fits : Settings → Table → AnswerOf Planned
-fits w t = choose (shortFor t w) (refused 11 0) (accepted (record { table = t; plan = planOf t w }))
+fits w t = refused (met 11 0) if shortFor t w else accepted (record { table = t; plan = planOf t w })
 
 -- after 1 to 9: 10 where the processors are wrong, then 11
 unfoldable pub fitting : Bool → Settings → Answer → AnswerOf Planned
-fitting wrong w (refused n p) = refused n p
-fitting wrong w (accepted t) = choose wrong (refused 10 0) (fits w t)
+fitting wrong w a = after a (λ t. refused (met 10 0) if wrong else fits w t)
 
 unfoldable pub planned : List ℕ → Settings → AnswerOf Planned
 planned s w = fitting (badProcessors w) w (table s)

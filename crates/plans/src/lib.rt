@@ -5,6 +5,9 @@ use arithmetic::minus;
 use blocks::Axis;
 use blocks::Span;
 use records::Store;
+use refusals::PROCESSORS;
+use refusals::Refusal;
+use refusals::SHORT;
 ghost use mathlib.Core.Path.{_≡_};
 ghost use Prim.Native.Nat.{_<_};
 ghost use Rattle.reader.specs.Store.{Sized, tableIn};
@@ -13,31 +16,21 @@ ghost use Rattle.serial.specs.Serial.{table};
 ghost use Rattle.grounds.specs.Accepted.{Valid};
 ghost use Rattle.blocks.specs.Span.{tableSpan};
 ghost use Rattle.plans.specs.Plans.{settings, badProcessors, badNumber, fits, fitting, planned, plannedFor};
-ghost use Rattle.plans.specs.Code.{Plans, Chosen, refusing};
-
-// Grounds 10 and 11.
-const PROCESSORS: usize = 10;
-
-const SHORT: usize = 11;
+ghost use Rattle.plans.specs.Code.{Plans, refusing};
 
 const MOST_PROCESSORS: u32 = 64;
 
-// The plan for a number of processors: the refusal, 0 where there is none, with its place and the read that 9 names; and the plan along the
-// index, for the table in the store.
+// The plan for a number of processors: what is refused; and where nothing is, the plan along the index, for the table in the store.
 pub struct Plan {
-    pub number: usize,
-    pub place: usize,
-    pub read: usize,
+    pub refusal: Refusal,
     pub axis: Axis,
 }
 
-fn refusal(number: usize, place: usize, read: usize) -> Plan
-    ensures { λ r. ⌜ r ≡ refusing number place read ⌝ }
+fn refused(r: Refusal) -> Plan
+    ensures { λ p. ⌜ p ≡ refusing r ⌝ }
 {
     Plan {
-        number,
-        place,
-        read,
+        refusal: r,
         axis: Axis {
             first: 0,
             count: 0,
@@ -91,20 +84,19 @@ fn span_of(store: &Store) -> Span
 // The plan of the table in a store, or 11.
 fn plan_read(processors: u32, store: &Store) -> Plan
     requires { ⌜ Held (now store) × Valid (tableIn (now store)) ⌝ }
-    ensures { λ r. ⌜ Chosen (fits (settings processors) (tableIn (now (store .entry)))) r (now (store .entry)) ⌝ }
+    ensures { λ r. ⌜ Plans (fits (settings processors) (tableIn (now (store .entry)))) r (now (store .entry)) ⌝ }
 {
     let found = amounts::amounts_of(store);
     let span = span_of(store);
     let threshold = amounts::threshold_of(found) as u32;
     if blocks::short(span.count, processors, threshold) {
-        return refusal(SHORT, 0, 0);
+        return refused(Refusal::met(SHORT, 0));
     }
     let shifts = found.shifts;
     let peels = found.peels;
+    let none = Refusal::none();
     Plan {
-        number: 0,
-        place: 0,
-        read: 0,
+        refusal: none,
         axis: Axis {
             first: span.first,
             count: span.count,
@@ -118,14 +110,14 @@ fn plan_read(processors: u32, store: &Store) -> Plan
 // The plan of a table for a number of processors, if that is not wrong; the store is lent.
 fn plan_unless(s: &[u8], wrong: bool, processors: u32, store: &mut Store) -> Plan
     requires { ⌜ Sized (now store) ⌝ }
-    ensures { λ r. ⌜ Plans (now (s .entry)) (fitting wrong (settings processors) (table (now (s .entry)))) r (now (store .exit)) ⌝ }
+    ensures { λ r. ⌜ Plans (fitting wrong (settings processors) (table (now (s .entry)))) r (now (store .exit)) ⌝ }
 {
-    let v = tables::read_through(s, store);
-    if v.number != 0 {
-        return refusal(v.number, v.place, v.read);
+    let r = serial::read_through(s, store);
+    if r.ground != 0 {
+        return refused(r);
     }
     if wrong {
-        return refusal(PROCESSORS, 0, 0);
+        return refused(Refusal::met(PROCESSORS, 0));
     }
     plan_read(processors, store)
 }
@@ -133,7 +125,7 @@ fn plan_unless(s: &[u8], wrong: bool, processors: u32, store: &mut Store) -> Pla
 // The plan of a table for a number of processors; the store is lent.
 pub fn plan_table(s: &[u8], processors: u32, store: &mut Store) -> Plan
     requires { ⌜ Sized (now store) ⌝ }
-    ensures { λ r. ⌜ Plans (now (s .entry)) (planned (now (s .entry)) (settings processors)) r (now (store .exit)) ⌝ }
+    ensures { λ r. ⌜ Plans (planned (now (s .entry)) (settings processors)) r (now (store .exit)) ⌝ }
 {
     let wrong = bad_processors(processors);
     plan_unless(s, wrong, processors, store)
@@ -142,7 +134,7 @@ pub fn plan_table(s: &[u8], processors: u32, store: &mut Store) -> Plan
 // The same for a call that names a processor.
 pub fn plan_for(s: &[u8], processors: u32, processor: u32, store: &mut Store) -> Plan
     requires { ⌜ Sized (now store) ⌝ }
-    ensures { λ r. ⌜ Plans (now (s .entry)) (plannedFor (now (s .entry)) (settings processors) processor) r (now (store .exit)) ⌝ }
+    ensures { λ r. ⌜ Plans (plannedFor (now (s .entry)) (settings processors) processor) r (now (store .exit)) ⌝ }
 {
     let wrong = bad_number(processors, processor);
     plan_unless(s, wrong, processors, store)

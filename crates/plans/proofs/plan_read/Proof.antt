@@ -14,32 +14,32 @@ cast-threshold c =
 
 returns : tie.Need-returns
 returns c =
-    let b = c .before .before in
-    let d = b .before in
-    let e = d .before in
-    let f = e .before .before in
-    let p = f .pre in
-    let a = e .before .amounts-of in
-    let x =
-    chosen-short (f .args .processors) (now (f .args .store)) (p .0) (p .1) (a .result) (a .ensures .0) (a .ensures .1)
-    (e .span-of .result) (d .threshold-of .result) (b .short .result) (e .span-of .ensures) (d .threshold-of .ensures)
-    (b .short .ensures) (c .before .if1 .taken) in
-    rw (c .refusal .ensures) x
-
-returns-2 : tie.Need-returns-2
-returns-2 c =
     let b = c .before .before .before in
     let d = b .before in
     let e = d .before in
     let f = e .before .before in
     let p = f .pre in
     let a = e .before .amounts-of in
-    chosen-made (f .args .processors) (now (f .args .store)) (p .0) (p .1) (a .result) (a .ensures .0) (a .ensures .1) (e .span-of .result)
+    rw (c .refused .ensures, c .before .met .ensures)
+    (chosen-short (f .args .processors) (now (f .args .store)) (p .0) (p .1) (a .result) (a .ensures .0) (a .ensures .1)
+    (e .span-of .result) (d .threshold-of .result) (b .short .result) (e .span-of .ensures) (d .threshold-of .ensures)
+    (b .short .ensures) (c .before .before .if1 .taken))
+
+returns-2 : tie.Need-returns-2
+returns-2 c =
+    let b = c .before .before .before .before in
+    let d = b .before in
+    let e = d .before in
+    let f = e .before .before in
+    let p = f .pre in
+    let a = e .before .amounts-of in
+    rw (c .none .ensures)
+    (chosen-made (f .args .processors) (now (f .args .store)) (p .0) (p .1) (a .result) (a .ensures .0) (a .ensures .1) (e .span-of .result)
     (d .threshold-of .result) (b .short .result) (e .span-of .ensures) (d .threshold-of .ensures) (b .short .ensures)
-    (c .before .before .if1 .left)
+    (c .before .before .before .if1 .left))
 
 pub plan-read-spec : {M : Type 1} → statement M
 plan-read-spec =
     tie.close (tie.spec
     (λ c κs. search needs) (λ c κs. search needs) (λ c κs. search needs) cast-threshold (λ c κs. search needs)
-    (λ c κs. search needs) returns returns-2)
+    (λ c κs. search needs) (λ c κs. search needs) returns (λ c κs. search needs) returns-2)

@@ -1,38 +1,42 @@
 use denote.Ref.{now}
-use Rattle.plans.proofs.Laws.{plans-refused, read-held, plans-ten, plans-chosen}
+use Rattle.plans.proofs.Laws.{read-refused, read-held, plans-ten, plans-chosen}
 use borrow.Author.Needs.{needs}
 use Rattle.plans.proofs.plan_unless.Statement.{statement}
 use Rattle.plans.proofs.plan_unless.Tie as tie
 
 returns : tie.Need-returns
 returns c =
-    let a = c .before .before .before .before .before .before .args in
-    let x = c .before .before .before .read-through in
-    rw (c .refusal .ensures)
-    (plans-refused (now (a .s)) (a .wrong) (a .processors) (x .result) (x .last .1 .0) (x .ensures) (c .before .if1 .taken))
+    let d = c .before .before .before in
+    let a = d .before .before .before .args in
+    let x = d .read-through in
+    rw (c .refused .ensures)
+    (read-refused (now (a .s)) (a .wrong) (a .processors) (x .result) (x .last .1 .0) (x .ensures) (c .before .if1 .taken))
 
 returns-2 : tie.Need-returns-2
 returns-2 c =
-    let a = c .before .before .before .before .before .before .before .args in
-    let x = c .before .before .before .before .read-through in
-    rw (c .refusal2 .ensures)
-    (plans-ten (now (a .s)) (a .wrong) (a .processors) (x .result) (x .last .1 .0) (x .ensures) (c .before .before .if1 .left)
-    (c .before .if2 .taken))
+    let d = c .before .before .before .before .before in
+    let a = d .before .before .before .args in
+    let x = d .read-through in
+    rw (c .refused2 .ensures, c .before .met .ensures)
+    (plans-ten (now (a .s)) (a .wrong) (a .processors) (x .result) (x .last .1 .0) (x .ensures) (c .before .before .before .if1 .left) (c .before .before .if2 .taken))
 
 plan-read-requires : tie.Need-plan-read-requires
-plan-read-requires c κs = let a = c .before .before .before .before .before .before .before .args in
-    let x = c .before .before .before .before .read-through in
+plan-read-requires c κs =
+    let d = c .before .before .before .before in
+    let a = d .before .before .before .args in
+    let x = d .read-through in
     read-held (now (a .s)) (a .wrong) (a .processors) (x .result) (x .last .1 .0) (x .ensures) (c .before .before .if1 .left)
 
 returns-3 : tie.Need-returns-3
 returns-3 c =
-    let a = c .before .before .before .before .before .before .before .before .args in
-    let x = c .before .before .before .before .before .read-through in
-    plans-chosen (now (a .s)) (a .wrong) (a .processors) (x .result) (x .last .1 .0) (x .ensures) (c .before .before .before .if1 .left)
-    (c .before .before .if2 .left) (c .plan-read .result) (c .plan-read .ensures)
+    let d = c .before .before .before .before .before in
+    let a = d .before .before .before .args in
+    let x = d .read-through in
+    plans-chosen (now (a .s)) (a .wrong) (a .processors) (x .result) (x .last .1 .0) (x .ensures) (c .before .before .before .if1 .left) (c .before .before .if2 .left)
+    (c .plan-read .result) (c .plan-read .ensures)
 
 pub plan-unless-spec : {M : Type 1} → statement M
 plan-unless-spec =
     tie.close (tie.spec
-    (λ c κs. search needs) (λ c κs. search needs) returns (λ c κs. search needs) returns-2 plan-read-requires
+    (λ c κs. search needs) (λ c κs. search needs) returns (λ c κs. search needs) (λ c κs. search needs) returns-2 plan-read-requires
     returns-3)
