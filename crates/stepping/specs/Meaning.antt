@@ -11,6 +11,8 @@ use Rattle.order.specs.Lists.{nth-mem, mem-joined}
 use Rattle.model.specs.declared.Iteration.{Iteration}
 use Rattle.model.specs.Table.{iteration, Inside}
 use Rattle.model.specs.Bodies.{run}
+use Rattle.refusals.specs.declared.Refusal.{Refusal}
+use Rattle.refusals.specs.Refusals.{met}
 use Rattle.refusals.specs.Answers.{AnswerOf, accepted, refused}
 use Rattle.grounds.specs.Accepted.{valid-last}
 use Rattle.blocks.specs.Sums.{column}
@@ -26,26 +28,26 @@ use Rattle.stepping.specs.Step.{workOf, reportOf, elements, steppedBy, s
 
 -- a report says what its call said
 pub said-performs : (a : Said Iteration) (k i : ℕ) → reportOf a ≡ Performed k i → a ≡ performs (iteration k i)
-said-performs (refuses n p) k i e = cc
+said-performs (refuses r) k i e = cc
 said-performs (performs x) k i e = let l : x .number ≡ k = cc in let j : x .index ≡ i = cc in rw (← l, ← j)
 said-performs waits k i e = cc
 said-performs ends k i e = cc
 
 said-waits : (a : Said Iteration) → reportOf a ≡ Waiting → a ≡ waits
-said-waits (refuses n p) e = cc
+said-waits (refuses r) e = cc
 said-waits (performs x) e = cc
 said-waits waits e = refl
 said-waits ends e = cc
 
 said-ends : (a : Said Iteration) → reportOf a ≡ Finished → a ≡ ends
-said-ends (refuses n p) e = cc
+said-ends (refuses r) e = cc
 said-ends (performs x) e = cc
 said-ends waits e = cc
 said-ends ends e = refl
 
 -- it is no refusal
 abbrev goesOn : Said Iteration → Bool
-goesOn (refuses n p) = false
+goesOn (refuses r) = false
 goesOn (performs x) = true
 goesOn waits = true
 goesOn ends = true
@@ -60,7 +62,7 @@ module _ (s : List ℕ) (w : Settings) (b : ℕ) (cs : List ℕ) (m : List Float
     pub turns : step s w b cs m ≡ turn (iteration 0 0) (workOf q) (run (q .table)) b cs m
 
   abbrev pub IsRefused : Type 0
-  IsRefused = (n : ℕ) × (p : ℕ) × (step s w b cs m ≡ stays cs m (refuses n p))
+  IsRefused = (r : Refusal) × (step s w b cs m ≡ stays cs m (refuses r))
 
   pub step-is : IsRefused ⊎ ((q : Planned) × Turns q)
   unfolding step steppedBy stepped
@@ -68,14 +70,14 @@ module _ (s : List ℕ) (w : Settings) (b : ℕ) (cs : List ℕ) (m : List Float
     where
       at : (q : Planned) → remembered elements (length m) (plannedFor s w b) ≡ accepted q → (x : Bool) → wrongState (workOf q) cs ≡ x
           → IsRefused ⊎ ((q : Planned) × Turns q)
-      at q e true f = inl (15, 0, ap (steppedBy b cs m) e ∙ (rw f))
+      at q e true f = inl (met 15 0, ap (steppedBy b cs m) e ∙ (rw f))
       at q e false f =
           let (a, l) = remembered-accepted elements (length m) (plannedFor s w b) q e in
           let (p, proper) = named-accepts s w b q a in
           inr (q, record { plan = p; proper = proper; memory = l; state = f; turns = ap (steppedBy b cs m) e ∙ (rw f) })
 
       go : (a : AnswerOf Planned) → remembered elements (length m) (plannedFor s w b) ≡ a → IsRefused ⊎ ((q : Planned) × Turns q)
-      go (refused n p) e = inl (n, p, ap (steppedBy b cs m) e)
+      go (refused r) e = inl (r, ap (steppedBy b cs m) e)
       go (accepted q) e = at q e (wrongState (workOf q) cs) refl
 
   -- where it is not refused, it says what comes next
@@ -86,7 +88,7 @@ module _ (s : List ℕ) (w : Settings) (b : ℕ) (cs : List ℕ) (m : List Float
       said f = ap (λ (x : After Iteration (List Float)). x .said) f
 
       go : IsRefused ⊎ ((q : Planned) × Turns q) → (q : Planned) × Turns q × (next (iteration 0 0) (workOf q) b cs ≡ a)
-      go (inl (n, p, f)) = absurd (false≢true (ap goesOn (sym (said f) ∙ e) ∙ on))
+      go (inl (r, f)) = absurd (false≢true (ap goesOn (sym (said f) ∙ e) ∙ on))
       go (inr (q, t)) = (q, t, sym (said (t .turns) ∙ turn-said (iteration 0 0) (workOf q) (run (q .table)) b cs m) ∙ e)
 
   abbrev pub report : Report

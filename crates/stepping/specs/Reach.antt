@@ -6,6 +6,7 @@ use lib.ListN.{length}
 use lib.Ieee.{Float}
 use Rattle.model.specs.Table.{iteration}
 use Rattle.model.specs.Bodies.{run}
+use Rattle.refusals.specs.Refusals.{met}
 use Rattle.refusals.specs.Answers.{accepted}
 use Rattle.turns.specs.Turn.{refuses, stays, turn}
 use Rattle.turns.specs.Reach.{Reachable, stepped-turn}
@@ -24,6 +25,6 @@ module _ (s : List ℕ) (w : Settings) (q : Planned) (planned-is : planned s w �
       (stepped-turn (iteration 0 0) (workOf q) (run (q .table)) b cs m r)
 
   -- a number not below P is refused, by 10
-  pub step-past : q .plan .processors ≤ b → step s w b cs m ≡ stays cs m (refuses 10 0)
+  pub step-past : q .plan .processors ≤ b → step s w b cs m ≡ stays cs m (refuses (met 10 0))
   unfolding step steppedBy remembered
   step-past l = rw (named-past s w b q planned-is l)

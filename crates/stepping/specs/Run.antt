@@ -18,11 +18,11 @@ module _ (s : List ℕ) (w : Settings) (order : List ℕ) (m : List Float) where
   runRow q = rowOf (step s w) (q .plan .processors) (listed (workOf q)) order m
 
   abbrev pub memoryOf : AnswerOf Planned → List Float
-  memoryOf (refused number place) = m
+  memoryOf (refused r) = m
   memoryOf (accepted q) = memoryAfter (step s w) (runRow q) noneDone m
 
   abbrev pub idleOf : AnswerOf Planned → ℕ
-  idleOf (refused number place) = 0
+  idleOf (refused r) = 0
   idleOf (accepted q) = idle (reports (step s w) (runRow q) noneDone m)
 
   unfoldable pub runMemory : List Float

@@ -25,7 +25,7 @@ workOf q = record { processors = q .plan .processors; phases = phases (q .table)
 
 -- what a call says, as code reports it
 abbrev pub reportOf : Said Iteration → Report
-reportOf (refuses number place) = Refused number place
+reportOf (refuses r) = Refused r
 reportOf (performs x) = Performed (x .number) (x .index)
 reportOf waits = Waiting
 reportOf ends = Finished
@@ -36,7 +36,7 @@ elements q = total (q .table)
 
 -- after 1 to 12: 15, or the turn
 unfoldable pub steppedBy : ℕ → List ℕ → List Float → AnswerOf Planned → After Iteration (List Float)
-steppedBy b counts m (refused number place) = stays counts m (refuses number place)
+steppedBy b counts m (refused r) = stays counts m (refuses r)
 steppedBy b counts m (accepted q) = stepped (iteration 0 0) (workOf q) (run (q .table)) b counts m
 
 -- from a table's bytes: 1 to 9, 10 (P, then the number), 11, 12, 15

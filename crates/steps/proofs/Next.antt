@@ -93,7 +93,7 @@ module _ {w : Work Iteration} {P b : ℕ} {es xs : List ℕ} {at : ℕ} {c : Lis
 
 -- WHAT PERFORMING IT LEAVES
 reported : (s : Said Iteration) (k i : ℕ) → Performed k i ≡ reportOf s → s ≡ performs (iteration k i)
-reported (refuses number place) k i e = let z : _≡_ {A = ℕ} 0 1 = cc in absurd (omega arith)
+reported (refuses q) k i e = let z : _≡_ {A = ℕ} 0 1 = cc in absurd (omega arith)
 reported (performs x) k i e = let p : k ≡ x .number = cc in let q : i ≡ x .index = cc in rw (p, q)
 reported waits k i e = let z : _≡_ {A = ℕ} 0 1 = cc in absurd (omega arith)
 reported ends k i e = let z : _≡_ {A = ℕ} 0 1 = cc in absurd (omega arith)
@@ -135,7 +135,7 @@ module _ {w : Work Iteration} {P b : ℕ} {es xs : List ℕ} {at : ℕ} {c bs : 
     leaves-other n = go (next (iteration 0 0) w b cs) refl
       where
         go : (s : Said Iteration) → next (iteration 0 0) w b cs ≡ s → Leaves (turn (iteration 0 0) w (run (tableIn c)) b cs m) cs m r
-        go (refuses number place) e = leaves (refuses number place) e cs m refl refl refl
+        go (refuses q) e = leaves (refuses q) e cs m refl refl refl
         go (performs x) e = absurd (n (x .number) (x .index) (told ∙ ap reportOf e))
         go waits e = leaves waits e cs m refl refl refl
         go ends e = leaves ends e cs m refl refl refl

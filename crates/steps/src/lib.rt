@@ -3,12 +3,14 @@ use arithmetic::wide;
 use barriers::ENDS;
 use barriers::Ends;
 use blocks::Axis;
-use iterations::MEMORY;
 use layouts::LISTS;
 use ranges::PHASE;
 use ranges::PHASES;
 use records::STORE;
 use records::Store;
+use refusals::MEMORY;
+use refusals::Refusal;
+use refusals::STATE;
 use stepping::Report;
 ghost use mathlib.Core.Path.{_≡_};
 ghost use Prim.Native.Nat.{_<_};
@@ -23,23 +25,19 @@ ghost use Rattle.turns.specs.Turn as turns;
 ghost use Rattle.turns.specs.Turn.{Work};
 ghost use Rattle.plans.specs.Plans.{settings};
 ghost use Rattle.plans.specs.Code.{Laid, plannedIn};
-ghost use Rattle.stepping.specs.Step.{reportOf, elements, steppedBy};
+ghost use Rattle.stepping.specs.Step.{reportOf, elements, steppedBy, step};
 ghost use Rattle.steps.specs.Ready.{Listed, Ready, Leaves};
-ghost use Rattle.steps.specs.Steps.{refusing, Steps};
-
-// Ground 15.
-const STATE: usize = 15;
+ghost use Rattle.steps.specs.Refusing.{refusing};
 
 // How many iterations each processor has done.
 pub struct Counts {
     pub done: [u32; 64],
 }
 
-// The counts after a step, and what it reports; `read` is the read that 9 names, 0 without it.
+// The counts after a step, and what it reports.
 pub struct Stepped {
     pub counts: Counts,
     pub report: Report,
-    pub read: usize,
 }
 
 // What processor b's next call reports. Its lists stand from `at` on, and `ends` says where all phases end.
@@ -98,32 +96,30 @@ pub fn turn(
 
 impl Counts {
     // A refused call hands back the counts as found.
-    fn refused(self, number: usize, place: usize, read: usize) -> Stepped
-        ensures { λ r. ⌜ r ≡ refusing self number place read ⌝ }
+    fn refused(self, r: Refusal) -> Stepped
+        ensures { λ x. ⌜ x ≡ refusing self r ⌝ }
     {
         Stepped {
             counts: self,
-            report: Report::Refused { number, place },
-            read,
+            report: Report::Refused(r),
         }
     }
 
     // One step of processor b of an accepted plan: 12, 15, then the turn.
     fn step_planned(self, a: Axis, b: u32, store: &Store, memory: &mut [f64]) -> Stepped
         requires { ⌜ Laid a (now store) × (b < a .blocks) ⌝ }
-        ensures { λ r. ⌜ r .read ≡ 0 ⌝ }
         ensures { λ r. ⌜ Leaves (steppedBy b (self .done) (now (memory .entry)) (remembered elements (length (now (memory .entry))) (accepted (plannedIn a (now (store .entry)))))) (r .counts .done) (now (memory .exit)) (r .report) ⌝ }
     {
         let bases = iterations::bases_of(store);
         let firsts = bases.firsts;
         if memory.len() != wide(firsts[16]) {
-            return self.refused(MEMORY, 0, 0);
+            return self.refused(Refusal::met(MEMORY, 0));
         }
         let mut ends = [0u32; ENDS];
         layouts::put_ends(a, store, &mut ends);
         let mut done = self.done;
         if barriers::wrong_state(&done, &ends, a.blocks, PHASES) {
-            return self.refused(STATE, 0, 0);
+            return self.refused(Refusal::met(STATE, 0));
         }
         let mut lists = [0u32; LISTS];
         layouts::put_lists(a, b, store, &mut lists[..], 0);
@@ -141,18 +137,18 @@ impl Counts {
         Stepped {
             counts: Counts { done },
             report,
-            read: 0,
         }
     }
 
     // One step of a processor.
     pub fn step(self, s: &[u8], processors: u32, processor: u32, memory: &mut [f64]) -> Stepped
-        ensures { λ r. ⌜ Steps (now (s .entry)) (settings processors) processor (self .done) (now (memory .entry)) r (now (memory .exit)) ⌝ }
+        ensures { λ r. ⌜ Leaves (step (now (s .entry)) (settings processors) processor (self .done) (now (memory .entry))) (r .counts .done) (now (memory .exit)) (r .report) ⌝ }
     {
         let mut store = [0u32; STORE];
         let p = plans::plan_for(s, processors, processor, &mut store);
-        if p.number != 0 {
-            return self.refused(p.number, p.place, p.read);
+        let r = p.refusal;
+        if r.ground != 0 {
+            return self.refused(r);
         }
         let a = p.axis;
         self.step_planned(a, processor, &store, memory)

@@ -25,13 +25,13 @@ use Rattle.turns.specs.Complete.{Complete, ends-complete}
 
 -- a call performs exactly if there is an action
 performing-done : {A : Type 0} (s : Said A) → performing s ≡ true → (x : A) × (done s ≡ x ∷ [])
-performing-done (refuses n p) e = absurd (false≢true e)
+performing-done (refuses r) e = absurd (false≢true e)
 performing-done (performs x) e = (x, refl)
 performing-done waits e = absurd (false≢true e)
 performing-done ends e = absurd (false≢true e)
 
 done-performing : {A : Type 0} (s : Said A) (x : A) → done s ≡ x ∷ [] → performing s ≡ true
-done-performing (refuses n p) x e = cc
+done-performing (refuses r) x e = cc
 done-performing (performs y) x e = refl
 done-performing waits x e = cc
 done-performing ends x e = cc

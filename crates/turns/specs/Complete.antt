@@ -22,13 +22,13 @@ use Rattle.turns.specs.Follows.{Calls, performed, started}
 -- an action is reported exactly if it is among those performed
 pub performed-mem : {A : Type 0} (x : A) (ss : List (Said A)) → Mem (performs x) ss → Mem x (performed ss)
 performed-mem x ss (mhere {xs = l} e) = subst (λ (s : Said _). Mem x (done s ++ performed l)) e (mhere refl)
-performed-mem x ss (mthere {x = refuses n p} {xs = l} m) = performed-mem x l m
+performed-mem x ss (mthere {x = refuses r} {xs = l} m) = performed-mem x l m
 performed-mem x ss (mthere {x = performs y} {xs = l} m) = mthere (performed-mem x l m)
 performed-mem x ss (mthere {x = waits} {xs = l} m) = performed-mem x l m
 performed-mem x ss (mthere {x = ends} {xs = l} m) = performed-mem x l m
 
 pub mem-performed : {A : Type 0} (x : A) (ss : List (Said A)) → Mem x (performed ss) → Mem (performs x) ss
-mem-performed x (refuses n p ∷ ss) m = mthere (mem-performed x ss m)
+mem-performed x (refuses r ∷ ss) m = mthere (mem-performed x ss m)
 mem-performed x (performs y ∷ ss) m =
     ⊎-elim (λ (e : x ≡ y). mhere (ap performs e)) (λ h. mthere (mem-performed x ss h)) (List·Memᴰ·cases-cons m)
 mem-performed x (waits ∷ ss) m = mthere (mem-performed x ss m)

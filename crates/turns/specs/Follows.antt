@@ -11,6 +11,7 @@ use Rattle.order.specs.Reorder.{runAll, runAll-append}
 use Rattle.order.specs.Machine.{left, next, count, trace, final, zeros}
 use Rattle.order.specs.Rows.{Rows, plan}
 use Rattle.blocks.specs.Sums.{column}
+use Rattle.refusals.specs.Refusals.{met}
 use Rattle.turns.specs.Turn.{Said, refuses, After, stays, turn}
 use Rattle.turns.specs.Row.{noneDone, none-done, reports, countsAfter, memoryAfter}
 use Rattle.turns.specs.Reach.{Reachable, none-reachable, turn-reachable}
@@ -22,7 +23,7 @@ pub record Calls {A M : Type 0} (none : A) (r : Rows A) (run : A → M → M) (F
   pub few : r .size ≤ 64
   pub keeps : (x : A) (m : M) → Fits m → Fits (run x m)
   pub step-turn : (b : ℕ) (cs : List ℕ) (m : M) → Fits m → Reachable (work r) cs → b < r .size → step b cs m ≡ turn none (work r) run b cs m
-  pub step-past : (b : ℕ) (cs : List ℕ) (m : M) → r .size ≤ b → step b cs m ≡ stays cs m (refuses 10 0)
+  pub step-past : (b : ℕ) (cs : List ℕ) (m : M) → r .size ≤ b → step b cs m ≡ stays cs m (refuses (met 10 0))
 
 -- the actions that are performed, in order
 abbrev pub performed : {A : Type 0} → List (Said A) → List A

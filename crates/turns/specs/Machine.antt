@@ -21,7 +21,7 @@ use Rattle.turns.specs.Meaning.{own-length, own-more, own-nth, turn-said
 
 -- the action that is performed
 abbrev pub done : {A : Type 0} → Said A → List A
-done (refuses number place) = []
+done (refuses r) = []
 done (performs x) = x ∷ []
 done waits = []
 done ends = []
@@ -148,7 +148,7 @@ module _ {A M : Type 0} (none : A) (r : Rows A) (run : A → M → M) (b : ℕ) 
       at k (no n) = counted-other cs b k n ∙ sym (put-other (column cs) b k (suc (column cs b)) n)
 
       go : (s : Said A) → column (after run b cs m s .counts) ≡ count (plan r) (column cs) b (done (after run b cs m s .said))
-      go (refuses n p) = refl
+      go (refuses r) = refl
       go (performs x) = fun-ext λ k. at k (ℕ-discrete k b)
       go waits = refl
       go ends = refl
@@ -159,7 +159,7 @@ module _ {A M : Type 0} (none : A) (r : Rows A) (run : A → M → M) (b : ℕ) 
   turn-memory = go (next none (work r) b cs)
     where
       go : (s : Said A) → after run b cs m s .memory ≡ runAll run (done (after run b cs m s .said)) m
-      go (refuses n p) = refl
+      go (refuses r) = refl
       go (performs x) = refl
       go waits = refl
       go ends = refl

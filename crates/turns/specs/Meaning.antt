@@ -33,7 +33,7 @@ unfolding turn
 turn-said {A} none w run b cs m = go (next none w b cs)
   where
     go : (s : Said A) → after run b cs m s .said ≡ s
-    go (refuses n p) = refl
+    go (refuses r) = refl
     go (performs x) = refl
     go waits = refl
     go ends = refl

@@ -20,7 +20,7 @@ noneDone = zeros 64
 
 -- a call that waits, is finished or is refused is idle
 abbrev pub performing : {A : Type 0} → Said A → Bool
-performing (refuses number place) = false
+performing (refuses r) = false
 performing (performs x) = true
 performing waits = false
 performing ends = false

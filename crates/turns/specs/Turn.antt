@@ -4,6 +4,8 @@ use mathlib.Core.Bool.{Bool, cond, _&&_, _||_}
 use mathlib.Core.List.{List}
 use lib.Dec.{ltb, leb}
 use lib.ListN.{length, getD, set}
+use Rattle.refusals.specs.declared.Refusal.{Refusal}
+use Rattle.refusals.specs.Refusals.{met}
 use Rattle.blocks.specs.Sums.{column, some, total}
 
 -- what settles a run: so many processors and phases, and for each phase and processor a list
@@ -14,7 +16,7 @@ pub record Work (A : Type 0) : Type 0 where
 
 -- what a call says
 pub data Said (A : Type 0) : Type 0 where
-  refuses : (number place : ℕ) → Said A
+  refuses : Refusal → Said A
   performs : A → Said A
   waits : Said A
   ends : Said A
@@ -79,7 +81,7 @@ counted counts b = set counts b (suc (column counts b))
 -- an action is performed, and counted
 abbrev pub after : {A M : Type 0} → (A → M → M) → ℕ → List ℕ → M → Said A → After A M
 after run b counts m (performs x) = record { counts = counted counts b; memory = run x m; said = performs x }
-after run b counts m (refuses number place) = stays counts m (refuses number place)
+after run b counts m (refuses r) = stays counts m (refuses r)
 after run b counts m waits = stays counts m waits
 after run b counts m ends = stays counts m ends
 
@@ -91,4 +93,4 @@ module _ {A M : Type 0} (none : A) (w : Work A) (run : A → M → M) where
   -- 15, or the turn
   unfoldable pub stepped : ℕ → List ℕ → M → After A M
   unfolding wrongState turn
-  stepped b counts m = cond (wrongState w counts) (stays counts m (refuses 15 0)) (turn b counts m)
+  stepped b counts m = cond (wrongState w counts) (stays counts m (refuses (met 15 0))) (turn b counts m)
