@@ -33,7 +33,7 @@ unfolding turn
 turn-long w c b cs m = go (next (iteration 0 0) w b cs)
   where
     go : (s : Said Iteration) → length (after (run (tableIn c)) b cs m s .memory) ≡ length m
-    go (refuses number place) = refl
+    go (refuses q) = refl
     go (performs x) = run-length (tableIn c) x m
     go waits = refl
     go ends = refl
@@ -55,13 +55,13 @@ left-small {a} l = omega (arith, l .idle-is, idling-small (a .said))
 
 -- what a report adds to it
 pub idles-none : (r : Report) (k i : ℕ) → r ≡ Performed k i → Idles 0 r
-idles-none r k i e (refuses number place) f = let z : _≡_ {A = ℕ} 0 1 = cc in absurd (omega arith)
+idles-none r k i e (refuses q) f = let z : _≡_ {A = ℕ} 0 1 = cc in absurd (omega arith)
 idles-none r k i e (performs x) f = refl
 idles-none r k i e waits f = let z : _≡_ {A = ℕ} 0 1 = cc in absurd (omega arith)
 idles-none r k i e ends f = let z : _≡_ {A = ℕ} 0 1 = cc in absurd (omega arith)
 
 pub idles-one : (r : Report) → ((k i : ℕ) → r ≡ Performed k i → ⊥) → Idles 1 r
-idles-one r n (refuses number place) f = refl
+idles-one r n (refuses q) f = refl
 idles-one r n (performs x) f = absurd (n (x .number) (x .index) f)
 idles-one r n waits f = refl
 idles-one r n ends f = refl

@@ -6,10 +6,11 @@ use mathlib.Core.List.{List}
 use lib.ListN.{length}
 use lib.Ieee.{Float}
 use borrow.Author.Tests.{lt-ltb, le-ltb}
-use Rattle.refusals.specs.Answers.{AnswerOf, accepted, refused}
+use Rattle.refusals.specs.declared.Refusal.{Refusal}
+use Rattle.refusals.specs.Refusals.{met, none}
+use Rattle.refusals.specs.Answers.{accepted, refused, refusalOf, told-refused}
 use Rattle.reader.specs.Store.{tableIn}
 use Rattle.blocks.specs.declared.Axis.{Axis}
-use Rattle.tables.specs.Verdict.{numberOf, placeOf, Tells}
 use Rattle.iterations.specs.Memory.{total, remembered, remembered-as-long, remembered-unlike}
 use Rattle.iterations.specs.Loaded.{Loaded}
 use Rattle.model.specs.declared.Iteration.{Iteration}
@@ -35,7 +36,7 @@ module _ (a : Axis) (c : List ℕ) (h : Laid a c) (es xs bs : List ℕ) (loaded 
   given-by : (step : Step)
       → ((b : ℕ) (cs : List ℕ) (m : List Float) → length m ≡ total (tableIn c) → Reachable (workIn a c) cs → b < a .blocks
       → step b cs m ≡ turn (iteration 0 0) (workIn a c) (run (tableIn c)) b cs m)
-      → ((b : ℕ) (cs : List ℕ) (m : List Float) → a .blocks ≤ b → step b cs m ≡ stays cs m (refuses 10 0))
+      → ((b : ℕ) (cs : List ℕ) (m : List Float) → a .blocks ≤ b → step b cs m ≡ stays cs m (refuses (met 10 0)))
       → Given (workIn a c) step (a .blocks) es xs c bs
   given-by step turns past = record {
     counted = refl;
@@ -65,62 +66,24 @@ module _ (a : Axis) (c : List ℕ) (h : Laid a c) (es xs bs : List ℕ) (loaded 
 
 -- THE RUN
 module _ (s : List ℕ) (w : Settings) (order : List ℕ) (m : List Float) where
-  run-refused : (number place : ℕ) → runAnswer s w (length m) ≡ refused number place → (m ≡ runMemory s w order m) × (0 ≡ runIdle s w order m)
+  run-refused : (r : Refusal) → runAnswer s w (length m) ≡ refused r → Runs s w order m (record { refusal = r; idle = 0 }) m
   unfolding runMemory runIdle
-  run-refused number place e = rw e (refl, refl)
+  run-refused r e = record { tells = rw e refl; memory-is = rw e refl; idle-is = rw e refl }
 
   -- 1 to 11
-  pub runs-refused : (number place read : ℕ) → Tells s (planned s w) number place read → (number ≡ 0 → ⊥)
-      → Runs s w order m (record { number = number; place = place; read = read; idle = 0 }) m
+  pub runs-refused : (r : Refusal) → r ≡ refusalOf (planned s w) → (r .ground ≡ 0 → ⊥) → Runs s w order m (record { refusal = r; idle = 0 }) m
   unfolding remembered
-  runs-refused number place read h n = go (planned s w) refl
-    where
-      go : (a : AnswerOf Planned) → planned s w ≡ a → Runs s w order m (record { number = number; place = place; read = read; idle = 0 }) m
-      go (accepted t) e = absurd (n (h .number-is ∙ ap numberOf e))
-      go (refused g q) e =
-          let f : runAnswer s w (length m) ≡ refused g q = ap (remembered elements (length m)) e in
-          let (o, i) = run-refused g q f in
-          record {
-            tells = record {
-              number-is = h .number-is ∙ ap numberOf e ∙ sym (ap numberOf f);
-              place-is = h .place-is ∙ ap placeOf e ∙ sym (ap placeOf f);
-              named = h .named;
-              unnamed = h .unnamed;
-            };
-            memory-is = o;
-            idle-is = i;
-          }
+  runs-refused r h some = run-refused r (ap (remembered elements (length m)) (told-refused (planned s w) r h some))
 
   module _ (q : Planned) (planned-is : planned s w ≡ accepted q) where
     -- 12
-    pub runs-unlike : (length m ≡ total (q .table) → ⊥) → Runs s w order m (record { number = 12; place = 0; read = 0; idle = 0 }) m
-    runs-unlike n =
-        let f : runAnswer s w (length m) ≡ refused 12 0 = ap (remembered elements (length m)) planned-is ∙ remembered-unlike elements (length m) q n in
-        let (o, i) = run-refused 12 0 f in
-        record {
-          tells = record {
-            number-is = sym (ap numberOf f);
-            place-is = sym (ap placeOf f);
-            named = λ u e z. absurd (omega (arith, z));
-            unnamed = λ z. refl;
-          };
-          memory-is = o;
-          idle-is = i;
-        }
+    pub runs-unlike : (length m ≡ total (q .table) → ⊥) → Runs s w order m (record { refusal = met 12 0; idle = 0 }) m
+    runs-unlike n = run-refused (met 12 0) (ap (remembered elements (length m)) planned-is ∙ remembered-unlike elements (length m) q n)
 
     pub runs-made : length m ≡ total (q .table) → (left : List Float) (n : ℕ) → Rowed (workOf q) (step s w) (q .plan .processors) order m left n
-        → Runs s w order m (record { number = 0; place = 0; read = 0; idle = n }) left
+        → Runs s w order m (record { refusal = none; idle = n }) left
     unfolding runMemory runIdle
-    runs-made long left n h = record {
-      tells = record {
-        number-is = sym (ap numberOf f);
-        place-is = sym (ap placeOf f);
-        named = λ u g z. absurd (omega (arith, z));
-        unnamed = λ z. refl;
-      };
-      memory-is = rw f (h .memory-is);
-      idle-is = rw f (h .idle-is);
-    }
+    runs-made long left n h = record { tells = sym (ap refusalOf f); memory-is = rw f (h .memory-is); idle-is = rw f (h .idle-is) }
       where
         f : runAnswer s w (length m) ≡ accepted q
         f = ap (remembered elements (length m)) planned-is ∙ remembered-as-long elements (length m) q long

@@ -6,6 +6,7 @@ use mathlib.Core.List.{List}
 use lib.Dec.{ltb}
 use lib.ListN.{length}
 use lib.Ieee.{Float}
+use Rattle.refusals.specs.Refusals.{met}
 use Rattle.model.specs.declared.Iteration.{Iteration}
 use Rattle.model.specs.Table.{iteration}
 use Rattle.model.specs.Bodies.{run}
@@ -32,7 +33,7 @@ Idles n r = (s : Said Iteration) → r ≡ reportOf s → n ≡ idling s
 
 -- a call that names any number
 abbrev pub called : Work Iteration → ℕ → List ℕ → Step
-called w P c b counts m = cond (ltb b P) (turn (iteration 0 0) w (run (tableIn c)) b counts m) (stays counts m (refuses 10 0))
+called w P c b counts m = cond (ltb b P) (turn (iteration 0 0) w (run (tableIn c)) b counts m) (stays counts m (refuses (met 10 0)))
 
 -- each processor's lists stand where it looks for them
 abbrev pub Readies : Work Iteration → ℕ → List ℕ → List ℕ → List ℕ → List ℕ → Type 0
@@ -48,7 +49,7 @@ pub record Given (w : Work Iteration) (step : Step) (P : ℕ) (ends xs c bs : Li
   pub ready : Readies w P ends xs c bs
   pub turns : (b : ℕ) (cs : List ℕ) (m : List Float) → length m ≡ total (tableIn c) → Reachable w cs → b < P
       → step b cs m ≡ turn (iteration 0 0) w (run (tableIn c)) b cs m
-  pub past : (b : ℕ) (cs : List ℕ) (m : List Float) → P ≤ b → step b cs m ≡ stays cs m (refuses 10 0)
+  pub past : (b : ℕ) (cs : List ℕ) (m : List Float) → P ≤ b → step b cs m ≡ stays cs m (refuses (met 10 0))
 
 -- counts, a memory and an addition to the idle count, as a call leaves them
 pub record Left (a : After Iteration (List Float)) (counts : List ℕ) (m : List Float) (n : ℕ) : Type 0 where

@@ -3,12 +3,13 @@ use arithmetic::wide;
 use barriers::ENDS;
 use barriers::Ends;
 use blocks::Axis;
-use iterations::MEMORY;
 use layouts::ALL_LISTS;
 use layouts::LISTS;
 use ranges::PHASES;
 use records::STORE;
 use records::Store;
+use refusals::MEMORY;
+use refusals::Refusal;
 use stepping::Report;
 ghost use mathlib.Core.Path.{_≡_};
 ghost use Prim.Native.Nat.{ℕ, _≤_, _<_};
@@ -26,11 +27,9 @@ ghost use Rattle.plans.specs.Code.{Laid, plannedIn};
 ghost use Rattle.running.specs.Code.{Step, Idles, called, Readies, Given, Left, Ordered, Rowed};
 ghost use Rattle.running.specs.Runs.{Runs};
 
-// What a run answers: the refusal, 0 without one, with its place and the read that 9 names; and how many calls were idle.
+// What a run answers: what is refused, and how many calls were idle.
 pub struct Ran {
-    pub number: usize,
-    pub place: usize,
-    pub read: usize,
+    pub refusal: Refusal,
     pub idle: usize,
 }
 
@@ -39,10 +38,7 @@ fn idle_of(report: Report) -> usize
     ensures { λ r. ⌜ Idles r report ⌝ }
 {
     match report {
-        Report::Refused {
-            number: _,
-            place: _,
-        } => 1,
+        Report::Refused(_) => 1,
         Report::Performed {
             number: _,
             index: _,
@@ -197,10 +193,9 @@ fn run_planned(a: Axis, order: &[u8], store: &Store, memory: &mut [f64]) -> Ran
     let b = iterations::bases_of(store);
     let bases = b.firsts;
     if memory.len() != wide(bases[16]) {
+        let r = Refusal::met(MEMORY, 0);
         return Ran {
-            number: MEMORY,
-            place: 0,
-            read: 0,
+            refusal: r,
             idle: 0,
         };
     }
@@ -209,10 +204,9 @@ fn run_planned(a: Axis, order: &[u8], store: &Store, memory: &mut [f64]) -> Ran
     layouts::put_ends(a, store, &mut ends);
     layouts::put_all_lists(a, store, &mut lists[..]);
     let idle = run_row(order, a.blocks, &ends, &lists[..], store, &bases, memory);
+    let none = Refusal::none();
     Ran {
-        number: 0,
-        place: 0,
-        read: 0,
+        refusal: none,
         idle,
     }
 }
@@ -223,11 +217,10 @@ pub fn run(s: &[u8], processors: u32, order: &[u8], memory: &mut [f64]) -> Ran
 {
     let mut store = [0u32; STORE];
     let p = plans::plan_table(s, processors, &mut store);
-    if p.number != 0 {
+    let r = p.refusal;
+    if r.ground != 0 {
         return Ran {
-            number: p.number,
-            place: p.place,
-            read: p.read,
+            refusal: r,
             idle: 0,
         };
     }

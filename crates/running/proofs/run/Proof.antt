@@ -7,21 +7,22 @@ use Rattle.running.proofs.run.Statement.{statement}
 use Rattle.running.proofs.run.Tie as tie
 
 returns : tie.Need-returns
-returns c = let a = c .before .before .before .before .before .before .before .args in
-    let x = c .before .before .plan-table in
-    runs-refused (now (a .s)) (settings (a .processors)) (now (a .order)) (now (a .memory)) _ _ _ (x .ensures .tells) (c .if1 .taken)
+returns c =
+    let x = c .before .before .before .plan-table in
+    let a = c .before .before .before .before .before .before .before .before .args in
+    runs-refused (now (a .s)) (settings (a .processors)) (now (a .order)) (now (a .memory)) _ (x .ensures .tells) (c .if1 .taken)
 
 run-planned-requires : tie.Need-run-planned-requires
-run-planned-requires c κs = let a = c .before .before .before .before .before .before .before .before .before .before .args in
-    let x = c .before .before .before .before .before .plan-table in
+run-planned-requires c κs =
+    let x = c .before .before .before .before .before .before .plan-table in
+    let a = c .before .before .before .before .before .before .before .before .before .before .before .args in
     made-laid (now (a .s)) (settings (a .processors)) (x .result) _ (x .ensures .made (c .before .before .before .if1 .left))
 
 returns-2 : tie.Need-returns-2
 returns-2 c =
-    let a = c .before .before .before .before .before .before .before .before .before .before .before .before .before .args in
-    let x = c .before .before .before .before .before .before .before .before .plan-table in
-    c .before .before .run-planned .ensures (now (a .s)) (settings (a .processors))
-    (x .ensures .made (c .before .before .before .before .before .before .if1 .left) .is)
+    let x = c .before .before .before .before .before .before .before .before .before .plan-table in
+    let a = c .before .before .before .before .before .before .before .before .before .before .before .before .before .before .args in
+    c .before .before .run-planned .ensures (now (a .s)) (settings (a .processors)) (x .ensures .made (c .before .before .before .before .before .before .if1 .left) .is)
 
 pub run-spec : {M : Type 1} → statement M
 run-spec = tie.close (tie.spec (λ c κs. search needs) returns run-planned-requires (λ c. search needs) returns-2)

@@ -13,13 +13,17 @@ use Rattle.running.proofs.run_planned.Statement.{statement}
 use Rattle.running.proofs.run_planned.Tie as tie
 
 returns : tie.Need-returns
-returns c = let a = c .before .before .before .before .before .before .args in
-    let p = c .before .before .before .before .before .before .pre in
+returns c =
+    let b = c .before .before in
+    let d = b .before .before .before .before .before in
+    let a = d .args in
+    let p = d .pre in
     let st = now (a .store) in
-    let bs = c .before .before .before .bases-of in
+    let bs = b .before .before .bases-of in
     let ld : Loaded (tableIn st) st (bs .result .firsts) = record { holds = p .held; valid = p .fit .valid; based = bs .ensures } in
-    let n = loaded-total ld (c .before .wide .result) (c .before .wide .ensures .0) in
-    λ s w e. runs-unlike s w (now (a .order)) (now (a .memory)) (plannedIn (a .a) st) e (λ z. c .if1 .taken (z ∙ sym n))
+    let n = loaded-total ld (b .wide .result) (b .wide .ensures .0) in
+    rw (c .met .ensures)
+    (λ s w e. runs-unlike s w (now (a .order)) (now (a .memory)) (plannedIn (a .a) st) e (λ z. c .before .if1 .taken (z ∙ sym n)))
 
 put-ends-requires : tie.Need-put-ends-requires
 put-ends-requires c κs = (c .before .before .before .before .before .before .before .pre, refl, zeros-small 192)
@@ -42,7 +46,8 @@ run-row-requires c κs =
 
 returns-2 : tie.Need-returns-2
 returns-2 c =
-    let b = c .before .before .before .before .before .before .before .before .before .before .before .before .before in
+    let r = c .before .before .before in
+    let b = r .before .before .before .before .before .before .before .before .before .before .before in
     let d = b .before .before .before .before .before in
     let a = d .args in
     let p = d .pre in
@@ -50,16 +55,16 @@ returns-2 c =
     let bs = b .before .before .bases-of in
     let ld : Loaded (tableIn st) st (bs .result .firsts) = record { holds = p .held; valid = p .fit .valid; based = bs .ensures } in
     let n = loaded-total ld (b .wide .result) (b .wide .ensures .0) in
-    let l = c .before .before .before .before .before .before .before .before .before .before .put-ends .ensures in
-    let y = c .before .before .before .before .before .before .before .before .put-all-lists .ensures in
-    let x = c .before .before .run-row in
-    λ s w e. runs-made s w (now (a .order)) (now (a .memory)) (plannedIn (a .a) st) e
-    (c .before .before .before .before .before .before .before .before .before .before .before .before .if1 .left ∙ n) _ (x .result)
+    let l = r .before .before .before .before .before .before .before .before .put-ends .ensures in
+    let y = r .before .before .before .before .before .before .put-all-lists .ensures in
+    let x = r .run-row in
+    rw (c .none .ensures)
+    (λ s w e. runs-made s w (now (a .order)) (now (a .memory)) (plannedIn (a .a) st) e (r .before .before .before .before .before .before .before .before .before .before .if1 .left ∙ n) _ (x .result)
     (x .ensures (workIn (a .a) st) (step s w)
-    (given-in (a .a) st p _ _ (bs .result .firsts) ld (l .0) (l .1) (omega (arith, y .long)) (y .each) s w e))
+    (given-in (a .a) st p _ _ (bs .result .firsts) ld (l .0) (l .1) (omega (arith, y .long)) (y .each) s w e)))
 
 pub run-planned-spec : {M : Type 1} → statement M
 run-planned-spec =
     tie.close (tie.spec
-    (λ c κs. search needs) (λ c. search needs) (λ c κs. search needs) returns put-ends-requires
-    (λ c. search needs) (λ c κs. search needs) (λ c. search needs) run-row-requires (λ c. search needs) returns-2)
+    (λ c κs. search needs) (λ c. search needs) (λ c κs. search needs) (λ c κs. search needs) returns put-ends-requires
+    (λ c. search needs) (λ c κs. search needs) (λ c. search needs) run-row-requires (λ c κs. search needs) (λ c. search needs) returns-2)
