@@ -9,7 +9,9 @@ use Rattle.order.specs.Lists.{joined}
 use Rattle.model.specs.Table.{iteration}
 use Rattle.model.specs.declared.Iteration.{Iteration}
 use Rattle.model.specs.References.{allRefs}
-use Rattle.refusals.specs.Answers.{AnswerOf, accepted}
+use Rattle.refusals.specs.declared.Refusal.{Refusal}
+use Rattle.refusals.specs.Refusals.{met}
+use Rattle.refusals.specs.Answers.{AnswerOf, accepted, after, refusalOf, told-refused}
 use Rattle.reader.specs.Store.{loopsIn, tableIn}
 use Rattle.reader.specs.Held.{Held, count-held}
 use Rattle.grounds.specs.Accepted.{Valid}
@@ -20,17 +22,15 @@ use Rattle.blocks.specs.Sums.{column}
 use Rattle.lists.specs.Fusion.{fusionIn, work}
 use Rattle.text.specs.Written.{Put, put-none, put-then, put-most, written-front}
 use Rattle.outputs.specs.declared.Outcome.{Outcome}
-use Rattle.outputs.specs.Given.{Given, after, final, numberOf, placeOf, countOf}
-use Rattle.outputs.specs.Gives.{refusing, writing, outcomeOf, Gives, says-given, gives-short, gives-written, never-nine}
+use Rattle.outputs.specs.Given.{Given, fitted}
+use Rattle.outputs.specs.Gives.{refusing, writing, Gives, after-refuses, after-gives, gives-short, gives-written}
 use Rattle.numbers.specs.Numbers.{four, encoded, encoded-length, encoded-append}
-use Rattle.tables.specs.Verdict.{Tells}
-use Rattle.tables.specs.Verdict as Verdict
 use Rattle.plans.specs.declared.Plan.{Plan}
 use Rattle.plans.specs.Plans.{Settings, thresholdOf, plannedFor}
 use Rattle.plans.specs.Accepted.{threshold-small, named-accepts}
 use Rattle.plans.specs.Code.{plannedIn, Made, Laid, made-laid, named-made}
 use Rattle.ranges.specs.Listed.{few-blocks, span-fits, listed-small}
-use Rattle.entries.specs.Entries.{numbers, amountsOf, blocksOf, pairsOf, Told}
+use Rattle.entries.specs.Entries.{numbers, amountsOf, blocksOf, pairsOf}
 use Rattle.entries.specs.Code.{Fitting}
 
 -- A ROW OF NUMBERS
@@ -101,10 +101,10 @@ module _ (size : ℕ) (l : List Iteration) (e : size ≡ length l) where
 
 -- NUMBERS IN LENT BYTES, or 13
 module _ (xs out : List ℕ) (size : ℕ) (sized : length (encoded xs) ≡ size) where
-  pub numbers-short : length out < size → Gives (encoded xs) out out (refusing 13 0 0)
+  pub numbers-short : length out < size → Gives (fitted (length out) (encoded xs)) out out (refusing (met 13 0))
   numbers-short l = gives-short (encoded xs) out (omega arith)
 
-  pub numbers-put : size ≤ length out → {left : List ℕ} {past most : ℕ} → Put out 0 (encoded xs) most left past → Gives (encoded xs) out left (writing past)
+  pub numbers-put : size ≤ length out → {left : List ℕ} {past most : ℕ} → Put out 0 (encoded xs) most left past → Gives (fitted (length out) (encoded xs)) out left (writing past)
   numbers-put l {left} {past} p =
       gives-written (encoded xs) out left past (omega arith) (omega (arith, p .place)) (p .bytes ∙ written-front out (encoded xs) (omega arith))
 
@@ -126,41 +126,15 @@ pub two-size : (x y : ℕ) → length (encoded (x ∷ y ∷ [])) ≡ 8
 two-size x y = encoded-length (x ∷ y ∷ [])
 
 -- AN ENTRY that asks for the numbers f of what is accepted, where the answer is a
--- what a refused answer gives, whatever was asked
-refused-after : {T : Type 0} (a : AnswerOf T) (more : T → Given) → (Verdict.numberOf a ≡ 0 → ⊥)
-    → (numberOf (after a more) ≡ Verdict.numberOf a) × (placeOf (after a more) ≡ Verdict.placeOf a) × (countOf (after a more) ≡ 0)
-    × ((out : List ℕ) → final (after a more) out ≡ out)
-unfolding final
-refused-after (accepted t) more n = absurd (n refl)
-refused-after (AnswerOf.refused g p) more n = (refl, refl, refl, λ out. refl)
-
-module _ {T : Type 0} (s : List ℕ) (a : AnswerOf T) (f : T → List ℕ) (out : List ℕ) where
+module _ {T : Type 0} (a : AnswerOf T) (f : T → List ℕ) (out : List ℕ) where
   abbrev pub given : Given
   given = after a (λ t. numbers (length out) (f t))
 
-  pub entry-refused : (number place read : ℕ) → Tells s a number place read → (number ≡ 0 → ⊥)
-      → Told s given (refusing number place read) × (out ≡ final given out)
-  entry-refused number place read h n =
-      let (p, q, d, e) = refused-after a (λ t. numbers (length out) (f t)) (λ z. n (h .number-is ∙ z)) in (
-        record {
-          says = record { number = h .number-is ∙ sym p; place = h .place-is ∙ sym q; count = sym d };
-          named = h .named;
-          unnamed = h .unnamed;
-        },
-        sym (e out),
-      )
+  pub entry-refused : (r : Refusal) → r ≡ refusalOf a → (r .ground ≡ 0 → ⊥) → Gives given out out (refusing r)
+  entry-refused r e some = after-refuses a _ out r (told-refused a r e some)
 
-  pub entry-given : {t : T} → a ≡ accepted t → {left : List ℕ} {o : Outcome} → Gives (encoded (f t)) out left o → Told s given o × (left ≡ final given out)
-  entry-given {t} is {left} {o} g =
-      let e : given ≡ numbers (length out) (f t) = ap (λ (x : AnswerOf T). after x (λ u. numbers (length out) (f u))) is in
-      rw (e, g .tells) (
-        record {
-          says = says-given (outcomeOf (numbers (length out) (f t))) (numbers (length out) (f t)) refl;
-          named = λ u q z. absurd (never-nine (length out) (encoded (f t)) z);
-          unnamed = λ z. refl;
-        },
-        g .leaves,
-      )
+  pub entry-given : {t : T} → a ≡ accepted t → {left : List ℕ} {o : Outcome} → Gives (numbers (length out) (f t)) out left o → Gives given out left o
+  entry-given {t} e {left} {o} g = after-gives a _ out t e left o g
 
 -- SHIFTS AND PEELS of the table in a store
 module _ (c xs ys : List ℕ) (h : Held c) (s : xs ≡ shifts (allRefs (tableIn c))) (p : ys ≡ peels (allRefs (tableIn c))) where

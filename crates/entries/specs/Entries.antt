@@ -5,14 +5,11 @@ use mathlib.Core.List.{List, [], _∷_}
 use Rattle.order.specs.Lists.{joined}
 use Rattle.model.specs.Table.{Table, count}
 use Rattle.model.specs.declared.Iteration.{Iteration}
-use Rattle.refusals.specs.Answers.{accepted}
-use Rattle.reader.specs.Reading.{reading}
+use Rattle.refusals.specs.Answers.{accepted, after}
 use Rattle.serial.specs.Serial.{table}
-use Rattle.serial.specs.Meeting.{Collides}
 use Rattle.lists.specs.Fusion.{Fusion, work}
 use Rattle.numbers.specs.Numbers.{encoded}
-use Rattle.outputs.specs.declared.Outcome.{Outcome}
-use Rattle.outputs.specs.Given.{Given, after, fitted, Says}
+use Rattle.outputs.specs.Given.{Given, fitted}
 use Rattle.plans.specs.Plans.{Settings, Planned, shiftOf, peelOf, thresholdOf, planned, plannedFor}
 use Rattle.plans.specs.Accepted.{planned-accepts}
 use Rattle.sweeps.specs.Sweeps.{before}
@@ -61,12 +58,6 @@ fusedGiven = listGiven 0
 
 abbrev pub peeledGiven : List ℕ → Settings → ℕ → ℕ → Given
 peeledGiven = listGiven 1
-
--- what is told: the outcome, and the read that 9 names, which collides
-pub record Told (s : List ℕ) (g : Given) (o : Outcome) : Type 0 where
-  pub says : Says o g
-  pub named : (t : Table) → reading s ≡ accepted t → o .number ≡ 9 → Collides t (o .place) (o .read)
-  pub unnamed : (o .number ≡ 9 → ⊥) → o .read ≡ 0
 
 -- LAWS
 -- a block of an accepted plan has an index, so the one before the next block's first is its last

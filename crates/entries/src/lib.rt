@@ -6,9 +6,9 @@ use arithmetic::wide;
 use blocks::Axis;
 use blocks::block_of as block_in;
 use model::Iteration;
-use outputs::BUFFER;
 use outputs::Outcome;
-use outputs::refusal;
+use outputs::refused;
+use outputs::short;
 use outputs::written;
 use ranges::PHASE;
 use records::STORE;
@@ -27,13 +27,13 @@ ghost use Rattle.blocks.specs.Blocks.{edge};
 ghost use Rattle.lists.specs.Fusion.{fusionIn, work};
 ghost use Rattle.text.specs.Written.{Put};
 ghost use Rattle.numbers.specs.Numbers.{four, encoded};
-ghost use Rattle.outputs.specs.Given.{final};
+ghost use Rattle.outputs.specs.Given.{fitted};
 ghost use Rattle.outputs.specs.Gives.{Gives};
 ghost use Rattle.plans.specs.Plans.{settings, thresholdOf};
 ghost use Rattle.plans.specs.Code.{Laid};
 ghost use Rattle.ranges.specs.Code.{listOf};
 ghost use Rattle.sweeps.specs.Sweeps.{before, after};
-ghost use Rattle.entries.specs.Entries.{amountsOf, blocksOf, pairsOf, amounts, thresholds, sweepsGiven, blocksGiven, listGiven, Told};
+ghost use Rattle.entries.specs.Entries.{amountsOf, blocksOf, pairsOf, amounts, thresholds, sweepsGiven, blocksGiven, listGiven};
 ghost use Rattle.entries.specs.Code.{Fitting};
 
 // How many bytes a number has, and a pair of numbers.
@@ -58,11 +58,11 @@ fn write_amounts(out: &mut [u8], n: usize, a: Amounts) -> usize
 // Shift and peel of each loop of the table in a store, or 13.
 fn give_amounts(out: &mut [u8], store: &Store) -> Outcome
     requires { ⌜ Held (now store) ⌝ }
-    ensures { λ r. ⌜ Gives (encoded (amountsOf (tableIn (now (store .entry))))) (now (out .entry)) (now (out .exit)) r ⌝ }
+    ensures { λ r. ⌜ Gives (fitted (length (now (out .entry))) (encoded (amountsOf (tableIn (now (store .entry)))))) (now (out .entry)) (now (out .exit)) r ⌝ }
 {
     let loops = reader::loops_in(store);
     if out.len() < PAIR * loops {
-        return refusal(BUFFER, 0, 0);
+        return short();
     }
     let a = amounts::amounts_of(store);
     let n = write_amounts(out, loops, a);
@@ -71,13 +71,12 @@ fn give_amounts(out: &mut [u8], store: &Store) -> Outcome
 
 // Shift and peel of each loop.
 pub fn shifts_and_peels(s: &[u8], out: &mut [u8]) -> Outcome
-    ensures { λ r. ⌜ Told (now (s .entry)) (amounts (now (s .entry)) (length (now (out .entry)))) r ⌝ }
-    ensures { λ r. ⌜ now (out .exit) ≡ final (amounts (now (s .entry)) (length (now (out .entry)))) (now (out .entry)) ⌝ }
+    ensures { λ r. ⌜ Gives (amounts (now (s .entry)) (length (now (out .entry)))) (now (out .entry)) (now (out .exit)) r ⌝ }
 {
     let mut store = [0u32; STORE];
-    let v = tables::read_through(s, &mut store);
-    if v.number != 0 {
-        return refusal(v.number, v.place, v.read);
+    let r = serial::read_through(s, &mut store);
+    if r.ground != 0 {
+        return refused(r);
     }
     give_amounts(out, &store)
 }
@@ -85,10 +84,10 @@ pub fn shifts_and_peels(s: &[u8], out: &mut [u8]) -> Outcome
 // The threshold of the table in a store, or 13.
 fn give_threshold(out: &mut [u8], store: &Store) -> Outcome
     requires { ⌜ Held (now store) × Valid (tableIn (now store)) ⌝ }
-    ensures { λ r. ⌜ Gives (encoded (thresholdOf (tableIn (now (store .entry))) ∷ [])) (now (out .entry)) (now (out .exit)) r ⌝ }
+    ensures { λ r. ⌜ Gives (fitted (length (now (out .entry))) (encoded (thresholdOf (tableIn (now (store .entry))) ∷ []))) (now (out .entry)) (now (out .exit)) r ⌝ }
 {
     if out.len() < NUMBER {
-        return refusal(BUFFER, 0, 0);
+        return short();
     }
     let a = amounts::amounts_of(store);
     let x = narrow(amounts::threshold_of(a));
@@ -98,13 +97,12 @@ fn give_threshold(out: &mut [u8], store: &Store) -> Outcome
 
 // The threshold.
 pub fn threshold(s: &[u8], out: &mut [u8]) -> Outcome
-    ensures { λ r. ⌜ Told (now (s .entry)) (thresholds (now (s .entry)) (length (now (out .entry)))) r ⌝ }
-    ensures { λ r. ⌜ now (out .exit) ≡ final (thresholds (now (s .entry)) (length (now (out .entry)))) (now (out .entry)) ⌝ }
+    ensures { λ r. ⌜ Gives (thresholds (now (s .entry)) (length (now (out .entry)))) (now (out .entry)) (now (out .exit)) r ⌝ }
 {
     let mut store = [0u32; STORE];
-    let v = tables::read_through(s, &mut store);
-    if v.number != 0 {
-        return refusal(v.number, v.place, v.read);
+    let r = serial::read_through(s, &mut store);
+    if r.ground != 0 {
+        return refused(r);
     }
     give_threshold(out, &store)
 }
@@ -112,10 +110,10 @@ pub fn threshold(s: &[u8], out: &mut [u8]) -> Outcome
 // The sweeps of the table in a store, or 13.
 fn give_sweeps(out: &mut [u8], store: &Store) -> Outcome
     requires { ⌜ Held (now store) ⌝ }
-    ensures { λ r. ⌜ Gives (encoded (before (tableIn (now (store .entry))) ∷ after (tableIn (now (store .entry))) ∷ [])) (now (out .entry)) (now (out .exit)) r ⌝ }
+    ensures { λ r. ⌜ Gives (fitted (length (now (out .entry))) (encoded (before (tableIn (now (store .entry))) ∷ after (tableIn (now (store .entry))) ∷ []))) (now (out .entry)) (now (out .exit)) r ⌝ }
 {
     if out.len() < PAIR {
-        return refusal(BUFFER, 0, 0);
+        return short();
     }
     let w = sweeps_in(store);
     let n = numbers::put_pair(out, 0, w.before, w.after);
@@ -124,13 +122,12 @@ fn give_sweeps(out: &mut [u8], store: &Store) -> Outcome
 
 // Sweeps before and after fusion.
 pub fn sweeps(s: &[u8], out: &mut [u8]) -> Outcome
-    ensures { λ r. ⌜ Told (now (s .entry)) (sweepsGiven (now (s .entry)) (length (now (out .entry)))) r ⌝ }
-    ensures { λ r. ⌜ now (out .exit) ≡ final (sweepsGiven (now (s .entry)) (length (now (out .entry)))) (now (out .entry)) ⌝ }
+    ensures { λ r. ⌜ Gives (sweepsGiven (now (s .entry)) (length (now (out .entry)))) (now (out .entry)) (now (out .exit)) r ⌝ }
 {
     let mut store = [0u32; STORE];
-    let v = tables::read_through(s, &mut store);
-    if v.number != 0 {
-        return refusal(v.number, v.place, v.read);
+    let r = serial::read_through(s, &mut store);
+    if r.ground != 0 {
+        return refused(r);
     }
     give_sweeps(out, &store)
 }
@@ -162,10 +159,10 @@ fn write_blocks(out: &mut [u8], a: Axis) -> usize
 // The blocks, or 13.
 fn give_blocks(out: &mut [u8], a: Axis) -> Outcome
     requires { ⌜ (a .blocks ≤ 64) × (a .first + a .count < 2 ^ 31) ⌝ }
-    ensures { λ r. ⌜ Gives (encoded (blocksOf (fusionIn a))) (now (out .entry)) (now (out .exit)) r ⌝ }
+    ensures { λ r. ⌜ Gives (fitted (length (now (out .entry))) (encoded (blocksOf (fusionIn a)))) (now (out .entry)) (now (out .exit)) r ⌝ }
 {
     if out.len() < PAIR * wide(a.blocks) {
-        return refusal(BUFFER, 0, 0);
+        return short();
     }
     let n = write_blocks(out, a);
     written(n)
@@ -173,13 +170,13 @@ fn give_blocks(out: &mut [u8], a: Axis) -> Outcome
 
 // Each block's first and last index.
 pub fn blocks(s: &[u8], processors: u32, out: &mut [u8]) -> Outcome
-    ensures { λ r. ⌜ Told (now (s .entry)) (blocksGiven (now (s .entry)) (settings processors) (length (now (out .entry)))) r ⌝ }
-    ensures { λ r. ⌜ now (out .exit) ≡ final (blocksGiven (now (s .entry)) (settings processors) (length (now (out .entry)))) (now (out .entry)) ⌝ }
+    ensures { λ r. ⌜ Gives (blocksGiven (now (s .entry)) (settings processors) (length (now (out .entry)))) (now (out .entry)) (now (out .exit)) r ⌝ }
 {
     let mut store = [0u32; STORE];
     let p = plans::plan_table(s, processors, &mut store);
-    if p.number != 0 {
-        return refusal(p.number, p.place, p.read);
+    let r = p.refusal;
+    if r.ground != 0 {
+        return refused(r);
     }
     give_blocks(out, p.axis)
 }
@@ -210,12 +207,12 @@ fn write_list(out: &mut [u8], phase: u32, loops: usize, size: usize, lists: &[u3
 // The list of processor b in a phase, or 13.
 fn give_list(out: &mut [u8], phase: u32, a: Axis, b: u32, store: &Store) -> Outcome
     requires { ⌜ Laid a (now store) × (b < a .blocks) ⌝ }
-    ensures { λ r. ⌜ Gives (encoded (pairsOf (work (tableIn (now (store .entry))) (fusionIn a) phase b))) (now (out .entry)) (now (out .exit)) r ⌝ }
+    ensures { λ r. ⌜ Gives (fitted (length (now (out .entry))) (encoded (pairsOf (work (tableIn (now (store .entry))) (fusionIn a) phase b)))) (now (out .entry)) (now (out .exit)) r ⌝ }
 {
     let mut lists = [0u32; PHASE];
     let size = ranges::put_list(phase, a, b, store, &mut lists, 0);
     if out.len() < PAIR * size {
-        return refusal(BUFFER, 0, 0);
+        return short();
     }
     let n = write_list(out, phase, reader::loops_in(store), size, &lists);
     written(n)
@@ -223,13 +220,13 @@ fn give_list(out: &mut [u8], phase: u32, a: Axis, b: u32, store: &Store) -> Outc
 
 // Loop and iteration of each in processor b's list in a phase: 0 is its fused list, 1 its peeled one.
 pub fn list(s: &[u8], phase: u32, processors: u32, b: u32, out: &mut [u8]) -> Outcome
-    ensures { λ r. ⌜ Told (now (s .entry)) (listGiven phase (now (s .entry)) (settings processors) b (length (now (out .entry)))) r ⌝ }
-    ensures { λ r. ⌜ now (out .exit) ≡ final (listGiven phase (now (s .entry)) (settings processors) b (length (now (out .entry)))) (now (out .entry)) ⌝ }
+    ensures { λ r. ⌜ Gives (listGiven phase (now (s .entry)) (settings processors) b (length (now (out .entry)))) (now (out .entry)) (now (out .exit)) r ⌝ }
 {
     let mut store = [0u32; STORE];
     let p = plans::plan_for(s, processors, b, &mut store);
-    if p.number != 0 {
-        return refusal(p.number, p.place, p.read);
+    let r = p.refusal;
+    if r.ground != 0 {
+        return refused(r);
     }
     give_list(out, phase, p.axis, b, &store)
 }

@@ -10,25 +10,23 @@ use Rattle.entries.proofs.blocks.Tie as tie
 returns : tie.Need-returns
 unfolding blocksGiven
 returns c =
-    let a = c .before .before .before .before .before .before .before .args in
-    let s = now (a .s) in
-    let p = planned s (settings (a .processors)) in
-    rw (c .refusal .ensures)
-    (entry-refused s p (λ q. blocksOf (q .plan)) (now (a .out)) _ _ _ (c .before .before .before .plan-table .ensures .tells)
-    (c .before .if1 .taken))
+    let a = c .before .before .before .before .before .before .before .before .args in
+    let p = planned (now (a .s)) (settings (a .processors)) in
+    rw (c .refused .ensures)
+    (entry-refused p (λ q. blocksOf (q .plan)) (now (a .out)) _ (c .before .before .before .before .plan-table .ensures .tells) (c .before .if1 .taken))
 
 give-blocks-requires : tie.Need-give-blocks-requires
-give-blocks-requires c κs = let a = c .before .before .before .before .before .before .before .args in
-    let m = c .before .before .before .plan-table .ensures .made (c .before .if1 .left) in
+give-blocks-requires c κs =
+    let a = c .before .before .before .before .before .before .before .before .args in
+    let m = c .before .before .before .before .plan-table .ensures .made (c .before .if1 .left) in
     blocks-ask _ _ (made-laid (now (a .s)) (settings (a .processors)) _ _ m)
 
 returns-2 : tie.Need-returns-2
 unfolding blocksGiven
 returns-2 c =
-    let a = c .before .before .before .before .before .before .before .before .before .before .args in
-    let s = now (a .s) in
-    let m = c .before .before .before .before .before .before .plan-table .ensures .made (c .before .before .before .before .if1 .left) in
-    entry-given s (planned s (settings (a .processors))) (λ q. blocksOf (q .plan)) (now (a .out)) (m .is)
+    let a = c .before .before .before .before .before .before .before .before .before .before .before .args in
+    let m = c .before .before .before .before .before .before .before .plan-table .ensures .made (c .before .before .before .before .if1 .left) in
+    entry-given (planned (now (a .s)) (settings (a .processors))) (λ q. blocksOf (q .plan)) (now (a .out)) (m .is)
     (c .before .before .give-blocks .ensures)
 
 pub blocks-spec : {M : Type 1} → statement M

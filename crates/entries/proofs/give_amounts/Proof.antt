@@ -15,7 +15,7 @@ returns : tie.Need-returns
 returns c = let a = c .before .before .before .before .args in
     let st = now (a .store) in
     let size = amounts-size st (c .before .before .before .before .pre) _ (c .before .before .loops-in .ensures) in
-    rw (c .refusal .ensures) (numbers-short (amountsOf (tableIn st)) (now (a .out)) _ size (c .before .if1 .taken))
+    rw (c .short .ensures) (numbers-short (amountsOf (tableIn st)) (now (a .out)) _ size (c .before .if1 .taken))
 
 write-amounts-requires : tie.Need-write-amounts-requires
 write-amounts-requires c κs =

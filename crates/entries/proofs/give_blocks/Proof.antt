@@ -10,7 +10,7 @@ returns : tie.Need-returns
 returns c = let a = c .before .before .before .before .args in
     let e = c .before .before .wide .ensures .0 in
     let xs = blocksOf (fusionIn (a .a)) in
-    rw (c .refusal .ensures) (numbers-short xs (now (a .out)) _ (blocks-size (a .a)) (rw e at (c .before .if1 .taken)))
+    rw (c .short .ensures) (numbers-short xs (now (a .out)) _ (blocks-size (a .a)) (rw e at (c .before .if1 .taken)))
 
 returns-2 : tie.Need-returns-2
 returns-2 c =

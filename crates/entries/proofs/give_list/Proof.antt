@@ -14,7 +14,7 @@ returns : tie.Need-returns
 returns c = let a = c .before .before .before .before .before .before .args in
     let l = work (tableIn (now (a .store))) (fusionIn (a .a)) (a .phase) (a .b) in
     let size = list-size _ l (c .before .before .before .put-list .ensures .0 .0) in
-    rw (c .refusal .ensures) (numbers-short (pairsOf l) (now (a .out)) _ size (c .before .if1 .taken))
+    rw (c .short .ensures) (numbers-short (pairsOf l) (now (a .out)) _ size (c .before .if1 .taken))
 
 write-list-requires : tie.Need-write-list-requires
 write-list-requires c κs = let a = c .before .before .before .before .before .before .before .before .args in

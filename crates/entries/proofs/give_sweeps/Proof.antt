@@ -13,7 +13,7 @@ returns : tie.Need-returns
 returns c =
     let a = c .before .before .before .args in
     let t = tableIn (now (a .store)) in
-    rw (c .refusal .ensures)
+    rw (c .short .ensures)
     (numbers-short (before t ∷ after t ∷ []) (now (a .out)) _ (two-size (before t) (after t)) (c .before .if1 .taken))
 
 returns-2 : tie.Need-returns-2

@@ -11,7 +11,7 @@ use Rattle.entries.proofs.give_threshold.Tie as tie
 returns : tie.Need-returns
 returns c = let a = c .before .before .before .args in
     let x = thresholdOf (tableIn (now (a .store))) in
-    rw (c .refusal .ensures) (numbers-short (x ∷ []) (now (a .out)) _ (one-size x) (c .before .if1 .taken))
+    rw (c .short .ensures) (numbers-short (x ∷ []) (now (a .out)) _ (one-size x) (c .before .if1 .taken))
 
 narrow-requires : tie.Need-narrow-requires
 narrow-requires c κs = let p = c .before .before .before .before .pre in

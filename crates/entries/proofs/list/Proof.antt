@@ -8,27 +8,24 @@ use Rattle.entries.proofs.list.Tie as tie
 
 returns : tie.Need-returns
 unfolding listGiven
-returns c = let a = c .before .before .before .before .before .before .before .args in
-    let s = now (a .s) in
-    let p = plannedFor s (settings (a .processors)) (a .b) in
-    let h = c .before .before .before .plan-for .ensures .tells in
-    rw (c .refusal .ensures) (entry-refused s p (listedOf (a .phase) (a .b)) (now (a .out)) _ _ _ h (c .before .if1 .taken))
+returns c =
+    let a = c .before .before .before .before .before .before .before .before .args in
+    let p = plannedFor (now (a .s)) (settings (a .processors)) (a .b) in
+    rw (c .refused .ensures)
+    (entry-refused p (listedOf (a .phase) (a .b)) (now (a .out)) _ (c .before .before .before .before .plan-for .ensures .tells) (c .before .if1 .taken))
 
 give-list-requires : tie.Need-give-list-requires
-give-list-requires c κs = let a = c .before .before .before .before .before .before .before .before .args in
-    let m = c .before .before .before .before .plan-for .ensures .made (c .before .before .if1 .left) in
-    named-laid (now (a .s)) (settings (a .processors)) (a .b) _ _ m
+give-list-requires c κs =
+    let a = c .before .before .before .before .before .before .before .before .before .args in
+    named-laid (now (a .s)) (settings (a .processors)) (a .b) _ _ (c .before .before .before .before .before .plan-for .ensures .made (c .before .before .if1 .left))
 
 returns-2 : tie.Need-returns-2
 unfolding listGiven
 returns-2 c =
-    let a = c .before .before .before .before .before .before .before .before .before .before .before .args in
-    let s = now (a .s) in
-    let p = plannedFor s (settings (a .processors)) (a .b) in
-    let m =
-    c .before .before .before .before .before .before .before .plan-for .ensures .made
-    (c .before .before .before .before .before .if1 .left) in
-    entry-given s p (listedOf (a .phase) (a .b)) (now (a .out)) (m .is) (c .before .before .give-list .ensures)
+    let a = c .before .before .before .before .before .before .before .before .before .before .before .before .args in
+    let p = plannedFor (now (a .s)) (settings (a .processors)) (a .b) in
+    let m = c .before .before .before .before .before .before .before .before .plan-for .ensures .made (c .before .before .before .before .before .if1 .left) in
+    entry-given p (listedOf (a .phase) (a .b)) (now (a .out)) (m .is) (c .before .before .give-list .ensures)
 
 pub list-spec : {M : Type 1} → statement M
 list-spec =

@@ -9,11 +9,9 @@ use Rattle.entries.proofs.shifts_and_peels.Tie as tie
 returns : tie.Need-returns
 unfolding amounts
 returns c =
+    let x = c .before .before .before .read-through in
     let a = c .before .before .before .before .before .before .before .args in
-    let s = now (a .s) in
-    rw (c .refusal .ensures)
-    (entry-refused s (table s) amountsOf (now (a .out)) _ _ _ (c .before .before .before .read-through .ensures .told)
-    (c .before .if1 .taken))
+    rw (c .refused .ensures) (entry-refused (table (now (a .s))) amountsOf (now (a .out)) (x .result) (x .ensures .told) (c .before .if1 .taken))
 
 give-amounts-requires : tie.Need-give-amounts-requires
 give-amounts-requires c κs = c .before .before .before .before .read-through .ensures .held (c .before .before .if1 .left) .1
@@ -22,11 +20,7 @@ returns-2 : tie.Need-returns-2
 unfolding amounts
 returns-2 c =
     let a = c .before .before .before .before .before .before .before .before .before .before .before .args in
-    let s = now (a .s) in
-    let h =
-    c .before .before .before .before .before .before .before .read-through .ensures .held
-    (c .before .before .before .before .before .if1 .left) in
-    entry-given s (table s) amountsOf (now (a .out)) (h .0) (c .before .before .give-amounts .ensures)
+    entry-given (table (now (a .s))) amountsOf (now (a .out)) (c .before .before .before .before .before .before .before .read-through .ensures .held (c .before .before .before .before .before .if1 .left) .0) (c .before .before .give-amounts .ensures)
 
 pub shifts-and-peels-spec : {M : Type 1} → statement M
 shifts-and-peels-spec =

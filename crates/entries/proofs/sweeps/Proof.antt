@@ -11,11 +11,9 @@ use Rattle.entries.proofs.sweeps.Tie as tie
 returns : tie.Need-returns
 unfolding sweepsGiven
 returns c =
+    let x = c .before .before .before .read-through in
     let a = c .before .before .before .before .before .before .before .args in
-    let s = now (a .s) in
-    rw (c .refusal .ensures)
-    (entry-refused s (table s) (λ t. before t ∷ after t ∷ []) (now (a .out)) _ _ _ (c .before .before .before .read-through .ensures .told)
-    (c .before .if1 .taken))
+    rw (c .refused .ensures) (entry-refused (table (now (a .s))) (λ t. before t ∷ after t ∷ []) (now (a .out)) (x .result) (x .ensures .told) (c .before .if1 .taken))
 
 give-sweeps-requires : tie.Need-give-sweeps-requires
 give-sweeps-requires c κs = c .before .before .before .before .read-through .ensures .held (c .before .before .if1 .left) .1
@@ -24,11 +22,7 @@ returns-2 : tie.Need-returns-2
 unfolding sweepsGiven
 returns-2 c =
     let a = c .before .before .before .before .before .before .before .before .before .before .before .args in
-    let s = now (a .s) in
-    let h =
-    c .before .before .before .before .before .before .before .read-through .ensures .held
-    (c .before .before .before .before .before .if1 .left) in
-    entry-given s (table s) (λ t. before t ∷ after t ∷ []) (now (a .out)) (h .0) (c .before .before .give-sweeps .ensures)
+    entry-given (table (now (a .s))) (λ t. before t ∷ after t ∷ []) (now (a .out)) (c .before .before .before .before .before .before .before .read-through .ensures .held (c .before .before .before .before .before .if1 .left) .0) (c .before .before .give-sweeps .ensures)
 
 pub sweeps-spec : {M : Type 1} → statement M
 sweeps-spec =

@@ -12,26 +12,19 @@ use Rattle.entries.proofs.threshold.Tie as tie
 returns : tie.Need-returns
 unfolding thresholds
 returns c =
+    let x = c .before .before .before .read-through in
     let a = c .before .before .before .before .before .before .before .args in
-    let s = now (a .s) in
-    rw (c .refusal .ensures)
-    (entry-refused s (table s) (λ t. thresholdOf t ∷ []) (now (a .out)) _ _ _ (c .before .before .before .read-through .ensures .told)
-    (c .before .if1 .taken))
+    rw (c .refused .ensures) (entry-refused (table (now (a .s))) (λ t. thresholdOf t ∷ []) (now (a .out)) (x .result) (x .ensures .told) (c .before .if1 .taken))
 
 give-threshold-requires : tie.Need-give-threshold-requires
 give-threshold-requires c κs = let h = c .before .before .before .before .read-through .ensures .held (c .before .before .if1 .left) in
-    let s = now (c .before .before .before .before .before .before .before .before .args .s) in
-    (h .1, valid s _ (h .0))
+    (h .1, valid (now (c .before .before .before .before .before .before .before .before .args .s)) _ (h .0))
 
 returns-2 : tie.Need-returns-2
 unfolding thresholds
 returns-2 c =
     let a = c .before .before .before .before .before .before .before .before .before .before .before .args in
-    let s = now (a .s) in
-    let h =
-    c .before .before .before .before .before .before .before .read-through .ensures .held
-    (c .before .before .before .before .before .if1 .left) in
-    entry-given s (table s) (λ t. thresholdOf t ∷ []) (now (a .out)) (h .0) (c .before .before .give-threshold .ensures)
+    entry-given (table (now (a .s))) (λ t. thresholdOf t ∷ []) (now (a .out)) (c .before .before .before .before .before .before .before .read-through .ensures .held (c .before .before .before .before .before .if1 .left) .0) (c .before .before .give-threshold .ensures)
 
 pub threshold-spec : {M : Type 1} → statement M
 threshold-spec =
