@@ -19,12 +19,12 @@ use Rattle.sweeps.specs.Sweeps.{some}
 use Rattle.text.specs.Ascii.{ascii}
 use Rattle.text.specs.Decimal.{decimal, digits}
 use Rattle.text.specs.Line.{line}
-use Rattle.listing.specs.Listing.{listing, refusal}
+use Rattle.listing.specs.Listing.{listing, refusalLine}
 use Rattle.printing.specs.Printing.{textOf, text}
 
 -- no table byte, whatever the settings are
 pub empty-input : (w : Settings) → text [] w ≡ ascii "refused 1 0\n"
-unfolding text textOf planned fitting table through reading readFrom follow tested ground refusal line decimal digits
+unfolding text textOf planned fitting table through reading readFrom follow tested ground refusalLine line decimal digits
 empty-input w = refl
 
 -- the example

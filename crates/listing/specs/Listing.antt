@@ -61,8 +61,8 @@ module _ (t : Table) (c : Fusion) (before after : ℕ) where
   listing = loops ++ blocks ++ fused ++ peeled ++ sweepsLine before after
 
 -- a refusal is the single line `refused`, number, place
-unfoldable pub refusal : ℕ → ℕ → List ℕ
-refusal number place = line (ascii "refused") (number ∷ place ∷ [])
+unfoldable pub refusalLine : ℕ → ℕ → List ℕ
+refusalLine number place = line (ascii "refused") (number ∷ place ∷ [])
 
 -- LAWS: nothing is asked of loops that are not there
 pub each-same : (n : ℕ) (f g : ℕ → List ℕ) → ((k : ℕ) → k < n → f k ≡ g k) → each n f ≡ each n g

@@ -15,7 +15,7 @@ ghost use Rattle.lists.specs.Fusion.{fusionIn};
 ghost use Rattle.text.specs.Written.{Put, Whole};
 ghost use Rattle.plans.specs.Code.{Laid};
 ghost use Rattle.ranges.specs.Code.{partIn, partAt, rangeOf};
-ghost use Rattle.listing.specs.Listing.{loopLine, blockLine, rangeLine, each, rangeLines, phaseName, listing, refusal};
+ghost use Rattle.listing.specs.Listing.{loopLine, blockLine, rangeLine, each, rangeLines, phaseName, listing, refusalLine};
 
 // Loop k, its shift and its peel.
 fn put_loop(out: &mut [u8], at: usize, k: usize, shift: u32, peel: u32) -> usize
@@ -169,7 +169,7 @@ pub fn write_listing(out: &mut [u8], axis: Axis, store: &Store, before: u32, aft
 
 // The line of a refusal.
 pub fn write_refusal(out: &mut [u8], number: usize, place: usize) -> usize
-    ensures { λ r. ⌜ Whole (now (out .entry)) (refusal number place) 100 (now (out .exit)) r ⌝ }
+    ensures { λ r. ⌜ Whole (now (out .entry)) (refusalLine number place) 100 (now (out .exit)) r ⌝ }
 {
     put_line_of_two(out, 0, b"refused", number, place)
 }

@@ -4,19 +4,19 @@ use native.Mathlib.Omega.{arith}
 use mathlib.Core.Path.{_≡_, sym, ap, subst, _∙_}
 use mathlib.Core.List.{List, [], _++_}
 use lib.ListN.{length}
-use Rattle.refusals.specs.Answers.{AnswerOf, accepted, refused}
+use Rattle.refusals.specs.Refusals.{met}
+use Rattle.refusals.specs.Answers.{told-refused}
 use Rattle.reader.specs.Store.{tableIn}
 use Rattle.lists.specs.Fusion.{fusionIn}
-use Rattle.tables.specs.Verdict.{numberOf, placeOf}
 use Rattle.plans.specs.declared.Plan.{Plan}
-use Rattle.plans.specs.Plans.{Settings, Planned, planned}
+use Rattle.plans.specs.Plans.{Settings, planned}
 use Rattle.plans.specs.Code.{Plans, Made}
 use Rattle.sweeps.specs.declared.Sweeps.{Sweeps}
 use Rattle.sweeps.specs.Sweeps.{sweeps}
 use Rattle.outputs.specs.declared.Outcome.{Outcome}
 use Rattle.outputs.specs.Gives.{refusing, writing, gives-short, gives-written}
 use Rattle.text.specs.Written.{Whole, length-written, written-front, written-nowhere}
-use Rattle.listing.specs.Listing.{listing, refusal}
+use Rattle.listing.specs.Listing.{listing, refusalLine}
 use Rattle.printing.specs.Printing.{textOf, text, Prints}
 
 -- the first call got no bytes and left none; `size` is the text's length
@@ -27,10 +27,10 @@ module _ (text out none : List ℕ) (most size : ℕ) (short : most ≤ 212900) 
   few : length text ≤ 212900
   few = omega (arith, asked .size, asked .few)
 
-  pub no-room : length (none ++ out) < size → (o : Outcome) → o ≡ refusing 13 0 0 → Prints text out (none ++ out) o
+  pub no-room : length (none ++ out) < size → (o : Outcome) → o ≡ refusing (met 13 0) → Prints text out (none ++ out) o
   no-room l o e = rw (still-none, e) (short-of (rw still-none at l))
     where
-      short-of : length out < size → Prints text out out (refusing 13 0 0)
+      short-of : length out < size → Prints text out out (refusing (met 13 0))
       short-of h = record { gives = gives-short text out (omega (arith, asked .size)); few = few; fits = omega arith }
 
   pub room : (left : List ℕ) (n : ℕ) → Whole (none ++ out) text most left n → size ≤ length (none ++ out)
@@ -49,13 +49,9 @@ prints-same {out = out} {left} {o} e p = subst (λ (x : List ℕ). Prints x out 
 
 -- the text of what the plan's code answered
 module _ (s : List ℕ) (w : Settings) (p : Plan) (c : List ℕ) where
-  pub refused-text : Plans s (planned s w) p c → (p .number ≡ 0 → ⊥) → refusal (p .number) (p .place) ≡ text s w
+  pub refused-text : Plans (planned s w) p c → (p .refusal .ground ≡ 0 → ⊥) → (n : ℕ) → n ≡ p .refusal .ground → refusalLine n (p .refusal .place) ≡ text s w
   unfolding text textOf
-  refused-text h n = go (planned s w) (h .tells .number-is) (h .tells .place-is)
-    where
-      go : (a : AnswerOf Planned) → p .number ≡ numberOf a → p .place ≡ placeOf a → refusal (p .number) (p .place) ≡ textOf a
-      go (accepted t) e f = absurd (n e)
-      go (refused g q) e f = rw (e, f)
+  refused-text h some n e = rw (told-refused (planned s w) (p .refusal) (h .tells) some, e)
 
   pub made-text : Made (planned s w) p c → (z : Sweeps) → z ≡ sweeps (tableIn c)
       → listing (tableIn c) (fusionIn (p .axis)) (z .before) (z .after) ≡ text s w

@@ -1,6 +1,6 @@
 // A table's listing, or the line of its refusal, into lent bytes: all of it, or nothing and 13.
+use arithmetic::wide;
 use blocks::Axis;
-use outputs::BUFFER;
 use outputs::Outcome;
 use records::STORE;
 use records::Store;
@@ -9,16 +9,16 @@ ghost use Rattle.reader.specs.Store.{tableIn};
 ghost use Rattle.lists.specs.Fusion.{fusionIn};
 ghost use Rattle.plans.specs.Plans.{settings};
 ghost use Rattle.plans.specs.Code.{Laid};
-ghost use Rattle.listing.specs.Listing.{listing, refusal};
+ghost use Rattle.listing.specs.Listing.{listing, refusalLine};
 ghost use Rattle.printing.specs.Printing.{text, Prints};
 
 // The line of a refusal. The first call, with no bytes, tells how many are needed.
 fn print_refusal(out: &mut [u8], number: usize, place: usize) -> Outcome
-    ensures { λ r. ⌜ Prints (refusal number place) (now (out .entry)) (now (out .exit)) r ⌝ }
+    ensures { λ r. ⌜ Prints (refusalLine number place) (now (out .entry)) (now (out .exit)) r ⌝ }
 {
     let size = listing::write_refusal(&mut out[..0], number, place);
     if out.len() < size {
-        return outputs::refusal(BUFFER, 0, 0);
+        return outputs::short();
     }
     listing::write_refusal(out, number, place);
     outputs::written(size)
@@ -31,7 +31,7 @@ fn print_lines(out: &mut [u8], a: Axis, w: Sweeps, store: &Store) -> Outcome
 {
     let total = listing::write_listing(&mut out[..0], a, store, w.before, w.after);
     if out.len() < total {
-        return outputs::refusal(BUFFER, 0, 0);
+        return outputs::short();
     }
     listing::write_listing(out, a, store, w.before, w.after);
     outputs::written(total)
@@ -43,8 +43,9 @@ pub fn print_plan(s: &[u8], processors: u32, out: &mut [u8]) -> Outcome
 {
     let mut store = [0u32; STORE];
     let p = plans::plan_table(s, processors, &mut store);
-    if p.number != 0 {
-        return print_refusal(out, p.number, p.place);
+    let r = p.refusal;
+    if r.ground != 0 {
+        return print_refusal(out, wide(r.ground), r.place);
     }
     let w = sweeps::sweeps_of(&store);
     print_lines(out, p.axis, w, &store)

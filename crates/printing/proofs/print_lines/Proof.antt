@@ -8,7 +8,7 @@ use Rattle.printing.proofs.print_lines.Tie as tie
 returns : tie.Need-returns
 returns c = let out = now (c .before .before .before .before .before .before .before .args .out) in
     let first = c .before .before .before .before .write-listing .ensures in
-    no-room _ out _ _ _ (lit≤ tt) first (c .before .if1 .taken) _ (c .refusal .ensures)
+    no-room _ out _ _ _ (lit≤ tt) first (c .before .if1 .taken) _ (c .short .ensures)
 
 returns-2 : tie.Need-returns-2
 returns-2 c = let out = now (c .before .before .before .before .before .before .before .before .before .before .before .args .out) in
