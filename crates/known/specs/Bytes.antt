@@ -59,6 +59,14 @@ storeAfterRead = array 11 ++ array 13 ++ store 0 ++ read 1 (ahead 2) ++ store 1 
 abbrev pub itself : ℕ → List ℕ
 itself o = array 21 ++ store 0 ++ read 0 (ahead o) ++ end
 
+-- loop 1 reads, beside A1[i], its own array at the same element, out of its reach, 9 ahead and 1 back:
+-- A1[i] = 1; A0[i] = A1[i] + A0[i] + A0[i+10] + A0[i+9] + A0[i−1]
+abbrev pub severalReads : List ℕ
+severalReads =
+    array 21 ++ array 21 ++ store 1 ++ one
+    ++ store 0 ++ read 1 (ahead 0) ++ read 0 (ahead 0) ++ add ++ read 0 (ahead 10) ++ add ++ read 0 (ahead 9) ++ add ++ read 0 back ++ add
+    ++ end
+
 -- one loop: T = 10, threshold 0
 abbrev pub single : List ℕ
 single = array 11 ++ store 0 ++ one ++ end

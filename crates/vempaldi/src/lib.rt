@@ -1,33 +1,38 @@
 // The exported functions: thin, with plain numbers and slices. None requires anything: what it cannot take it refuses.
+use refusals::Refusal;
+use stepping::Report;
+use steps::Counts;
 ghost use mathlib.Core.Path.{_≡_};
 ghost use lib.ListN.{length};
+ghost use Rattle.refusals.specs.Answers.{refusalOf};
 ghost use Rattle.serial.specs.Serial.{table as accepts};
-ghost use Rattle.outputs.specs.Given.{final};
+ghost use Rattle.outputs.specs.Given.{fitted, final, countOf};
 ghost use Rattle.joining.specs.Joining.{joining};
 ghost use Rattle.entries.specs.Entries.{amounts, thresholds, sweepsGiven, blocksGiven, fusedGiven, peeledGiven};
 ghost use Rattle.printing.specs.Printing.{text};
-use stepping::Report;
-use steps::Counts;
 ghost use Rattle.plain.specs.Plain.{plainAnswer, plainMemory};
 ghost use Rattle.plans.specs.Plans.{settings};
+ghost use Rattle.stepping.specs.Step.{step};
 ghost use Rattle.stepping.specs.Run.{runAnswer, runMemory, runIdle};
-ghost use Rattle.vempaldi.specs.Answers.{AnswerTold, written, reported, refusal, ReportFits, StepTold, answered, JoinTold, EntryTold, ListingTold};
+ghost use Rattle.vempaldi.specs.Answers.{answered, written, reported, refusalIn, reportAt, ReportFits};
 
-fn write_answer(answer: &mut [u64; 3], number: usize, place: usize, read: usize)
-    ensures { λ _. ⌜ now (answer .exit) ≡ answered number place read (now (answer .entry)) ⌝ }
+// An answer is the ground's number, the place, and the two numbers that are named.
+fn write_answer(answer: &mut [u64; 4], r: Refusal)
+    ensures { λ _. ⌜ now (answer .exit) ≡ answered r (now (answer .entry)) ⌝ }
 {
-    answer[0] = number as u64;
-    answer[1] = place as u64;
-    answer[2] = read as u64;
+    answer[0] = r.ground as u64;
+    answer[1] = r.place as u64;
+    answer[2] = r.first as u64;
+    answer[3] = r.second as u64;
 }
 
 // Whether a table is accepted, or the refusal.
 #[no_mangle]
-pub extern "C" fn vempaldi_check(table: &[u8], answer: &mut [u64; 3])
-    ensures { λ _. ⌜ AnswerTold (now (table .entry)) (accepts (now (table .entry))) (now (answer .entry)) (now (answer .exit)) ⌝ }
+pub extern "C" fn vempaldi_check(table: &[u8], answer: &mut [u64; 4])
+    ensures { λ _. ⌜ now (answer .exit) ≡ answered (refusalOf (accepts (now (table .entry)))) (now (answer .entry)) ⌝ }
 {
-    let v = tables::check(table);
-    write_answer(answer, v.number, v.place, v.read);
+    let r = serial::check(table);
+    write_answer(answer, r);
 }
 
 // Joins two tables into the lent bytes; answers how many bytes were written, 0 where it refuses.
@@ -36,13 +41,14 @@ pub extern "C" fn vempaldi_join(
     left: &[u8],
     right: &[u8],
     out: &mut [u8],
-    answer: &mut [u64; 3],
+    answer: &mut [u64; 4],
 ) -> u64
-    ensures { λ r. ⌜ JoinTold (now (left .entry)) (now (right .entry)) (length (now (out .entry))) (now (answer .entry)) (now (answer .exit)) r ⌝ }
+    ensures { λ r. ⌜ now (answer .exit) ≡ answered (refusalOf (joining (now (left .entry)) (now (right .entry)) (length (now (out .entry))))) (now (answer .entry)) ⌝ }
+    ensures { λ r. ⌜ r ≡ countOf (joining (now (left .entry)) (now (right .entry)) (length (now (out .entry)))) ⌝ }
     ensures { λ r. ⌜ now (out .exit) ≡ final (joining (now (left .entry)) (now (right .entry)) (length (now (out .entry)))) (now (out .entry)) ⌝ }
 {
     let o = joining::join(left, right, out);
-    write_answer(answer, o.number, o.place, o.read);
+    write_answer(answer, o.refusal);
     o.written as u64
 }
 
@@ -51,13 +57,14 @@ pub extern "C" fn vempaldi_join(
 pub extern "C" fn vempaldi_shifts_and_peels(
     table: &[u8],
     out: &mut [u8],
-    answer: &mut [u64; 3],
+    answer: &mut [u64; 4],
 ) -> u64
-    ensures { λ r. ⌜ EntryTold (now (table .entry)) (amounts (now (table .entry)) (length (now (out .entry)))) (now (answer .entry)) (now (answer .exit)) r ⌝ }
+    ensures { λ r. ⌜ now (answer .exit) ≡ answered (refusalOf (amounts (now (table .entry)) (length (now (out .entry))))) (now (answer .entry)) ⌝ }
+    ensures { λ r. ⌜ r ≡ countOf (amounts (now (table .entry)) (length (now (out .entry)))) ⌝ }
     ensures { λ r. ⌜ now (out .exit) ≡ final (amounts (now (table .entry)) (length (now (out .entry)))) (now (out .entry)) ⌝ }
 {
     let o = entries::shifts_and_peels(table, out);
-    write_answer(answer, o.number, o.place, o.read);
+    write_answer(answer, o.refusal);
     o.written as u64
 }
 
@@ -67,34 +74,38 @@ pub extern "C" fn vempaldi_listing(
     table: &[u8],
     processors: u32,
     out: &mut [u8],
-    answer: &mut [u64; 3],
+    answer: &mut [u64; 4],
 ) -> u64
-    ensures { λ r. ⌜ ListingTold (text (now (table .entry)) (settings processors)) (now (out .entry)) (now (out .exit)) (now (answer .entry)) (now (answer .exit)) r ⌝ }
+    ensures { λ r. ⌜ now (answer .exit) ≡ answered (refusalOf (fitted (length (now (out .entry))) (text (now (table .entry)) (settings processors)))) (now (answer .entry)) ⌝ }
+    ensures { λ r. ⌜ r ≡ countOf (fitted (length (now (out .entry))) (text (now (table .entry)) (settings processors))) ⌝ }
+    ensures { λ r. ⌜ now (out .exit) ≡ final (fitted (length (now (out .entry))) (text (now (table .entry)) (settings processors))) (now (out .entry)) ⌝ }
 {
     let o = printing::print_plan(table, processors, out);
-    write_answer(answer, o.number, o.place, o.read);
+    write_answer(answer, o.refusal);
     o.written as u64
 }
 
 // The threshold, four bytes; answers how many bytes were written, 0 where it refuses.
 #[no_mangle]
-pub extern "C" fn vempaldi_threshold(table: &[u8], out: &mut [u8], answer: &mut [u64; 3]) -> u64
-    ensures { λ r. ⌜ EntryTold (now (table .entry)) (thresholds (now (table .entry)) (length (now (out .entry)))) (now (answer .entry)) (now (answer .exit)) r ⌝ }
+pub extern "C" fn vempaldi_threshold(table: &[u8], out: &mut [u8], answer: &mut [u64; 4]) -> u64
+    ensures { λ r. ⌜ now (answer .exit) ≡ answered (refusalOf (thresholds (now (table .entry)) (length (now (out .entry))))) (now (answer .entry)) ⌝ }
+    ensures { λ r. ⌜ r ≡ countOf (thresholds (now (table .entry)) (length (now (out .entry)))) ⌝ }
     ensures { λ r. ⌜ now (out .exit) ≡ final (thresholds (now (table .entry)) (length (now (out .entry)))) (now (out .entry)) ⌝ }
 {
     let o = entries::threshold(table, out);
-    write_answer(answer, o.number, o.place, o.read);
+    write_answer(answer, o.refusal);
     o.written as u64
 }
 
 // Sweeps before and after fusion, four bytes each; answers how many bytes were written, 0 where it refuses.
 #[no_mangle]
-pub extern "C" fn vempaldi_sweeps(table: &[u8], out: &mut [u8], answer: &mut [u64; 3]) -> u64
-    ensures { λ r. ⌜ EntryTold (now (table .entry)) (sweepsGiven (now (table .entry)) (length (now (out .entry)))) (now (answer .entry)) (now (answer .exit)) r ⌝ }
+pub extern "C" fn vempaldi_sweeps(table: &[u8], out: &mut [u8], answer: &mut [u64; 4]) -> u64
+    ensures { λ r. ⌜ now (answer .exit) ≡ answered (refusalOf (sweepsGiven (now (table .entry)) (length (now (out .entry))))) (now (answer .entry)) ⌝ }
+    ensures { λ r. ⌜ r ≡ countOf (sweepsGiven (now (table .entry)) (length (now (out .entry)))) ⌝ }
     ensures { λ r. ⌜ now (out .exit) ≡ final (sweepsGiven (now (table .entry)) (length (now (out .entry)))) (now (out .entry)) ⌝ }
 {
     let o = entries::sweeps(table, out);
-    write_answer(answer, o.number, o.place, o.read);
+    write_answer(answer, o.refusal);
     o.written as u64
 }
 
@@ -104,13 +115,14 @@ pub extern "C" fn vempaldi_blocks(
     table: &[u8],
     processors: u32,
     out: &mut [u8],
-    answer: &mut [u64; 3],
+    answer: &mut [u64; 4],
 ) -> u64
-    ensures { λ r. ⌜ EntryTold (now (table .entry)) (blocksGiven (now (table .entry)) (settings processors) (length (now (out .entry)))) (now (answer .entry)) (now (answer .exit)) r ⌝ }
+    ensures { λ r. ⌜ now (answer .exit) ≡ answered (refusalOf (blocksGiven (now (table .entry)) (settings processors) (length (now (out .entry))))) (now (answer .entry)) ⌝ }
+    ensures { λ r. ⌜ r ≡ countOf (blocksGiven (now (table .entry)) (settings processors) (length (now (out .entry)))) ⌝ }
     ensures { λ r. ⌜ now (out .exit) ≡ final (blocksGiven (now (table .entry)) (settings processors) (length (now (out .entry)))) (now (out .entry)) ⌝ }
 {
     let o = entries::blocks(table, processors, out);
-    write_answer(answer, o.number, o.place, o.read);
+    write_answer(answer, o.refusal);
     o.written as u64
 }
 
@@ -121,13 +133,14 @@ pub extern "C" fn vempaldi_fused_list(
     processors: u32,
     processor: u32,
     out: &mut [u8],
-    answer: &mut [u64; 3],
+    answer: &mut [u64; 4],
 ) -> u64
-    ensures { λ r. ⌜ EntryTold (now (table .entry)) (fusedGiven (now (table .entry)) (settings processors) processor (length (now (out .entry)))) (now (answer .entry)) (now (answer .exit)) r ⌝ }
+    ensures { λ r. ⌜ now (answer .exit) ≡ answered (refusalOf (fusedGiven (now (table .entry)) (settings processors) processor (length (now (out .entry))))) (now (answer .entry)) ⌝ }
+    ensures { λ r. ⌜ r ≡ countOf (fusedGiven (now (table .entry)) (settings processors) processor (length (now (out .entry)))) ⌝ }
     ensures { λ r. ⌜ now (out .exit) ≡ final (fusedGiven (now (table .entry)) (settings processors) processor (length (now (out .entry)))) (now (out .entry)) ⌝ }
 {
     let o = entries::list(table, 0, processors, processor, out);
-    write_answer(answer, o.number, o.place, o.read);
+    write_answer(answer, o.refusal);
     o.written as u64
 }
 
@@ -138,24 +151,25 @@ pub extern "C" fn vempaldi_peeled_list(
     processors: u32,
     processor: u32,
     out: &mut [u8],
-    answer: &mut [u64; 3],
+    answer: &mut [u64; 4],
 ) -> u64
-    ensures { λ r. ⌜ EntryTold (now (table .entry)) (peeledGiven (now (table .entry)) (settings processors) processor (length (now (out .entry)))) (now (answer .entry)) (now (answer .exit)) r ⌝ }
+    ensures { λ r. ⌜ now (answer .exit) ≡ answered (refusalOf (peeledGiven (now (table .entry)) (settings processors) processor (length (now (out .entry))))) (now (answer .entry)) ⌝ }
+    ensures { λ r. ⌜ r ≡ countOf (peeledGiven (now (table .entry)) (settings processors) processor (length (now (out .entry)))) ⌝ }
     ensures { λ r. ⌜ now (out .exit) ≡ final (peeledGiven (now (table .entry)) (settings processors) processor (length (now (out .entry)))) (now (out .entry)) ⌝ }
 {
     let o = entries::list(table, 1, processors, processor, out);
-    write_answer(answer, o.number, o.place, o.read);
+    write_answer(answer, o.refusal);
     o.written as u64
 }
 
 // The plain run of a table in the lent memory. A refused run leaves the memory as found.
 #[no_mangle]
-pub extern "C" fn vempaldi_plain_run(table: &[u8], memory: &mut [f64], answer: &mut [u64; 3])
-    ensures { λ _. ⌜ AnswerTold (now (table .entry)) (plainAnswer (now (table .entry)) (length (now (memory .entry)))) (now (answer .entry)) (now (answer .exit)) ⌝ }
+pub extern "C" fn vempaldi_plain_run(table: &[u8], memory: &mut [f64], answer: &mut [u64; 4])
+    ensures { λ _. ⌜ now (answer .exit) ≡ answered (refusalOf (plainAnswer (now (table .entry)) (length (now (memory .entry))))) (now (answer .entry)) ⌝ }
     ensures { λ _. ⌜ now (memory .exit) ≡ plainMemory (now (table .entry)) (now (memory .entry)) ⌝ }
 {
-    let v = plain::plain_run(table, memory);
-    write_answer(answer, v.number, v.place, v.read);
+    let r = plain::plain_run(table, memory);
+    write_answer(answer, r);
 }
 
 fn write_report(report: &mut [u32; 3], kind: u32, number: u32, index: u32)
@@ -172,7 +186,7 @@ fn tell_report(report: &mut [u32; 3], r: Report)
     ensures { λ _. ⌜ now (report .exit) ≡ reported r (now (report .entry)) ⌝ }
 {
     match r {
-        Report::Refused { number, place } => {}
+        Report::Refused(_) => {}
         Report::Performed { number, index } => {
             write_report(report, 0, number as u32, index as u32)
         }
@@ -181,14 +195,18 @@ fn tell_report(report: &mut [u32; 3], r: Report)
     }
 }
 
-fn tell_answer(answer: &mut [u64; 3], r: Report, read: usize)
-    ensures { λ _. ⌜ now (answer .exit) ≡ refusal r read (now (answer .entry)) ⌝ }
+// What is refused by a call that reports this.
+fn refusal_in(r: Report) -> Refusal
+    ensures { λ x. ⌜ x ≡ refusalIn r ⌝ }
 {
     match r {
-        Report::Refused { number, place } => write_answer(answer, number, place, read),
-        Report::Performed { number, index } => write_answer(answer, 0, 0, 0),
-        Report::Waiting => write_answer(answer, 0, 0, 0),
-        Report::Finished => write_answer(answer, 0, 0, 0),
+        Report::Refused(x) => x,
+        Report::Performed {
+            number: _,
+            index: _,
+        } => Refusal::none(),
+        Report::Waiting => Refusal::none(),
+        Report::Finished => Refusal::none(),
     }
 }
 
@@ -201,9 +219,12 @@ pub extern "C" fn vempaldi_step(
     counts: &mut [u32; 64],
     memory: &mut [f64],
     report: &mut [u32; 3],
-    answer: &mut [u64; 3],
+    answer: &mut [u64; 4],
 )
-    ensures { λ _. ⌜ StepTold (now (table .entry)) (settings processors) processor (now (counts .entry)) (now (memory .entry)) (now (report .entry)) (now (answer .entry)) (now (counts .exit)) (now (memory .exit)) (now (report .exit)) (now (answer .exit)) ⌝ }
+    ensures { λ _. ⌜ now (counts .exit) ≡ step (now (table .entry)) (settings processors) processor (now (counts .entry)) (now (memory .entry)) .counts ⌝ }
+    ensures { λ _. ⌜ now (memory .exit) ≡ step (now (table .entry)) (settings processors) processor (now (counts .entry)) (now (memory .entry)) .memory ⌝ }
+    ensures { λ _. ⌜ now (report .exit) ≡ reported (reportAt (now (table .entry)) (settings processors) processor (now (counts .entry)) (now (memory .entry))) (now (report .entry)) ⌝ }
+    ensures { λ _. ⌜ now (answer .exit) ≡ answered (refusalIn (reportAt (now (table .entry)) (settings processors) processor (now (counts .entry)) (now (memory .entry)))) (now (answer .entry)) ⌝ }
 {
     let done = *counts;
     let state = Counts { done };
@@ -213,7 +234,7 @@ pub extern "C" fn vempaldi_step(
     *counts = left;
     let told = r.report;
     tell_report(report, told);
-    tell_answer(answer, told, r.read);
+    write_answer(answer, refusal_in(told));
 }
 
 // A run in a caller's order, whose bytes name processors; answers how many of its calls were idle. A refused run leaves the memory as found.
@@ -223,13 +244,13 @@ pub extern "C" fn vempaldi_run(
     processors: u32,
     order: &[u8],
     memory: &mut [f64],
-    answer: &mut [u64; 3],
+    answer: &mut [u64; 4],
 ) -> u64
-    ensures { λ r. ⌜ AnswerTold (now (table .entry)) (runAnswer (now (table .entry)) (settings processors) (length (now (memory .entry)))) (now (answer .entry)) (now (answer .exit)) ⌝ }
+    ensures { λ r. ⌜ now (answer .exit) ≡ answered (refusalOf (runAnswer (now (table .entry)) (settings processors) (length (now (memory .entry))))) (now (answer .entry)) ⌝ }
     ensures { λ r. ⌜ now (memory .exit) ≡ runMemory (now (table .entry)) (settings processors) (now (order .entry)) (now (memory .entry)) ⌝ }
     ensures { λ r. ⌜ r ≡ runIdle (now (table .entry)) (settings processors) (now (order .entry)) (now (memory .entry)) ⌝ }
 {
     let v = running::run(table, processors, order, memory);
-    write_answer(answer, v.number, v.place, v.read);
+    write_answer(answer, v.refusal);
     v.idle as u64
 }
