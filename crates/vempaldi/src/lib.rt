@@ -1,4 +1,5 @@
 // The exported functions: thin, with plain numbers and slices. None requires anything: what it cannot take it refuses.
+use outputs::Outcome;
 use refusals::Refusal;
 use stepping::Report;
 use steps::Counts;
@@ -26,6 +27,15 @@ fn write_answer(answer: &mut [u64; 4], r: Refusal)
     answer[3] = r.second as u64;
 }
 
+// The answer of a call that gives bytes; the result is how many were written.
+fn tell_outcome(answer: &mut [u64; 4], o: Outcome) -> u64
+    ensures { λ _. ⌜ now (answer .exit) ≡ answered (o .refusal) (now (answer .entry)) ⌝ }
+    ensures { λ n. ⌜ n ≡ o .written ⌝ }
+{
+    write_answer(answer, o.refusal);
+    o.written as u64
+}
+
 // Whether a table is accepted, or the refusal.
 #[no_mangle]
 pub extern "C" fn vempaldi_check(table: &[u8], answer: &mut [u64; 4])
@@ -48,8 +58,7 @@ pub extern "C" fn vempaldi_join(
     ensures { λ r. ⌜ now (out .exit) ≡ final (joining (now (left .entry)) (now (right .entry)) (length (now (out .entry)))) (now (out .entry)) ⌝ }
 {
     let o = joining::join(left, right, out);
-    write_answer(answer, o.refusal);
-    o.written as u64
+    tell_outcome(answer, o)
 }
 
 // Shift and peel of each loop, four bytes each; answers how many bytes were written, 0 where it refuses.
@@ -64,8 +73,7 @@ pub extern "C" fn vempaldi_shifts_and_peels(
     ensures { λ r. ⌜ now (out .exit) ≡ final (amounts (now (table .entry)) (length (now (out .entry)))) (now (out .entry)) ⌝ }
 {
     let o = entries::shifts_and_peels(table, out);
-    write_answer(answer, o.refusal);
-    o.written as u64
+    tell_outcome(answer, o)
 }
 
 // The listing of a plan, or the line of its refusal; 13 alone refuses the call. Answers how many bytes were written.
@@ -81,8 +89,7 @@ pub extern "C" fn vempaldi_listing(
     ensures { λ r. ⌜ now (out .exit) ≡ final (fitted (length (now (out .entry))) (text (now (table .entry)) (settings processors))) (now (out .entry)) ⌝ }
 {
     let o = printing::print_plan(table, processors, out);
-    write_answer(answer, o.refusal);
-    o.written as u64
+    tell_outcome(answer, o)
 }
 
 // The threshold, four bytes; answers how many bytes were written, 0 where it refuses.
@@ -93,8 +100,7 @@ pub extern "C" fn vempaldi_threshold(table: &[u8], out: &mut [u8], answer: &mut 
     ensures { λ r. ⌜ now (out .exit) ≡ final (thresholds (now (table .entry)) (length (now (out .entry)))) (now (out .entry)) ⌝ }
 {
     let o = entries::threshold(table, out);
-    write_answer(answer, o.refusal);
-    o.written as u64
+    tell_outcome(answer, o)
 }
 
 // Sweeps before and after fusion, four bytes each; answers how many bytes were written, 0 where it refuses.
@@ -105,8 +111,7 @@ pub extern "C" fn vempaldi_sweeps(table: &[u8], out: &mut [u8], answer: &mut [u6
     ensures { λ r. ⌜ now (out .exit) ≡ final (sweepsGiven (now (table .entry)) (length (now (out .entry)))) (now (out .entry)) ⌝ }
 {
     let o = entries::sweeps(table, out);
-    write_answer(answer, o.refusal);
-    o.written as u64
+    tell_outcome(answer, o)
 }
 
 // First and last index of each block, four bytes each; answers how many bytes were written, 0 where it refuses.
@@ -122,8 +127,7 @@ pub extern "C" fn vempaldi_blocks(
     ensures { λ r. ⌜ now (out .exit) ≡ final (blocksGiven (now (table .entry)) (settings processors) (length (now (out .entry)))) (now (out .entry)) ⌝ }
 {
     let o = entries::blocks(table, processors, out);
-    write_answer(answer, o.refusal);
-    o.written as u64
+    tell_outcome(answer, o)
 }
 
 // Loop and iteration of each in a processor's fused list, four bytes each; answers how many bytes were written, 0 where it refuses.
@@ -140,8 +144,7 @@ pub extern "C" fn vempaldi_fused_list(
     ensures { λ r. ⌜ now (out .exit) ≡ final (fusedGiven (now (table .entry)) (settings processors) processor (length (now (out .entry)))) (now (out .entry)) ⌝ }
 {
     let o = entries::list(table, 0, processors, processor, out);
-    write_answer(answer, o.refusal);
-    o.written as u64
+    tell_outcome(answer, o)
 }
 
 // Loop and iteration of each in a processor's peeled list, four bytes each; answers how many bytes were written, 0 where it refuses.
@@ -158,8 +161,7 @@ pub extern "C" fn vempaldi_peeled_list(
     ensures { λ r. ⌜ now (out .exit) ≡ final (peeledGiven (now (table .entry)) (settings processors) processor (length (now (out .entry)))) (now (out .entry)) ⌝ }
 {
     let o = entries::list(table, 1, processors, processor, out);
-    write_answer(answer, o.refusal);
-    o.written as u64
+    tell_outcome(answer, o)
 }
 
 // The plain run of a table in the lent memory. A refused run leaves the memory as found.

@@ -9,30 +9,30 @@ use Rattle.vempaldi.proofs.tell_report.Tie as tie
 cast-write-report : tie.Need-cast-write-report
 unfolding ReportFits
 cast-write-report c =
-    let z = subst (λ (x : Report). ReportFits x) (c .before .before .r2 .given .1) (c .before .before .before .before .pre) in
+    let z = subst (λ (x : Report). ReportFits x) (c .before .before .r .given .1) (c .before .before .before .before .pre) in
     omega (arith, z .0)
 
 cast-write-report-2 : tie.Need-cast-write-report-2
 unfolding ReportFits
 cast-write-report-2 c =
-    let z = subst (λ (x : Report). ReportFits x) (c .before .before .r2 .given .1) (c .before .before .before .before .pre) in
+    let z = subst (λ (x : Report). ReportFits x) (c .before .before .r .given .1) (c .before .before .before .before .pre) in
     omega (arith, z .1)
 
 returns : tie.Need-returns
 unfolding reported
-returns c = rw (c .before .r .given .1)
+returns c = rw (c .enum-told .given .1)
 
 returns-2 : tie.Need-returns-2
 unfolding reported
-returns-2 c = rw (c .before .before .before .r2 .given .1) (c .write-report .ensures)
+returns-2 c = rw (c .before .before .before .r .given .1) (c .write-report .ensures)
 
 returns-3 : tie.Need-returns-3
 unfolding reported
-returns-3 c = rw (c .before .before .enum-told .given .1) (c .write-report2 .ensures)
+returns-3 c = rw (c .before .before .enum-told2 .given .1) (c .write-report2 .ensures)
 
 returns-4 : tie.Need-returns-4
 unfolding reported
-returns-4 c = rw (c .before .before .enum-told2 .given .1) (c .write-report3 .ensures)
+returns-4 c = rw (c .before .before .enum-told3 .given .1) (c .write-report3 .ensures)
 
 pub tell-report-spec : {M : Type 1} → statement M
 tell-report-spec =

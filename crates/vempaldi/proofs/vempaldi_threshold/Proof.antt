@@ -1,0 +1,11 @@
+use denote.Ref.{now}
+use Rattle.vempaldi.proofs.Laws.{gives-told}
+use borrow.Author.Needs.{needs}
+use Rattle.vempaldi.proofs.vempaldi_threshold.Statement.{statement}
+use Rattle.vempaldi.proofs.vempaldi_threshold.Tie as tie
+
+returns : tie.Need-returns
+returns c = gives-told (now (c .before .before .before .before .before .before .before .before .args .answer)) (c .before .before .before .before .threshold .ensures) (c .tell-outcome .ensures)
+
+pub vempaldi-threshold-spec : {M : Type 1} → statement M
+vempaldi-threshold-spec = tie.close (tie.spec (λ c κs. search needs) (λ c κs. search needs) (λ c. search needs) returns)
