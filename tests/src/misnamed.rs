@@ -8,6 +8,8 @@ use crate::table::*;
 /// the lowest serial one.
 type Way = fn(&Table, usize) -> Option<usize>;
 
+/// Here t is the table and k the loop, d a read's distance from the
+/// destination and n the count of iterations.
 const WAYS: [(&str, Way); 14] = [
     ("read 0", |_, _| Some(0)),
     ("the highest colliding read", highest),
@@ -107,8 +109,8 @@ impl Misnamed {
     }
 
     pub fn print(&self, name: &str) {
-        println!("{name}: {} tables refused with 9, by which these are told apart", self.tables);
-        println!("  {:6} another loop than the first", self.later);
+        println!("{name}: {} tables, of which so many would show each mistake", self.tables);
+        println!("  {:6} the first loop instead of the serial one", self.later);
         for (count, (way, _)) in self.shown.iter().zip(WAYS) {
             println!("  {count:6} {way}");
         }
@@ -144,11 +146,11 @@ mod tests {
         let table = Table { arrays: vec![30, 30], loops };
         assert_eq!(colliding(&table, 1), Some(3));
         let named = WAYS.map(|(_, way)| way(&table, 1));
-        let some = |read: usize| Some(read);
-        let front = [some(0), some(5), some(1), some(1), some(2), some(2), some(4)];
-        let back = [some(4), some(3), some(4), some(7), some(6), None, some(0)];
-        assert_eq!(named[..7], front);
-        assert_eq!(named[7..], back);
+        assert_eq!(named[..7], [0, 5, 1, 1, 2, 2, 4].map(Some));
+        assert_eq!(named[7..12], [4, 3, 4, 7, 6].map(Some));
+        // The first loop has no read that meets the second's destination in
+        // another iteration.
+        assert_eq!(named[12..], [None, Some(0)]);
     }
 
     #[test]
