@@ -1,7 +1,9 @@
 /* One input, any bytes: a table (as it comes, or made from the bytes and then perhaps damaged), numbers of processors, orders, counts,
  * lengths of memories and outputs. Every exported function is called with them. What must hold whatever the input is:
  *
- * - answers are among the entry's own grounds, with the place that the ground carries; all entries agree on grounds 1 to 9;
+ * - answers are among the entry's own grounds, with the place that the ground carries, and 9 alone names something;
+ * - 9 is given where iterations of a loop meet and nowhere else, with the first loop and the first read by which they do;
+ * - where check refuses a table, every other entry gives the same four numbers, joining those of left or of right;
  * - guard bytes on both sides of everything lent stay, and so do the inputs;
  * - a refused call leaves what it was lent as found, an accepted one the bytes past its output;
  * - an output that just fits is the same output, and one byte less is refused with 13;
@@ -17,7 +19,8 @@
 #include "maker.h"
 #include "vempaldi.h"
 
-enum { GUARD = 48, ENTRIES = 12, MOST_LISTED = 512, MOST_STEPPED = 48, ORDER = 96, PATTERN = 4096 };
+enum { GUARD = 48, ENTRIES = 12, MOST_LISTED = 512, MOST_STEPPED = 48, ORDER = 96, PATTERN = 4096, MOST_READS = 16 };
+enum { CHECK = 0, JOIN = 1, LISTING = 8 };
 
 static const char *const names[ENTRIES] = {"check",  "join",       "shifts and peels", "threshold", "sweeps", "blocks",
                                            "fused list", "peeled list", "listing",     "plain run", "step",   "run"};
@@ -29,7 +32,7 @@ static const uint32_t further[ENTRIES] = {
     0, BIT(13) | BIT(14), BIT(13), BIT(13), BIT(13), BIT(10) | BIT(11) | BIT(13), BIT(10) | BIT(11) | BIT(13),
     BIT(10) | BIT(11) | BIT(13), BIT(13), BIT(12), BIT(10) | BIT(11) | BIT(12) | BIT(15), BIT(10) | BIT(11) | BIT(12)};
 
-static uint64_t met[ENTRIES][16], inputs;
+static uint64_t met[ENTRIES][16], named_reads[MOST_READS], inputs;
 
 /* The library is not instrumented, so the fuzzer learns what is new from the answers. Without libFuzzer this is a plain array. */
 #if defined(__clang__)
@@ -42,12 +45,16 @@ struct call {
     const uint8_t *table;
     size_t length;
     uint32_t processors, processor;
-    uint64_t answer[3];
+    uint64_t answer[4];
+    /* What check says of the table. */
+    uint64_t verdict[4];
 };
 
 static void breach(const struct call *call, const char *what) {
-    fprintf(stderr, "BREACH in %s: %s\n  processors %u, processor %u, answer %" PRIu64 " %" PRIu64 " %" PRIu64 "\n  table ",
-            names[call->entry], what, call->processors, call->processor, call->answer[0], call->answer[1], call->answer[2]);
+    fprintf(stderr, "BREACH in %s: %s\n  processors %u, processor %u, answer", names[call->entry], what, call->processors,
+            call->processor);
+    for (int i = 0; i < 4; i++) fprintf(stderr, " %" PRIu64, call->answer[i]);
+    fprintf(stderr, "\n  table ");
     for (size_t i = 0; i < call->length; i++) fprintf(stderr, "%02x", call->table[i]);
     fprintf(stderr, "\n");
     abort();
@@ -92,22 +99,52 @@ static void give_back(struct lent *lent) {
     free(lent->before);
 }
 
-static void answered(struct call *call, size_t longest) {
-    uint64_t number = call->answer[0], place = call->answer[1], read = call->answer[2];
-    uint32_t allowed = call->entry == 8 ? 0 : common;
-    if (number > 15 || (number && !((allowed | further[call->entry]) >> number & 1))) breach(call, "a ground that is not its own");
-    if (number == 0 && (place || read)) breach(call, "an accepted answer that is not 0, 0, 0");
-    if (number >= 10 && place) breach(call, "a place other than 0");
-    if (number >= 1 && number <= 8 && place > longest) breach(call, "a place past the input");
-    if (number == 9 ? (place > 15 || read > 31) : read) breach(call, "a read that cannot be");
-    met[call->entry][number]++;
-    novel[(call->entry * 16 + number) * 64 + (place < 63 ? place : 63)] = 1;
+/* What check says of a place, and of 9 all of it, holds of the table's bytes. */
+static void like_bytes(const struct call *call) {
+    uint64_t number = call->answer[0];
+    if (number >= 1 && number <= 8) {
+        if (call->answer[1] > call->length) breach(call, "a place past the input");
+        return;
+    }
+    struct collision first = first_collision(call->table, call->length);
+    if (first.found != (number == 9)) breach(call, "9 where no iterations meet, or accepted where some do");
+    if (number != 9) return;
+    if (call->answer[1] != first.loop) breach(call, "another loop than the first of which iterations meet");
+    if (call->answer[2] != first.read) breach(call, "another read than the first that collides");
+    named_reads[first.read % MOST_READS]++;
 }
 
-/* What check says of the table holds for every other entry that reads it. */
-static void like_check(struct call *call, const uint64_t verdict[3]) {
-    if (verdict[0] ? memcmp(call->answer, verdict, 3 * sizeof *verdict) : (call->answer[0] >= 1 && call->answer[0] <= 9))
+/* What check says of the table holds for every other entry that reads it. An entry's own 4 is that of too many joined loops. */
+static void like_check(const struct call *call) {
+    uint64_t number = call->answer[0];
+    int own = number == 0 || number > 9 || (call->entry == JOIN && number == 4 && call->answer[1] == 0);
+    if (call->verdict[0] ? memcmp(call->answer, call->verdict, sizeof call->answer) != 0 : !own)
         breach(call, "another verdict on the table than check's");
+}
+
+/* What holds of the answer of every call. */
+static void answered(struct call *call) {
+    uint64_t number = call->answer[0], place = call->answer[1], read = call->answer[2];
+    uint32_t allowed = call->entry == LISTING ? 0 : common;
+    if (number > 15 || (number && !((allowed | further[call->entry]) >> number & 1))) breach(call, "a ground that is not its own");
+    if (number == 0 && place) breach(call, "an accepted answer with a place");
+    if (number >= 10 && place) breach(call, "a place other than 0");
+    if (number != 9 && read) breach(call, "a read named by another answer than 9");
+    if (call->answer[3]) breach(call, "a fourth number other than 0");
+    if (call->entry == CHECK) like_bytes(call);
+    else if (call->entry != LISTING) like_check(call);
+    met[call->entry][number]++;
+    uint64_t which = number == 9 ? place % 4 * 16 + read % 16 : place < 63 ? place : 63;
+    novel[(call->entry * 16 + number) * 64 + which] = 1;
+}
+
+/* The verdict on the call's table. */
+static void check(struct call *call) {
+    call->entry = CHECK;
+    memset(call->answer, 0xee, sizeof call->answer);
+    vempaldi_check(call->table, call->length, call->answer);
+    answered(call);
+    memcpy(call->verdict, call->answer, sizeof call->verdict);
 }
 
 static uint64_t called(struct call *call, uint8_t *out, size_t room) {
@@ -132,7 +169,7 @@ static uint64_t with_room(struct call *call, size_t room, const uint8_t *same, u
     uint8_t *lent = lend(&out, room);
     /* A pointer may be anything where its length is 0. */
     uint64_t written = called(call, room ? lent : NULL, room);
-    answered(call, call->length);
+    answered(call);
     if (call->answer[0] && written) breach(call, "refused, yet bytes are said to be written");
     if (written > room) breach(call, "more bytes than fit are said to be written");
     unchanged_but(call, &out, 0, written, "bytes outside the output changed");
@@ -143,10 +180,9 @@ static uint64_t with_room(struct call *call, size_t room, const uint8_t *same, u
 }
 
 /* An entry with an output: any room, plenty of room, exactly enough, one byte too few. Answers what it wrote given plenty. */
-static uint64_t with_rooms(struct call *call, size_t any, size_t plenty, const uint64_t verdict[3], uint8_t *keep) {
+static uint64_t with_rooms(struct call *call, size_t any, size_t plenty, uint8_t *keep) {
     with_room(call, any, NULL, NULL);
     uint64_t written = with_room(call, plenty, NULL, keep);
-    if (call->entry != 8) like_check(call, verdict);
     if (call->answer[0]) return 0;
     if (with_room(call, written, keep, NULL) != written || call->answer[0]) breach(call, "refused a buffer that just fits");
     if (written) {
@@ -157,57 +193,63 @@ static uint64_t with_rooms(struct call *call, size_t any, size_t plenty, const u
     return written;
 }
 
-static void join(struct call *call, struct cursor *bytes, const uint64_t verdict[3]) {
+/* Joins the call's table with another: the same, or one that is made for this. */
+static void join(const struct call *left, struct cursor *bytes) {
     uint8_t other[MOST_MADE];
-    size_t length = call->length < sizeof other ? call->length : sizeof other;
+    size_t length = left->length < sizeof other ? left->length : sizeof other;
     if (take(bytes, 1) % 2) length = make_table(bytes, other);
-    else memcpy(other, call->table, length);
+    else if (length) memcpy(other, left->table, length);
     struct lent out;
     size_t room = take(bytes, 1) % 4 ? VEMPALDI_TABLE_BYTES : take(bytes, 2) % 300;
     uint8_t *lent = lend(&out, room);
-    call->entry = 1;
-    memset(call->answer, 0xee, sizeof call->answer);
-    uint64_t written = vempaldi_join(call->table, call->length, other, length, lent, room, call->answer);
-    answered(call, call->length > length ? call->length : length);
-    if (verdict[0]) like_check(call, verdict);
-    if (call->answer[0] && written) breach(call, "refused, yet bytes are said to be written");
-    unchanged_but(call, &out, 0, written, "bytes outside the output changed");
-    if (!call->answer[0]) {
-        vempaldi_check(lent, written, call->answer);
-        if (call->answer[0]) breach(call, "the joined table is refused");
+    struct call right = *left;
+    right.table = other, right.length = length;
+    check(&right);
+    /* A join that is refused for a table gets the left one's verdict before the right one's. */
+    struct call joining = left->verdict[0] ? *left : right;
+    joining.entry = JOIN;
+    memset(joining.answer, 0xee, sizeof joining.answer);
+    uint64_t written = vempaldi_join(left->table, left->length, other, length, lent, room, joining.answer);
+    answered(&joining);
+    if (joining.answer[0] && written) breach(&joining, "refused, yet bytes are said to be written");
+    unchanged_but(&joining, &out, 0, written, "bytes outside the output changed");
+    if (!joining.answer[0]) {
+        struct call joined = *left;
+        joined.table = lent, joined.length = written;
+        check(&joined);
+        if (joined.answer[0]) breach(&joined, "the joined table is refused");
     }
     give_back(&out);
 }
 
 /* The entries of planning. With an accepted plan that is not too long, the lists of all processors have every iteration once. */
-static int plan(struct call *call, struct cursor *bytes, const uint64_t verdict[3], const struct sizes *sizes) {
+static int plan(struct call *call, struct cursor *bytes, const struct sizes *sizes) {
     static uint8_t keep[VEMPALDI_LISTING_BYTES];
     size_t any = take(bytes, 2) % 700;
     for (call->entry = 2; call->entry < 5; call->entry++) {
-        uint64_t written = with_rooms(call, any, 160, verdict, keep);
+        uint64_t written = with_rooms(call, any, 160, keep);
         uint64_t wanted = call->entry == 2 ? 8 * sizes->loops : call->entry == 3 ? 4 : 8;
-        if (!verdict[0] && written != wanted) breach(call, "an output of the wrong length");
+        if (!call->verdict[0] && written != wanted) breach(call, "an output of the wrong length");
     }
-    uint64_t written = with_rooms(call, any, 512, verdict, keep);
+    uint64_t written = with_rooms(call, any, 512, keep);
     int accepted = call->answer[0] == 0;
     if (accepted && written != 8 * call->processors) breach(call, "not a block for each processor");
-    call->entry = 8;
-    if (with_rooms(call, any, sizeof keep, verdict, keep) == 0) breach(call, "no text");
+    call->entry = LISTING;
+    if (with_rooms(call, any, sizeof keep, keep) == 0) breach(call, "no text");
     if (accepted == (keep[0] == 'r')) breach(call, "the listing and the blocks disagree on the plan");
     return accepted;
 }
 
-static void lists(struct call *call, struct cursor *bytes, const uint64_t verdict[3], const struct sizes *sizes, int accepted) {
+static void lists(struct call *call, struct cursor *bytes, const struct sizes *sizes, int accepted) {
     static uint8_t keep[8 * MOST_LISTED];
     uint64_t total = 0;
     int all = accepted && sizes->iterations <= MOST_LISTED;
     for (call->entry = 6; call->entry < 8; call->entry++) {
         call->processor = take(bytes, 1) % 8 ? take(bytes, 1) % 8 : take(bytes, 4);
         with_room(call, take(bytes, 2) % 700, NULL, NULL);
-        if (verdict[0]) like_check(call, verdict);
         for (uint32_t b = 0; all && b < call->processors; b++) {
             call->processor = b;
-            total += with_rooms(call, take(bytes, 1), sizeof keep, verdict, keep) / 8;
+            total += with_rooms(call, take(bytes, 1), sizeof keep, keep) / 8;
         }
     }
     call->entry = 7;
@@ -241,19 +283,17 @@ static void stored_nans(struct call *call, const struct lent *memory) {
     }
 }
 
-static void plain_run(struct call *call, struct lent *plain, size_t numbers, uint64_t seed, const uint64_t verdict[3]) {
+static void plain_run(struct call *call, struct lent *plain, size_t numbers, uint64_t seed) {
     double *lent = memory(plain, numbers, seed);
     call->entry = 9;
     memset(call->answer, 0xee, sizeof call->answer);
     vempaldi_plain_run(call->table, call->length, numbers ? lent : NULL, numbers, call->answer);
-    answered(call, call->length);
-    like_check(call, verdict);
+    answered(call);
     unchanged_but(call, plain, 0, call->answer[0] ? 0 : plain->size, "bytes outside the memory changed, or any in a refused run");
     stored_nans(call, plain);
 }
 
-static void run(struct call *call, struct cursor *bytes, const struct lent *plain, size_t numbers, uint64_t seed,
-                const uint64_t verdict[3], int fits) {
+static void run(struct call *call, struct cursor *bytes, const struct lent *plain, size_t numbers, uint64_t seed, int fits) {
     struct lent own;
     size_t length = take(bytes, 1) % ORDER;
     uint8_t *order = malloc(length + 1);
@@ -264,8 +304,7 @@ static void run(struct call *call, struct cursor *bytes, const struct lent *plai
     memset(call->answer, 0xee, sizeof call->answer);
     uint64_t idle = vempaldi_run(call->table, call->length, call->processors, length ? order : NULL, length, numbers ? lent : NULL,
                                  numbers, call->answer);
-    answered(call, call->length);
-    like_check(call, verdict);
+    answered(call);
     if (idle > length || (call->answer[0] && idle)) breach(call, "an idle count that cannot be");
     unchanged_but(call, &own, 0, call->answer[0] ? 0 : own.size, "bytes outside the memory changed, or any in a refused run");
     if (!call->answer[0] && fits) same_memory(call, &own, plain);
@@ -279,7 +318,7 @@ struct stepped {
 };
 
 /* One step. Answers its report's kind, or 3 where it is refused. */
-static uint32_t step(struct call *call, struct stepped *on, const uint64_t verdict[3]) {
+static uint32_t step(struct call *call, struct stepped *on) {
     uint32_t *counts = (uint32_t *)(on->counts.all + GUARD), *report = (uint32_t *)(on->report.all + GUARD);
     size_t numbers = on->memory.size / 8, q = 4 * (size_t)call->processor, changed = 0;
     found(&on->counts), found(&on->report), found(&on->memory);
@@ -287,8 +326,7 @@ static uint32_t step(struct call *call, struct stepped *on, const uint64_t verdi
     memset(call->answer, 0xee, sizeof call->answer);
     vempaldi_step(call->table, call->length, call->processors, call->processor, counts, (double *)(on->memory.all + GUARD), numbers,
                   report, call->answer);
-    answered(call, call->length);
-    like_check(call, verdict);
+    answered(call);
     int refused = call->answer[0] != 0, moved = !refused && report[0] == 0;
     unchanged_but(call, &on->report, 0, refused ? 0 : 12, "the report of a refused step changed, or bytes beside it");
     unchanged_but(call, &on->counts, moved ? q : 0, moved ? q + 4 : 0, "another count changed");
@@ -305,8 +343,8 @@ static uint32_t step(struct call *call, struct stepped *on, const uint64_t verdi
 }
 
 /* A step from any counts, then a row of steps from 0 to its end, which leaves the plain run's memory. */
-static void steps(struct call *call, struct cursor *bytes, const struct lent *plain, size_t numbers, uint64_t seed,
-                  const uint64_t verdict[3], int complete, uint64_t iterations) {
+static void steps(struct call *call, struct cursor *bytes, const struct lent *plain, size_t numbers, uint64_t seed, int complete,
+                  uint64_t iterations) {
     struct stepped on;
     uint8_t *counts = lend(&on.counts, 256);
     lend(&on.report, 12);
@@ -314,7 +352,7 @@ static void steps(struct call *call, struct cursor *bytes, const struct lent *pl
     memset(counts, 0, 256);
     for (uint32_t i = take(bytes, 1) % 5; i-- > 0;) counts[4 * (take(bytes, 1) % 64) + take(bytes, 1) % 4] = take(bytes, 1) % 12;
     call->processor = take(bytes, 1) % 8 ? take(bytes, 1) % 4 : take(bytes, 4);
-    step(call, &on, verdict);
+    step(call, &on);
     give_back(&on.memory);
     memory(&on.memory, numbers, seed);
     memset(counts, 0, 256);
@@ -323,14 +361,14 @@ static void steps(struct call *call, struct cursor *bytes, const struct lent *pl
     for (unsigned tries = 0; complete && done < iterations; tries++) {
         /* First as the input says, then each processor in turn, which always comes to the end. */
         call->processor = tries < 64 ? take(bytes, 1) % (call->processors + 1) : named++ % call->processors;
-        done += step(call, &on, verdict) == 0;
+        done += step(call, &on) == 0;
         if (tries > 64 + 2 * 64 * iterations) breach(call, "a row of steps that does not end");
     }
     if (complete) same_memory(call, &on.memory, plain);
     give_back(&on.counts), give_back(&on.report), give_back(&on.memory);
 }
 
-static void running(struct call *call, struct cursor *bytes, const uint64_t verdict[3], const struct sizes *sizes, int accepted) {
+static void running(struct call *call, struct cursor *bytes, const struct sizes *sizes, int accepted) {
     uint64_t seed = take(bytes, 4);
     uint32_t which = take(bytes, 1);
     /* Long memories are lent as well, but seldom: they are slow to compare. */
@@ -338,11 +376,11 @@ static void running(struct call *call, struct cursor *bytes, const uint64_t verd
     size_t numbers = fits ? sizes->elements : take(bytes, 2) % 600;
     fits = numbers == sizes->elements;
     struct lent plain;
-    plain_run(call, &plain, numbers, seed, verdict);
-    if (!verdict[0] && fits == (call->answer[0] == 12)) breach(call, "12 where the length is right, or none where it is wrong");
-    run(call, bytes, &plain, numbers, seed, verdict, fits);
+    plain_run(call, &plain, numbers, seed);
+    if (!call->verdict[0] && fits == (call->answer[0] == 12)) breach(call, "12 where the length is right, or none where it is wrong");
+    run(call, bytes, &plain, numbers, seed, fits);
     int complete = accepted && fits && sizes->iterations <= MOST_STEPPED && sizes->elements <= 4096;
-    steps(call, bytes, &plain, numbers, seed, verdict, complete, sizes->iterations);
+    steps(call, bytes, &plain, numbers, seed, complete, sizes->iterations);
     give_back(&plain);
 }
 
@@ -355,17 +393,14 @@ int LLVMFuzzerTestOneInput(const uint8_t *data, size_t size) {
     uint8_t *table = malloc(length ? length : 1);
     if (!table) abort();
     memcpy(table, made, length);
-    struct call call = {0, length ? table : NULL, length, p < 224 ? p % 9 : p < 240 ? p - 160 : take(&bytes, 4), 0, {0}};
-    uint64_t verdict[3];
-    memset(call.answer, 0xee, sizeof call.answer);
-    vempaldi_check(call.table, length, call.answer);
-    answered(&call, length);
-    memcpy(verdict, call.answer, sizeof verdict);
-    struct sizes sizes = verdict[0] ? (struct sizes){0, 0, 0} : sizes_of(table, length);
-    join(&call, &bytes, verdict);
-    int accepted = plan(&call, &bytes, verdict, &sizes);
-    lists(&call, &bytes, verdict, &sizes, accepted);
-    running(&call, &bytes, verdict, &sizes, accepted);
+    p = p < 224 ? p % 9 : p < 240 ? p - 160 : take(&bytes, 4);
+    struct call call = {CHECK, length ? table : NULL, length, p, 0, {0}, {0}};
+    check(&call);
+    struct sizes sizes = call.verdict[0] ? (struct sizes){0, 0, 0} : sizes_of(table, length);
+    join(&call, &bytes);
+    int accepted = plan(&call, &bytes, &sizes);
+    lists(&call, &bytes, &sizes, accepted);
+    running(&call, &bytes, &sizes, accepted);
     if (memcmp(table, made, length)) breach(&call, "the table itself changed");
     free(table);
     inputs++;
@@ -380,6 +415,10 @@ static void tell(void) {
             if (met[e][n]) fprintf(stderr, " %d:%" PRIu64, n, met[e][n]);
         fprintf(stderr, "\n");
     }
+    fprintf(stderr, "  reads that check named with 9:");
+    for (int read = 0; read < MOST_READS; read++)
+        if (named_reads[read]) fprintf(stderr, " %d:%" PRIu64, read, named_reads[read]);
+    fprintf(stderr, "\n");
 }
 
 int LLVMFuzzerInitialize(int *count, char ***words) {

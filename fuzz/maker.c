@@ -145,8 +145,10 @@ static uint64_t number(const uint8_t *at) {
     return at[0] | (uint64_t)at[1] << 8 | (uint64_t)at[2] << 16 | (uint64_t)at[3] << 24;
 }
 
+/* The lengths of bodies, by kind. */
+static const size_t bodies[] = {0, 4, 11, 3, 4, 1, 0};
+
 struct sizes sizes_of(const uint8_t *table, size_t length) {
-    static const size_t bodies[] = {0, 4, 11, 3, 4, 1, 0};
     struct sizes sizes = {0, 0, 0};
     for (size_t at = 0; at < length; at += 1 + bodies[table[at]]) {
         if (table[at] == 1) sizes.elements += number(table + at + 1);
@@ -156,4 +158,42 @@ struct sizes sizes_of(const uint8_t *table, size_t length) {
         }
     }
     return sizes;
+}
+
+static int64_t offset(const uint8_t *at) {
+    int64_t value = at[0] | (int64_t)at[1] << 8;
+    return value < 32768 ? value : value - 65536;
+}
+
+/* Whether some iteration stores, at offset `stored`, the element that another one reads at offset `read`. They are tried one by one; a
+ * loop that is long enough to make this slow meets within the first few. */
+static int meets(int64_t first, int64_t last, int64_t stored, int64_t read) {
+    if (stored == read) return 0;
+    for (int64_t i = first; i <= last; i++) {
+        int64_t other = i + stored - read;
+        if (other >= first && other <= last) return 1;
+    }
+    return 0;
+}
+
+struct collision first_collision(const uint8_t *table, size_t length) {
+    struct collision at_hand = {0, 0, 0};
+    const uint8_t *loop = NULL;
+    uint64_t loops = 0;
+    for (size_t at = 0; at < length; at += 1 + bodies[table[at]]) {
+        const uint8_t *record = table + at;
+        if (record[0] < 1 || record[0] > 6 || bodies[record[0]] >= length - at) break;
+        if (record[0] == 2) {
+            loop = record;
+            at_hand = (struct collision){0, loops++, 0};
+        }
+        if (record[0] != 3 || !loop) continue;
+        int own = record[1] == loop[9];
+        if (own && meets((int64_t)number(loop + 1), (int64_t)number(loop + 5), offset(loop + 10), offset(record + 2))) {
+            at_hand.found = 1;
+            return at_hand;
+        }
+        at_hand.read++;
+    }
+    return (struct collision){0, 0, 0};
 }

@@ -19,6 +19,12 @@ struct sizes {
     uint64_t elements, loops, iterations;
 };
 
+/* The lowest loop of which two iterations meet, and the lowest of its reads that meets the destination in another iteration. */
+struct collision {
+    int found;
+    uint64_t loop, read;
+};
+
 /* A number of 1, 2 or 4 bytes. Past the input's end the numbers follow from what was there, so that short inputs make whole tables. */
 uint32_t take(struct cursor *bytes, int count);
 uint64_t mixed(uint64_t number);
@@ -30,5 +36,8 @@ size_t make_table(struct cursor *bytes, uint8_t *out);
 size_t any_table(struct cursor *bytes, uint8_t *out);
 
 struct sizes sizes_of(const uint8_t *table, size_t length);
+
+/* Of a table that meets none of the grounds 1 to 8. Bytes that are no records end the search, which has then found nothing. */
+struct collision first_collision(const uint8_t *table, size_t length);
 
 #endif

@@ -4,7 +4,7 @@
  * call ends. Whatever the bytes and numbers are, a call either does its work or is refused with one number.
  *
  * What holds of every function:
- * - `answer` is written by every call, all three numbers. See the table of grounds below.
+ * - `answer` is written by every call, all four numbers. See the table of grounds below.
  * - A refused call leaves everything else that it was lent as found: output, memory, counts and report.
  * - An accepted call leaves the bytes of `out` past those that it wrote as found. Tables and orders are only read.
  * - The result of a function with an output is the count of bytes written, 0 where it is refused.
@@ -23,30 +23,35 @@
 extern "C" {
 #endif
 
-/* The grounds of refusal, answer[0]. An accepted call answers 0, 0, 0.
+/* The grounds of refusal. An answer is four numbers: answer[0] the ground's number, answer[1] its place, answer[2] and answer[3] what the
+ * refusal names. An accepted call answers 0, 0, 0, 0.
  *
- *  number  word        ground                                                                        place, answer[1]
- *    1     torn        the bytes end inside a record or before the end record                        byte
- *    2     kind        a kind is unknown or out of its order, or no array or loop before the end     byte
- *    3     field       a field is outside its range, or first is above last                          byte
- *    4     crowd       one array, loop, item or element too many                                     byte; 0 in joining
- *    5     array       there is no array of that number                                              byte
- *    6     body        too few waiting numbers, a ninth, or not one left                             byte
- *    7     edge        some iteration reaches outside the array                                      byte
- *    8     tail        bytes follow the end record                                                   byte
- *    9     serial      two different iterations of one loop meet at an element, one storing          loop
- *   10     processors  P is outside 1 to 64, or a processor's number is not below P                  0
- *   11     short       fewer indices than processors, or P >= 2 and some block below the threshold   0
- *   12     memory      the memory's length is not the table's element total                          0
- *   13     buffer      the output does not fit the lent bytes                                        0
- *   14     unlike      the joined tables differ in arrays                                            0
+ *  number  word        ground                                                                        place    names
+ *    1     torn        the bytes end inside a record or before the end record                        byte     0, 0
+ *    2     kind        a kind is unknown or out of its order, or no array or loop before the end     byte     0, 0
+ *    3     field       a field is outside its range, or first is above last                          byte     0, 0
+ *    4     crowd       one array, loop, item or element too many                                     byte(*)  0, 0
+ *    5     array       there is no array of that number                                              byte     0, 0
+ *    6     body        too few waiting numbers, a ninth, or not one left                             byte     0, 0
+ *    7     edge        some iteration reaches outside the array                                      byte     0, 0
+ *    8     tail        bytes follow the end record                                                   byte     0, 0
+ *    9     serial      two different iterations of one loop meet at an element, one storing          loop     read, 0
+ *   10     processors  P is outside 1 to 64, or a processor's number is not below P                  0        0, 0
+ *   11     short       fewer indices than processors, or P >= 2 and some block below the threshold   0        0, 0
+ *   12     memory      the memory's length is not the table's element total                          0        0, 0
+ *   13     buffer      the output does not fit the lent bytes                                        0        0, 0
+ *   14     unlike      the joined tables differ in arrays                                            0        0, 0
  *   15     state       a count above its lists, a peeled step before the barrier, or a count above 0
- *                      for a processor not below P                                                   0
+ *                      for a processor not below P                                                   0        0, 0
  *
  * 'byte' is the place of the record's kind byte, counted from 0 (the table's length if that byte is absent); for 8 it is the first
- * byte too many. answer[2] is 0 but for 9: there it is a read of that loop, numbered from 0 among the loop's reads in byte order,
- * that meets the destination in another iteration. Where several grounds hold, the first byte decides, then the order
- * 8, 9, 10, 11, 12, 15, 13; in joining 8, 9 (left's before right's), 14, 4, 13. */
+ * byte too many. (*) In joining, 4 for more than 16 loops in all has place 0.
+ * 'loop' is the lowest loop of which two iterations meet, and 'read' is the lowest of its reads that meets the destination in another
+ * iteration, numbered from 0 among that loop's reads in byte order. So the answer to a table is always the same. Once a loop may have
+ * several statements, 9 will name a pair of references in answer[2] and answer[3]; a loop with one statement will then have its
+ * destination, 0, and this read's number and one.
+ * Where several grounds hold, the first byte decides, then the order 8, 9, 10, 11, 12, 15, 13; in joining 8, 9 (left's before right's),
+ * 14, 4, 13. */
 enum vempaldi_ground {
     VEMPALDI_ACCEPTED = 0,
     VEMPALDI_TORN = 1,
@@ -84,56 +89,56 @@ enum vempaldi_report {
 
 /* Whether a table is accepted.
  * Writes the answer alone. Refuses with 1 to 9. */
-void vempaldi_check(const uint8_t *table, size_t table_length, uint64_t answer[3]);
+void vempaldi_check(const uint8_t *table, size_t table_length, uint64_t answer[4]);
 
 /* Joins two tables over the same arrays.
  * Writes left's arrays, left's loops, right's loops and one end record.
  * Refuses with 1 to 9 of the left table, 1 to 9 of the right one, 14, 4 (more than 16 loops in all, place 0), 13. A place counts in
  * the table that meets the ground; the answer does not say which of the two that is (ask vempaldi_check). */
 uint64_t vempaldi_join(const uint8_t *left, size_t left_length, const uint8_t *right, size_t right_length,
-                       uint8_t *out, size_t out_length, uint64_t answer[3]);
+                       uint8_t *out, size_t out_length, uint64_t answer[4]);
 
 /* Shift and peel of each loop.
  * Writes for each loop, in table order, its shift and its peel: 8 bytes a loop. Refuses with 1 to 9, 13. */
 uint64_t vempaldi_shifts_and_peels(const uint8_t *table, size_t table_length,
-                                   uint8_t *out, size_t out_length, uint64_t answer[3]);
+                                   uint8_t *out, size_t out_length, uint64_t answer[4]);
 
 /* The largest sum of shift and peel of one loop: with two processors or more, no block may have fewer indices.
  * Writes one number, 4 bytes. Refuses with 1 to 9, 13. */
-uint64_t vempaldi_threshold(const uint8_t *table, size_t table_length, uint8_t *out, size_t out_length, uint64_t answer[3]);
+uint64_t vempaldi_threshold(const uint8_t *table, size_t table_length, uint8_t *out, size_t out_length, uint64_t answer[4]);
 
 /* Sweeps over the arrays: loop by loop, and with all loops made into one.
  * Writes two numbers, before and after fusion, 8 bytes. Refuses with 1 to 9, 13. */
-uint64_t vempaldi_sweeps(const uint8_t *table, size_t table_length, uint8_t *out, size_t out_length, uint64_t answer[3]);
+uint64_t vempaldi_sweeps(const uint8_t *table, size_t table_length, uint8_t *out, size_t out_length, uint64_t answer[4]);
 
 /* The blocks of a plan for `processors` processors.
  * Writes for each block its first and its last index: 8 bytes a block. Refuses with 1 to 9, 10, 11, 13. */
 uint64_t vempaldi_blocks(const uint8_t *table, size_t table_length, uint32_t processors,
-                         uint8_t *out, size_t out_length, uint64_t answer[3]);
+                         uint8_t *out, size_t out_length, uint64_t answer[4]);
 
 /* What one processor runs before the barrier, in its order.
  * Writes for each iteration its loop and its index: 8 bytes an iteration. A list has at most (count of loops) times (indices of the
  * processor's block) iterations. Refuses with 1 to 9, 10 (of `processors`, then of `processor`), 11, 13. */
 uint64_t vempaldi_fused_list(const uint8_t *table, size_t table_length, uint32_t processors, uint32_t processor,
-                             uint8_t *out, size_t out_length, uint64_t answer[3]);
+                             uint8_t *out, size_t out_length, uint64_t answer[4]);
 
 /* What one processor runs past the barrier, in its order.
  * Writes for each iteration its loop and its index: 8 bytes an iteration. A list has at most (count of loops) times (threshold)
  * iterations, and the last processor's has none. Refuses with 1 to 9, 10 (of `processors`, then of `processor`), 11, 13. */
 uint64_t vempaldi_peeled_list(const uint8_t *table, size_t table_length, uint32_t processors, uint32_t processor,
-                              uint8_t *out, size_t out_length, uint64_t answer[3]);
+                              uint8_t *out, size_t out_length, uint64_t answer[4]);
 
 /* The plan as text: lines `loop` k shift peel, `block` b first last, `fused` b k from to, `peeled` b k from to, `sweeps` before after;
  * or the one line `refused` number place (for 9 the loop).
  * Writes the text, each line with its line feed and no zero byte behind. Refuses with 13 alone: 1 to 11 are the text's to say, and
  * the answer is 0, 0, 0 then. */
 uint64_t vempaldi_listing(const uint8_t *table, size_t table_length, uint32_t processors,
-                          uint8_t *out, size_t out_length, uint64_t answer[3]);
+                          uint8_t *out, size_t out_length, uint64_t answer[4]);
 
 /* The loops in table order, each from first to last, with no plan.
  * Writes the memory: binary64 numbers, the arrays in order without gaps; `memory_length` counts numbers. A result that is not a
  * number is stored as 7FF8000000000000. Refuses with 1 to 9, 12. */
-void vempaldi_plain_run(const uint8_t *table, size_t table_length, double *memory, size_t memory_length, uint64_t answer[3]);
+void vempaldi_plain_run(const uint8_t *table, size_t table_length, double *memory, size_t memory_length, uint64_t answer[4]);
 
 /* One step of one processor. The first step of a row gets 64 counts of 0; each later one the counts and the memory as the step before
  * left them. Once every iteration has been reported, in whatever order the processors were named, the memory is bit for bit what
@@ -142,14 +147,14 @@ void vempaldi_plain_run(const uint8_t *table, size_t table_length, double *memor
  * report alone: its kind, 0, 0. Refuses with 1 to 9, 10 (of `processors`, then of `processor`), 11, 12, 15.
  * Two threads must not step the same memory at the same time. */
 void vempaldi_step(const uint8_t *table, size_t table_length, uint32_t processors, uint32_t processor,
-                   uint32_t counts[64], double *memory, size_t memory_length, uint32_t report[3], uint64_t answer[3]);
+                   uint32_t counts[64], double *memory, size_t memory_length, uint32_t report[3], uint64_t answer[4]);
 
 /* A whole run: one step for each byte of `order`, which names a processor; then the lowest-numbered processor that can step does,
  * until all are finished.
  * Writes the memory. The result is the idle count: how many bytes named a processor that waited or was finished, or a number not
  * below `processors`; 0 where refused. Refuses with 1 to 9, 10, 11, 12. */
 uint64_t vempaldi_run(const uint8_t *table, size_t table_length, uint32_t processors, const uint8_t *order, size_t order_length,
-                      double *memory, size_t memory_length, uint64_t answer[3]);
+                      double *memory, size_t memory_length, uint64_t answer[4]);
 
 #ifdef __cplusplus
 }

@@ -1,6 +1,7 @@
 #!/usr/bin/env bash
 # Compiles and runs the examples of docs/REFUSALS.md that are in C, those of 13 and 15, as they are printed there, on the paper's
-# example. A comment in each says 'answer is N, PLACE, READ': the call must answer that, and N must be the section's own number.
+# example. A comment in each says 'answer is' and four numbers: the call must answer these, and the first of them must be the
+# section's own number.
 set -eu
 cd "$(dirname "$0")/.."
 library=${VEMPALDI_LIB:-build}
@@ -24,7 +25,7 @@ int main(void) {
     static uint8_t table[VEMPALDI_TABLE_BYTES], out[VEMPALDI_LISTING_BYTES];
     static double memory[36];
     uint32_t report[3] = {0, 0, 0};
-    uint64_t answer[3] = {UINT64_MAX, UINT64_MAX, UINT64_MAX};
+    uint64_t answer[4] = {UINT64_MAX, UINT64_MAX, UINT64_MAX, UINT64_MAX};
     (void)out, (void)memory, (void)report;
     FILE *file = fopen("examples/example.table", "rb");
     if (!file) return 2;
@@ -33,7 +34,7 @@ int main(void) {
 C
     printf '%s\n' "$1"
     cat <<'C'
-    printf("%" PRIu64 ", %" PRIu64 ", %" PRIu64 "\n", answer[0], answer[1], answer[2]);
+    for (int i = 0; i < 4; i++) printf("%" PRIu64 "%s", answer[i], i < 3 ? ", " : "\n");
     return 0;
 }
 C
@@ -46,7 +47,7 @@ wrong() {
 
 for number in 13 15; do
     lines=$(printed "$number")
-    says=$(printf '%s\n' "$lines" | sed -nE 's/.*answer is ([0-9]+, [0-9]+, [0-9]+) \*\/.*/\1/p')
+    says=$(printf '%s\n' "$lines" | sed -nE 's/.*answer is ([0-9]+(, [0-9]+){3}) \*\/.*/\1/p')
     case $says in
     "$number, "*) ;;
     *) wrong "$number" "its lines in C must say 'answer is $number, ..' and say '$says'" ;;

@@ -1,7 +1,12 @@
 ! Vempaldi for Fortran: each procedure calls the C function of the same name (include/vempaldi.h says what it writes and refuses).
 !
 ! A table is an array of integer(c_int8_t), a memory one of real(c_double), the arrays of the table in order without gaps. Loops,
-! indices, processors and blocks are numbered from 0, as in the table. The answer holds number, place and read: number 0 is accepted.
+! indices, processors and blocks are numbered from 0, as in the table.
+!
+! An answer is four numbers. answer(1) is the ground's number, 0 where the call was accepted; answer(2) its place, a byte or a loop
+! counted from 0; answer(3) and answer(4) are what the refusal names: for 9 the lowest read of that loop that meets the destination in
+! another iteration, counted from 0 among the loop's reads, and 0. For every other ground, and where accepted, both are 0.
+!
 ! Numbers that C takes as unsigned are given here as integer(c_int32_t); none that a caller needs is above 1048576.
 module vempaldi
   use, intrinsic :: iso_c_binding
@@ -23,14 +28,14 @@ module vempaldi
       import :: c_int8_t, c_size_t, c_int64_t
       integer(c_int8_t), intent(in) :: table(*)
       integer(c_size_t), value :: n
-      integer(c_int64_t), intent(out) :: answer(3)
+      integer(c_int64_t), intent(out) :: answer(4)
     end subroutine
     function c_join(left, n, right, m, out, room, answer) result(written) bind(c, name='vempaldi_join')
       import :: c_int8_t, c_size_t, c_int64_t
       integer(c_int8_t), intent(in) :: left(*), right(*)
       integer(c_int8_t), intent(inout) :: out(*)
       integer(c_size_t), value :: n, m, room
-      integer(c_int64_t), intent(out) :: answer(3)
+      integer(c_int64_t), intent(out) :: answer(4)
       integer(c_int64_t) :: written
     end function
     function c_shifts_and_peels(table, n, out, room, answer) result(written) bind(c, name='vempaldi_shifts_and_peels')
@@ -38,7 +43,7 @@ module vempaldi
       integer(c_int8_t), intent(in) :: table(*)
       integer(c_int8_t), intent(inout) :: out(*)
       integer(c_size_t), value :: n, room
-      integer(c_int64_t), intent(out) :: answer(3)
+      integer(c_int64_t), intent(out) :: answer(4)
       integer(c_int64_t) :: written
     end function
     function c_threshold(table, n, out, room, answer) result(written) bind(c, name='vempaldi_threshold')
@@ -46,7 +51,7 @@ module vempaldi
       integer(c_int8_t), intent(in) :: table(*)
       integer(c_int8_t), intent(inout) :: out(*)
       integer(c_size_t), value :: n, room
-      integer(c_int64_t), intent(out) :: answer(3)
+      integer(c_int64_t), intent(out) :: answer(4)
       integer(c_int64_t) :: written
     end function
     function c_sweeps(table, n, out, room, answer) result(written) bind(c, name='vempaldi_sweeps')
@@ -54,7 +59,7 @@ module vempaldi
       integer(c_int8_t), intent(in) :: table(*)
       integer(c_int8_t), intent(inout) :: out(*)
       integer(c_size_t), value :: n, room
-      integer(c_int64_t), intent(out) :: answer(3)
+      integer(c_int64_t), intent(out) :: answer(4)
       integer(c_int64_t) :: written
     end function
     function c_blocks(table, n, processors, out, room, answer) result(written) bind(c, name='vempaldi_blocks')
@@ -63,7 +68,7 @@ module vempaldi
       integer(c_int8_t), intent(inout) :: out(*)
       integer(c_int32_t), value :: processors
       integer(c_size_t), value :: n, room
-      integer(c_int64_t), intent(out) :: answer(3)
+      integer(c_int64_t), intent(out) :: answer(4)
       integer(c_int64_t) :: written
     end function
     function c_listing(table, n, processors, out, room, answer) result(written) bind(c, name='vempaldi_listing')
@@ -72,7 +77,7 @@ module vempaldi
       integer(c_int8_t), intent(inout) :: out(*)
       integer(c_int32_t), value :: processors
       integer(c_size_t), value :: n, room
-      integer(c_int64_t), intent(out) :: answer(3)
+      integer(c_int64_t), intent(out) :: answer(4)
       integer(c_int64_t) :: written
     end function
     function c_fused_list(table, n, processors, processor, out, room, answer) result(written) &
@@ -82,7 +87,7 @@ module vempaldi
       integer(c_int8_t), intent(inout) :: out(*)
       integer(c_int32_t), value :: processors, processor
       integer(c_size_t), value :: n, room
-      integer(c_int64_t), intent(out) :: answer(3)
+      integer(c_int64_t), intent(out) :: answer(4)
       integer(c_int64_t) :: written
     end function
     function c_peeled_list(table, n, processors, processor, out, room, answer) result(written) &
@@ -92,7 +97,7 @@ module vempaldi
       integer(c_int8_t), intent(inout) :: out(*)
       integer(c_int32_t), value :: processors, processor
       integer(c_size_t), value :: n, room
-      integer(c_int64_t), intent(out) :: answer(3)
+      integer(c_int64_t), intent(out) :: answer(4)
       integer(c_int64_t) :: written
     end function
     subroutine c_plain_run(table, n, memory, numbers, answer) bind(c, name='vempaldi_plain_run')
@@ -100,7 +105,7 @@ module vempaldi
       integer(c_int8_t), intent(in) :: table(*)
       real(c_double), intent(inout) :: memory(*)
       integer(c_size_t), value :: n, numbers
-      integer(c_int64_t), intent(out) :: answer(3)
+      integer(c_int64_t), intent(out) :: answer(4)
     end subroutine
     subroutine c_step(table, n, processors, processor, counts, memory, numbers, report, answer) bind(c, name='vempaldi_step')
       import :: c_int8_t, c_int32_t, c_double, c_size_t, c_int64_t
@@ -109,7 +114,7 @@ module vempaldi
       integer(c_int32_t), intent(inout) :: counts(64), report(3)
       real(c_double), intent(inout) :: memory(*)
       integer(c_size_t), value :: n, numbers
-      integer(c_int64_t), intent(out) :: answer(3)
+      integer(c_int64_t), intent(out) :: answer(4)
     end subroutine
     function c_run(table, n, processors, order, m, memory, numbers, answer) result(idle) bind(c, name='vempaldi_run')
       import :: c_int8_t, c_int32_t, c_double, c_size_t, c_int64_t
@@ -117,7 +122,7 @@ module vempaldi
       integer(c_int32_t), value :: processors
       real(c_double), intent(inout) :: memory(*)
       integer(c_size_t), value :: n, m, numbers
-      integer(c_int64_t), intent(out) :: answer(3)
+      integer(c_int64_t), intent(out) :: answer(4)
       integer(c_int64_t) :: idle
     end function
   end interface
@@ -134,7 +139,7 @@ contains
 
   subroutine vempaldi_check(table, answer)
     integer(c_int8_t), contiguous, intent(in) :: table(:)
-    integer(c_int64_t), intent(out) :: answer(3)
+    integer(c_int64_t), intent(out) :: answer(4)
     call c_check(table, size(table, kind=c_size_t), answer)
   end subroutine
 
@@ -142,7 +147,7 @@ contains
   subroutine vempaldi_join(left, right, joined, answer)
     integer(c_int8_t), contiguous, intent(in) :: left(:), right(:)
     integer(c_int8_t), allocatable, intent(out) :: joined(:)
-    integer(c_int64_t), intent(out) :: answer(3)
+    integer(c_int64_t), intent(out) :: answer(4)
     integer(c_int8_t) :: out(vempaldi_table_bytes)
     integer(c_int64_t) :: written
     out = 0
@@ -154,7 +159,7 @@ contains
   subroutine vempaldi_shifts_and_peels(table, amounts, answer)
     integer(c_int8_t), contiguous, intent(in) :: table(:)
     integer(c_int32_t), allocatable, intent(out) :: amounts(:, :)
-    integer(c_int64_t), intent(out) :: answer(3)
+    integer(c_int64_t), intent(out) :: answer(4)
     integer(c_int8_t) :: out(128)
     integer(c_int64_t) :: written
     out = 0
@@ -165,7 +170,7 @@ contains
   subroutine vempaldi_threshold(table, threshold, answer)
     integer(c_int8_t), contiguous, intent(in) :: table(:)
     integer(c_int32_t), intent(inout) :: threshold
-    integer(c_int64_t), intent(out) :: answer(3)
+    integer(c_int64_t), intent(out) :: answer(4)
     integer(c_int8_t) :: out(4)
     out = 0
     if (c_threshold(table, size(table, kind=c_size_t), out, 4_c_size_t, answer) > 0) threshold = number(out)
@@ -174,7 +179,7 @@ contains
   subroutine vempaldi_sweeps(table, before, after, answer)
     integer(c_int8_t), contiguous, intent(in) :: table(:)
     integer(c_int32_t), intent(inout) :: before, after
-    integer(c_int64_t), intent(out) :: answer(3)
+    integer(c_int64_t), intent(out) :: answer(4)
     integer(c_int8_t) :: out(8)
     out = 0
     if (c_sweeps(table, size(table, kind=c_size_t), out, 8_c_size_t, answer) == 0) return
@@ -187,7 +192,7 @@ contains
     integer(c_int8_t), contiguous, intent(in) :: table(:)
     integer(c_int32_t), intent(in) :: processors
     integer(c_int32_t), allocatable, intent(out) :: blocks(:, :)
-    integer(c_int64_t), intent(out) :: answer(3)
+    integer(c_int64_t), intent(out) :: answer(4)
     integer(c_int8_t) :: out(512)
     integer(c_int64_t) :: written
     out = 0
@@ -200,7 +205,7 @@ contains
     integer(c_int8_t), contiguous, intent(in) :: table(:)
     integer(c_int32_t), intent(in) :: processors, processor
     integer(c_int32_t), allocatable, intent(out) :: list(:, :)
-    integer(c_int64_t), intent(out) :: answer(3)
+    integer(c_int64_t), intent(out) :: answer(4)
     integer(c_int32_t), allocatable :: amounts(:, :), blocks(:, :)
     integer(c_int8_t), allocatable :: out(:)
     integer(c_size_t) :: room
@@ -221,7 +226,7 @@ contains
     integer(c_int8_t), contiguous, intent(in) :: table(:)
     integer(c_int32_t), intent(in) :: processors, processor
     integer(c_int32_t), allocatable, intent(out) :: list(:, :)
-    integer(c_int64_t), intent(out) :: answer(3)
+    integer(c_int64_t), intent(out) :: answer(4)
     integer(c_int32_t), allocatable :: amounts(:, :)
     integer(c_int32_t) :: threshold
     integer(c_int8_t), allocatable :: out(:)
@@ -242,7 +247,7 @@ contains
     integer(c_int8_t), contiguous, intent(in) :: table(:)
     integer(c_int32_t), intent(in) :: processors
     character(:), allocatable, intent(out) :: text
-    integer(c_int64_t), intent(out) :: answer(3)
+    integer(c_int64_t), intent(out) :: answer(4)
     integer(c_int8_t), allocatable :: out(:)
     integer(c_int64_t) :: written, at
     allocate (out(vempaldi_listing_bytes), source=0_c_int8_t)
@@ -256,7 +261,7 @@ contains
   subroutine vempaldi_plain_run(table, memory, answer)
     integer(c_int8_t), contiguous, intent(in) :: table(:)
     real(c_double), contiguous, intent(inout) :: memory(:)
-    integer(c_int64_t), intent(out) :: answer(3)
+    integer(c_int64_t), intent(out) :: answer(4)
     call c_plain_run(table, size(table, kind=c_size_t), memory, size(memory, kind=c_size_t), answer)
   end subroutine
 
@@ -266,7 +271,7 @@ contains
     integer(c_int32_t), intent(in) :: processors, processor
     integer(c_int32_t), intent(inout) :: counts(64), report(3)
     real(c_double), contiguous, intent(inout) :: memory(:)
-    integer(c_int64_t), intent(out) :: answer(3)
+    integer(c_int64_t), intent(out) :: answer(4)
     call c_step(table, size(table, kind=c_size_t), processors, processor, counts, memory, size(memory, kind=c_size_t), &
       report, answer)
   end subroutine
@@ -275,7 +280,7 @@ contains
     integer(c_int8_t), contiguous, intent(in) :: table(:), order(:)
     integer(c_int32_t), intent(in) :: processors
     real(c_double), contiguous, intent(inout) :: memory(:)
-    integer(c_int64_t), intent(out) :: idle, answer(3)
+    integer(c_int64_t), intent(out) :: idle, answer(4)
     idle = c_run(table, size(table, kind=c_size_t), processors, order, size(order, kind=c_size_t), memory, &
       size(memory, kind=c_size_t), answer)
   end subroutine

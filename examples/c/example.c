@@ -17,9 +17,11 @@ static uint32_t number(const uint8_t *at) {
     return at[0] | (uint32_t)at[1] << 8 | (uint32_t)at[2] << 16 | (uint32_t)at[3] << 24;
 }
 
-static void stop_if_refused(const char *what, const uint64_t answer[3]) {
+static void stop_if_refused(const char *what, const uint64_t answer[4]) {
     if (answer[0] == VEMPALDI_ACCEPTED) return;
-    fprintf(stderr, "%s: refused %" PRIu64 ", place %" PRIu64 "\n", what, answer[0], answer[1]);
+    fprintf(stderr, "%s: refused %" PRIu64 ", place %" PRIu64, what, answer[0], answer[1]);
+    if (answer[0] == VEMPALDI_SERIAL) fprintf(stderr, ", read %" PRIu64, answer[2]);
+    fprintf(stderr, "\n");
     exit(1);
 }
 
@@ -47,7 +49,7 @@ static double *own_index(int arrays, char **lengths, size_t *total) {
 }
 
 static void print_plan(size_t length, uint32_t processors) {
-    uint64_t answer[3];
+    uint64_t answer[4];
     uint64_t written = vempaldi_listing(table, length, processors, text, sizeof text, answer);
     stop_if_refused("listing", answer);
     fwrite(text, 1, written, stdout);
@@ -60,7 +62,7 @@ static void print_plan(size_t length, uint32_t processors) {
 static unsigned long step_all(size_t length, uint32_t processors, double *memory, size_t total) {
     uint32_t counts[64] = {0}, report[3];
     unsigned long performed = 0, before;
-    uint64_t answer[3];
+    uint64_t answer[4];
     do {
         before = performed;
         for (uint32_t b = processors; b-- > 0;) {
@@ -83,7 +85,7 @@ int main(int count, char **word) {
 
     double *plain = own_index(count - 3, word + 3, &total);
     double *stepped = own_index(count - 3, word + 3, &total);
-    uint64_t answer[3];
+    uint64_t answer[4];
     vempaldi_plain_run(table, length, plain, total, answer);
     stop_if_refused("plain run", answer);
     unsigned long performed = step_all(length, processors, stepped, total);

@@ -10,7 +10,7 @@ program example
   integer(c_int32_t), parameter :: processors = 2
   integer(c_int8_t), allocatable :: table(:)
   integer(c_int32_t), allocatable :: blocks(:, :), fused(:, :), peeled(:, :)
-  integer(c_int64_t) :: answer(3)
+  integer(c_int64_t) :: answer(4)
   character(:), allocatable :: text
   integer :: b
 
@@ -50,8 +50,11 @@ contains
   subroutine stop_if_refused(what)
     character(*), intent(in) :: what
     if (answer(1) == 0) return
-    write (error_unit, '(2a,i0,3a,i0)') what, ': refused ', answer(1), ' ', vempaldi_word(answer(1)), ', place ', answer(2)
-    stop 1
+    write (error_unit, '(2a,i0,3a,i0)', advance='no') what, ': refused ', answer(1), ' ', vempaldi_word(answer(1)), &
+      ', place ', answer(2)
+    if (vempaldi_word(answer(1)) == 'serial') write (error_unit, '(a,i0)', advance='no') ', read ', answer(3)
+    write (error_unit, '(a)') ''
+    stop 1, quiet=.true.
   end subroutine
 
   ! Every element is its own index within its array, as in the paper.

@@ -36,7 +36,7 @@ pub fn together(left: Table, right: Table) -> Table {
 #[cfg(test)]
 mod tests {
     use super::*;
-    use crate::examples::{reads_own_array, EXAMPLE};
+    use crate::examples::{loops_reading, reads_own_array, EXAMPLE};
 
     #[test]
     fn the_example_with_itself_keeps_its_arrays_once() {
@@ -49,10 +49,19 @@ mod tests {
     #[test]
     fn the_left_table_is_refused_before_the_right_one() {
         let serial = reads_own_array(9);
-        let refusal = join(&EXAMPLE[..60], &serial, 999).expect_err("refused");
-        assert_eq!((refusal.number, refusal.place), (1, 60));
-        let refusal = join(&serial, &EXAMPLE[..60], 999).expect_err("refused");
-        assert_eq!((refusal.number, refusal.place), (9, 0));
+        assert_eq!(join(&EXAMPLE[..60], &serial, 999), Err(Refusal::new(1, 60)));
+        assert_eq!(join(&serial, &EXAMPLE[..60], 999), Err(Refusal::serial(0, 0)));
+    }
+
+    /// Arrays play no part in this: they are compared after ground 9.
+    #[test]
+    fn the_read_is_named_in_the_table_that_meets_9() {
+        let first = reads_own_array(9);
+        // Loop 1, 10 to 49, stores A1[i] and reads A1[i], A0[i] and A1[i+10].
+        let later = loops_reading(&[&[(2, 0)], &[(1, 0), (0, 0), (1, 10)]]);
+        assert_eq!(join(&EXAMPLE, &later, 999), Err(Refusal::serial(1, 2)));
+        assert_eq!(join(&later, &first, 999), Err(Refusal::serial(1, 2)));
+        assert_eq!(join(&first, &later, 999), Err(Refusal::serial(0, 0)));
     }
 
     #[test]

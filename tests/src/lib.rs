@@ -3,6 +3,7 @@
 
 pub mod blocks;
 pub mod bodies;
+pub mod collisions;
 pub mod damage;
 pub mod dependence;
 pub mod encoder;
@@ -22,6 +23,7 @@ pub mod listing;
 pub mod lists;
 pub mod measure;
 pub mod memories;
+pub mod misnamed;
 pub mod outcome;
 pub mod outputs;
 pub mod planner;

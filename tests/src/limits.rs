@@ -1,14 +1,14 @@
-//! Every limit of a table from both sides. The number and place that each
-//! table gets are typed here from the paper, not computed.
+//! Every limit of a table from both sides. The answer that each table gets is
+//! typed here from the paper, not computed.
 
 use crate::encoder::Encoder;
 use crate::examples::{reads_own_array, EXAMPLE};
+use crate::outcome::Answer;
 
 pub struct Case {
     pub name: &'static str,
     pub bytes: Vec<u8>,
-    pub number: u64,
-    pub place: u64,
+    pub answer: Answer,
 }
 
 pub fn cases() -> Vec<Case> {
@@ -21,6 +21,9 @@ pub fn cases() -> Vec<Case> {
         edges(),
         endings(),
         serial(),
+        named_reads(),
+        reads_between(),
+        several_loops(),
         orders(),
     ]
     .into_iter()
@@ -28,8 +31,14 @@ pub fn cases() -> Vec<Case> {
     .collect()
 }
 
+/// Accepted (number 0), or a ground that names nothing.
 fn case(name: &'static str, encoder: Encoder, number: u64, place: u64) -> Case {
-    Case { name, bytes: encoder.bytes, number, place }
+    Case { name, bytes: encoder.bytes, answer: [number, place, 0, 0] }
+}
+
+/// Ground 9 with its loop and the read of that loop.
+fn names(name: &'static str, encoder: Encoder, place: u64, read: u64) -> Case {
+    Case { name, bytes: encoder.bytes, answer: [9, place, read, 0] }
 }
 
 fn new() -> Encoder {
@@ -219,19 +228,114 @@ fn serial() -> Vec<Case> {
             .operation(1)
             .end()
     };
+    let farthest = |last| new().array(1_021).a_loop(255, last, 0, -255).read(0, 255).end();
     vec![
-        case("distance 9 in ten iterations", own(9), 9, 0),
+        names("distance 9 in ten iterations", own(9), 0, 0),
         case("distance 10 in ten iterations", own(10), 0, 0),
         case("distance 0", own(0), 0, 0),
-        case("distance 1", own(1), 9, 0),
-        case("distance -1", own(-1), 9, 0),
-        case("second loop, distance 9", twice(10), 9, 1),
+        names("distance 1", own(1), 0, 0),
+        names("distance -1", own(-1), 0, 0),
+        names("second loop, distance 9", twice(10), 1, 1),
         case("second loop, distance 10", twice(11), 0, 0),
         case("second loop, distance 0", twice(1), 0, 0),
         case("one iteration", new().array(9).a_loop(4, 4, 0, 0).read(0, 1).end(), 0, 0),
-        case("two iterations", new().array(9).a_loop(4, 5, 0, 0).read(0, 1).end(), 9, 0),
+        names("two iterations", new().array(9).a_loop(4, 5, 0, 0).read(0, 1).end(), 0, 0),
+        names("distance 510 in 511 iterations", farthest(765), 0, 0),
+        case("distance 510 in 510 iterations", farthest(764), 0, 0),
         case("serial and a tail", own(9).raw(&[0]), 8, 22),
         case("serial, its end missing", new().raw(&reads_own_array(9)[..21]), 1, 21),
+    ]
+}
+
+/// A loop from 20 to 29 that stores array 0 at offset 0, over two arrays of
+/// 60; the reads are summed.
+fn summed(encoder: Encoder, reads: &[(u8, i16)]) -> Encoder {
+    let body = encoder.a_loop(20, 29, 0, 0).constant(0);
+    reads.iter().fold(body, |body, &(array, offset)| body.read(array, offset).operation(1))
+}
+
+fn two_arrays() -> Encoder {
+    new().array(60).array(60)
+}
+
+/// Ten iterations: a read of array 0 collides at the distances 1 to 9.
+fn named_reads() -> Vec<Case> {
+    let one = |reads: &[(u8, i16)]| summed(two_arrays(), reads).end();
+    vec![
+        names("all of three reads collide", one(&[(0, 1), (0, 2), (0, 3)]), 0, 0),
+        names("the farther read stands first", one(&[(0, 9), (0, 1)]), 0, 0),
+        names("the nearer read stands first", one(&[(0, 1), (0, 9)]), 0, 0),
+        names("the same read twice", one(&[(1, 1), (0, 1), (0, 1)]), 0, 1),
+        names("own offset, then distance 1", one(&[(0, 0), (0, 1)]), 0, 1),
+        names("distance 10, then 9", one(&[(0, 10), (0, 9)]), 0, 1),
+        names("distance -10, then -9", one(&[(0, -10), (0, -9)]), 0, 1),
+        names(
+            "distances 10, -10, 0, then -1 and 1",
+            one(&[(0, 10), (0, -10), (0, 0), (0, -1), (0, 1)]),
+            0,
+            3,
+        ),
+        names("another array's reads, then distance 1", one(&[(1, 1), (1, -1), (0, 1)]), 0, 2),
+        names(
+            "distance 1, then all that do not collide",
+            one(&[(0, 1), (0, 0), (0, 10), (1, 1)]),
+            0,
+            0,
+        ),
+        names(
+            "a colliding read between others",
+            one(&[(1, 3), (0, 0), (0, -9), (0, 11), (1, 0)]),
+            0,
+            2,
+        ),
+        case("none collides", one(&[(0, 0), (0, 10), (0, -10), (1, 1), (1, 9)]), 0, 0),
+    ]
+}
+
+/// Constants and operations have no number among the reads. A body of 32
+/// items has at most 16 reads.
+fn reads_between() -> Vec<Case> {
+    let open = || two_arrays().a_loop(20, 29, 0, 0);
+    let last = |count, offset| {
+        let body = open().read(1, 1).repeat(count, |e| e.read(1, 1).operation(1));
+        body.read(0, offset).operation(1).end()
+    };
+    vec![
+        names(
+            "behind constants",
+            open().constant(3).constant(4).operation(3).read(0, 1).operation(2).end(),
+            0,
+            0,
+        ),
+        names(
+            "behind operations",
+            open().read(1, 1).operation(5).operation(5).read(0, 1).operation(4).end(),
+            0,
+            1,
+        ),
+        names("negated", open().read(0, 1).operation(5).operation(5).end(), 0, 0),
+        names("the sixteenth read", last(14, 1), 0, 15),
+        case("the sixteenth read at its own offset", last(14, 0), 0, 0),
+    ]
+}
+
+/// The lowest serial loop decides, and reads are counted in that loop alone.
+fn several_loops() -> Vec<Case> {
+    let both =
+        |one: &[(u8, i16)], other: &[(u8, i16)]| summed(summed(two_arrays(), one), other).end();
+    let (none, late, early) = ([(1, 1), (0, 0)], [(1, 2), (0, 10), (0, 1)], [(0, 1)]);
+    vec![
+        names("the first loop alone is serial", both(&late, &none), 0, 2),
+        names("the second loop alone is serial", both(&none, &late), 1, 2),
+        names("both are, the second by a lower read", both(&late, &early), 0, 2),
+        names("both are, the second by a higher read", both(&early, &late), 0, 0),
+        names(
+            "a read in the first loop, then read 1 of the second",
+            both(&[(1, 1)], &[(0, 0), (0, 1)]),
+            1,
+            1,
+        ),
+        case("the second loop reads what the first stores", both(&none, &[(1, 0), (0, 0)]), 0, 0),
     ]
 }
 

@@ -1,39 +1,45 @@
 //! Refusals, and how an answer of the library is compared with one.
 
-/// The three numbers that the library writes: the ground (0 where accepted),
-/// the place, and for ground 9 the named read.
-pub type Answer = [u64; 3];
+/// The four numbers that the library writes: the ground (0 where accepted),
+/// the place, and the two that the refusal names.
+pub type Answer = [u64; 4];
 
-pub const ACCEPTED: Answer = [0, 0, 0];
+pub const ACCEPTED: Answer = [0; 4];
 
-#[derive(Clone, Debug, PartialEq, Eq)]
+const SERIAL: u64 = 9;
+
+#[derive(Clone, Copy, Debug, PartialEq, Eq)]
 pub struct Refusal {
     pub number: u64,
     pub place: u64,
-    /// For ground 9 every read that may be named; empty for the others.
-    pub reads: Vec<u64>,
+    /// For ground 9 a read of the loop and 0; for the others 0 and 0.
+    pub named: [u64; 2],
 }
 
 impl Refusal {
+    /// A ground that names nothing.
     pub fn new(number: u64, place: usize) -> Refusal {
-        Refusal { number, place: place as u64, reads: Vec::new() }
+        Refusal { number, place: place as u64, named: [0, 0] }
     }
 
     /// A ground that always carries place 0.
     pub fn whole(number: u64) -> Refusal {
         Refusal::new(number, 0)
     }
+
+    /// Ground 9, with its loop and the read of that loop.
+    pub fn serial(place: usize, read: usize) -> Refusal {
+        Refusal { named: [read as u64, 0], ..Refusal::new(SERIAL, place) }
+    }
+
+    pub fn answer(&self) -> Answer {
+        [self.number, self.place, self.named[0], self.named[1]]
+    }
 }
 
-/// Whether the answer says what the paper says. The read that ground 9 names
-/// is free among those that collide; everything else is fixed.
+/// Whether the answer says what the paper says, in all four numbers.
 pub fn agrees(answer: &Answer, refusal: Option<&Refusal>) -> bool {
-    let Some(refusal) = refusal else {
-        return *answer == ACCEPTED;
-    };
-    let named =
-        if refusal.number == 9 { refusal.reads.contains(&answer[2]) } else { answer[2] == 0 };
-    answer[0] == refusal.number && answer[1] == refusal.place && named
+    *answer == refusal.map_or(ACCEPTED, Refusal::answer)
 }
 
 /// The bytes as hexadecimal digits, for the report of a disagreement.

@@ -15,7 +15,6 @@ const ARRAY: Ground = 5;
 const BODY: Ground = 6;
 const EDGE: Ground = 7;
 const TAIL: Ground = 8;
-const SERIAL: Ground = 9;
 
 /// The table, or the first ground that it meets.
 pub fn read(bytes: &[u8]) -> Result<Table, Refusal> {
@@ -210,35 +209,33 @@ fn number(bytes: &[u8]) -> u32 {
     u32::from_le_bytes([bytes[0], bytes[1], bytes[2], bytes[3]])
 }
 
-/// The lowest loop in which two different iterations meet at an element that
-/// one of them stores, with every read that takes part.
+/// Ground 9: the lowest loop in which two different iterations meet at an
+/// element that one of them stores, and the lowest of its reads that takes
+/// part. Reads alone are counted, in byte order; the destination is none.
 fn serial(table: &Table) -> Option<Refusal> {
     table.loops.iter().enumerate().find_map(|(place, one)| {
-        let reads = colliding_reads(one);
-        (!reads.is_empty()).then_some(Refusal { number: SERIAL, place: place as u64, reads })
+        let read = one.reads().position(|read| collides(one, read))?;
+        Some(Refusal::serial(place, read))
     })
 }
 
 /// A read of the destination array meets the store of another iteration when
 /// the offsets differ by no more than the loop is long.
-fn colliding_reads(one: &Loop) -> Vec<u64> {
+fn collides(one: &Loop, read: Reference) -> bool {
     let store = one.destination;
-    one.reads()
-        .enumerate()
-        .filter(|(_, read)| {
-            let distance = read.offset.abs_diff(store.offset);
-            read.array == store.array && distance > 0 && u32::from(distance) <= one.last - one.first
-        })
-        .map(|(index, _)| index as u64)
-        .collect()
+    let distance = u32::from(read.offset.abs_diff(store.offset));
+    read.array == store.array && distance > 0 && distance <= one.last - one.first
 }
 
 #[cfg(test)]
 mod tests {
     use super::*;
+    use crate::collisions;
     use crate::encoder::encode;
     use crate::examples::{reads_own_array, EXAMPLE};
     use crate::limits;
+    use crate::outcome::ACCEPTED;
+    use crate::random::Random;
 
     fn at(array: u8, offset: i16) -> Reference {
         Reference { array, offset }
@@ -273,8 +270,7 @@ mod tests {
 
     #[test]
     fn a_distance_of_9_in_ten_iterations_is_serial() {
-        let refusal = read(&reads_own_array(9)).expect_err("refused");
-        assert_eq!((refusal.number, refusal.place, refusal.reads), (9, 0, vec![0]));
+        assert_eq!(read(&reads_own_array(9)), Err(Refusal::serial(0, 0)));
     }
 
     #[test]
@@ -285,9 +281,35 @@ mod tests {
     #[test]
     fn every_limit_has_its_typed_answer() {
         for case in limits::cases() {
-            let found = read(&case.bytes).err();
-            let found = found.map_or((0, 0), |refusal| (refusal.number, refusal.place));
-            assert_eq!(found, (case.number, case.place), "{}", case.name);
+            let refusal = read(&case.bytes).err();
+            let found = refusal.map_or(ACCEPTED, |refusal| refusal.answer());
+            assert_eq!(found, case.answer, "{}", case.name);
         }
+    }
+
+    /// The paper's sentence, pair by pair: some iteration stores the element
+    /// that another one reads, both inside the bounds.
+    fn meets(one: &Loop, read: Reference) -> bool {
+        let store = one.destination;
+        let indices = || i64::from(one.first)..=i64::from(one.last);
+        let element = |index: i64, of: Reference| (of.array, index + i64::from(of.offset));
+        indices().any(|i| indices().any(|j| i != j && element(i, store) == element(j, read)))
+    }
+
+    #[test]
+    fn serial_names_the_first_read_that_meets_another_iteration() {
+        let mut random = Random::new(1);
+        let mut refused = 0;
+        for _ in 0..3_000 {
+            let table = collisions::short_table(&mut random);
+            let wanted = table.loops.iter().enumerate().find_map(|(place, one)| {
+                let reads: Vec<Reference> = one.reads().collect();
+                let lowest = (0..reads.len()).find(|&number| meets(one, reads[number]))?;
+                Some(Refusal::serial(place, lowest))
+            });
+            assert_eq!(read(&encode(&table)).err(), wanted, "{table:?}");
+            refused += u64::from(wanted.is_some());
+        }
+        assert!((1_000..2_500).contains(&refused), "{refused} of 3,000 are serial");
     }
 }

@@ -1,11 +1,13 @@
 //! Compares the library's joining of tables with the second implementation's.
 
+use vempaldi_checks::collisions;
 use vempaldi_checks::damage;
 use vempaldi_checks::encoder::encode;
 use vempaldi_checks::join::{join, together};
 use vempaldi_checks::lent;
 use vempaldi_checks::library;
 use vempaldi_checks::limits;
+use vempaldi_checks::misnamed::Misnamed;
 use vempaldi_checks::outcome::hex;
 use vempaldi_checks::random::Random;
 use vempaldi_checks::reader::read;
@@ -23,6 +25,7 @@ fn main() {
     }
     limit_cases(&mut tally);
     many_loops(&mut tally);
+    colliding(&mut tally);
     tally.print("joining");
     tally.require(&[0, 1, 2, 3, 4, 5, 6, 7, 8, 9, 13, 14], LEAST_OF_EACH);
     assert!(tally.total() >= LEAST_PAIRS, "too few pairs");
@@ -149,4 +152,26 @@ fn many_loops(tally: &mut Tally) {
         back.loops = front.loops.split_off(8);
         every_room(tally, &encode(&front), &encode(&back));
     }
+}
+
+/// Tables in which iterations meet: on the left of another such table, whose
+/// own read must not be named, and on the right of a good one.
+fn colliding(tally: &mut Tally) {
+    let mut random = Random::new(6);
+    let mut misnamed = Misnamed::new();
+    let mut apart = 0;
+    for _ in 0..6_000 {
+        let (left, right) = (collisions::table(&mut random), collisions::table(&mut random));
+        let good = encode(&tables::over(&mut random, &SMALL, &left.arrays));
+        let (one, other) = (encode(&left), encode(&right));
+        every_room(tally, &one, &other);
+        every_room(tally, &good, &one);
+        let (first, second) = (read(&one).err(), read(&other).err());
+        misnamed.add(&left, first.as_ref());
+        apart += u64::from(first.is_some() && second.is_some() && first != second);
+    }
+    misnamed.print("the read of 9, on the left and on the right");
+    println!("  {apart:6} the right table's, where both are refused");
+    misnamed.require(LEAST_OF_EACH);
+    assert!(apart >= LEAST_OF_EACH, "too few pairs that are refused with two answers");
 }

@@ -1,10 +1,12 @@
 //! Compares the library's reading of tables with the second reader's.
 
+use vempaldi_checks::collisions;
 use vempaldi_checks::damage;
 use vempaldi_checks::encoder::encode;
 use vempaldi_checks::library;
 use vempaldi_checks::limits;
-use vempaldi_checks::outcome::{agrees, hex};
+use vempaldi_checks::misnamed::Misnamed;
+use vempaldi_checks::outcome::{agrees, hex, Refusal};
 use vempaldi_checks::random::Random;
 use vempaldi_checks::reader::read;
 use vempaldi_checks::rows;
@@ -17,21 +19,23 @@ const LEAST_OF_EACH: u64 = 500;
 fn main() {
     let mut tally = Tally::new();
     limit_cases(&mut tally);
-    rows::every(4, &mut |bytes| compare(&mut tally, bytes));
+    rows::every(4, &mut |bytes| {
+        compare(&mut tally, bytes);
+    });
     for (seed, shape, count) in [(1, SMALL, 40_000), (2, MIDDLE, 10_000), (3, LARGE, 4_000)] {
         valid(&mut tally, seed, &shape, count);
         damaged(&mut tally, seed + 10, &shape, count / 4);
     }
     cuts(&mut tally);
     without_form(&mut tally);
+    colliding(&mut tally);
     tally.print("reading");
     tally.require(&[1, 2, 3, 4, 5, 6, 7, 8, 9], LEAST_OF_EACH);
     assert!(tally.total() >= LEAST_TABLES, "too few tables");
 }
 
-/// One table: number and place are the same, and for ground 9 the named read
-/// is one of those that collide.
-fn compare(tally: &mut Tally, bytes: &[u8]) {
+/// One table: number, place and what is named are the same.
+fn compare(tally: &mut Tally, bytes: &[u8]) -> Option<Refusal> {
     let expected = read(bytes).err();
     let answer = library::check(bytes);
     if !agrees(&answer, expected.as_ref()) {
@@ -42,17 +46,18 @@ fn compare(tally: &mut Tally, bytes: &[u8]) {
         std::process::exit(1);
     }
     tally.add(answer[0]);
+    expected
 }
 
 /// Every limit from both sides, whole and cut at every byte.
 fn limit_cases(tally: &mut Tally) {
     for case in limits::cases() {
         let answer = library::check(&case.bytes);
-        if answer[..2] != [case.number, case.place] {
+        if answer != case.answer {
             eprintln!("reading: wrong answer at the limit: {}", case.name);
             eprintln!("  table    {}", hex(&case.bytes));
             eprintln!("  library  {answer:?}");
-            eprintln!("  expected {:?}", [case.number, case.place]);
+            eprintln!("  expected {:?}", case.answer);
             std::process::exit(1);
         }
         cut_everywhere(tally, &case.bytes);
@@ -138,4 +143,18 @@ fn without_form(tally: &mut Tally) {
         compare(tally, &damage::random_bytes(&mut random, 5_000));
         compare(tally, &damage::mostly_kinds(&mut random, 5_000));
     }
+}
+
+/// Tables in which iterations meet, and by how many of them each wrong way to
+/// name the read would be seen.
+fn colliding(tally: &mut Tally) {
+    let mut random = Random::new(40);
+    let mut misnamed = Misnamed::new();
+    for _ in 0..40_000 {
+        let table = collisions::table(&mut random);
+        let refusal = compare(tally, &encode(&table));
+        misnamed.add(&table, refusal.as_ref());
+    }
+    misnamed.print("the read of 9");
+    misnamed.require(LEAST_OF_EACH);
 }

@@ -3,6 +3,7 @@
 //!     cargo run --example example -- FILE P
 
 use std::error::Error;
+use std::process::ExitCode;
 use std::{env, fs};
 use vempaldi::{Report, State};
 
@@ -40,7 +41,18 @@ fn step_all(table: &[u8], processors: u32, memory: &mut [f64]) -> Result<usize, 
     }
 }
 
-fn main() -> Result<(), Box<dyn Error>> {
+/// A refusal prints its ground, and where it was met.
+fn main() -> ExitCode {
+    match plan_and_run() {
+        Ok(()) => ExitCode::SUCCESS,
+        Err(error) => {
+            eprintln!("{error}");
+            ExitCode::FAILURE
+        }
+    }
+}
+
+fn plan_and_run() -> Result<(), Box<dyn Error>> {
     let words: Vec<String> = env::args().collect();
     let [_, file, processors] = &words[..] else { return Err("usage: example FILE P".into()) };
     let table = fs::read(file)?;

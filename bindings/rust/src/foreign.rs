@@ -1,6 +1,7 @@
 //! The exported functions as include/vempaldi.h declares them.
 
-pub type Answer = [u64; 3];
+/// Number, place, and the two numbers that a refusal names.
+pub type Answer = [u64; 4];
 
 /// Bytes in, bytes out.
 pub type OfTable = unsafe extern "C" fn(*const u8, usize, *mut u8, usize, *mut Answer) -> u64;

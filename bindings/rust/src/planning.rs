@@ -35,7 +35,7 @@ pub struct Sweeps {
 
 /// Whether a table is accepted.
 pub fn check(table: &[u8]) -> Result<(), Refusal> {
-    let mut answer = [0; 3];
+    let mut answer = [0; 4];
     // SAFETY: the pointer and length are those of a live slice, and the answer is lent for this call alone.
     unsafe { vempaldi_check(table.as_ptr(), table.len(), &mut answer) };
     Refusal::of_answer(&answer)
@@ -51,7 +51,7 @@ pub fn join(left: &[u8], right: &[u8]) -> Result<Vec<u8>, Refusal> {
 
 /// The same into lent bytes; the result is how many were written.
 pub fn join_into(left: &[u8], right: &[u8], out: &mut [u8]) -> Result<usize, Refusal> {
-    let mut answer = [0; 3];
+    let mut answer = [0; 4];
     let (lent, room) = (out.as_mut_ptr(), out.len());
     // SAFETY: every pointer and length is that of a live slice, and the lent ones are borrowed apart from each other.
     let written = unsafe { vempaldi_join(left.as_ptr(), left.len(), right.as_ptr(), right.len(), lent, room, &mut answer) };
@@ -100,7 +100,7 @@ pub fn peeled_list(table: &[u8], processors: u32, processor: u32) -> Result<Vec<
 }
 
 fn of_table(entry: OfTable, table: &[u8], room: usize) -> Result<Vec<u32>, Refusal> {
-    let mut answer = [0; 3];
+    let mut answer = [0; 4];
     let mut out = vec![0; room];
     // SAFETY: every pointer and length is that of a live slice, and the lent ones are borrowed apart from each other.
     let written = unsafe { entry(table.as_ptr(), table.len(), out.as_mut_ptr(), room, &mut answer) };
@@ -108,7 +108,7 @@ fn of_table(entry: OfTable, table: &[u8], room: usize) -> Result<Vec<u32>, Refus
 }
 
 fn of_plan(entry: OfPlan, table: &[u8], processors: u32, room: usize) -> Result<Vec<u8>, Refusal> {
-    let mut answer = [0; 3];
+    let mut answer = [0; 4];
     let mut out = vec![0; room];
     // SAFETY: as in `of_table`.
     let written = unsafe { entry(table.as_ptr(), table.len(), processors, out.as_mut_ptr(), room, &mut answer) };
@@ -118,7 +118,7 @@ fn of_plan(entry: OfPlan, table: &[u8], processors: u32, room: usize) -> Result<
 
 /// A list has at most `indices` iterations of each loop, so a buffer of that size is never too short.
 fn of_processor(entry: OfProcessor, table: &[u8], p: u32, processor: u32, indices: usize) -> Result<Vec<Iteration>, Refusal> {
-    let mut answer = [0; 3];
+    let mut answer = [0; 4];
     let mut out = vec![0; 8 * indices * shifts_and_peels(table)?.len()];
     let (lent, room) = (out.as_mut_ptr(), out.len());
     // SAFETY: as in `of_table`.

@@ -81,25 +81,31 @@ pub struct Refusal {
     pub ground: Ground,
     /// For torn to tail a byte of the table, for serial a loop, else 0.
     pub place: u64,
-    /// For serial a read of that loop, numbered from 0 among its reads; else 0.
-    pub read: u64,
+    /// What the refusal names. For serial the lowest read of that loop that meets the destination in another iteration, numbered from 0
+    /// among the loop's reads in byte order, and 0; else two zeros.
+    pub named: [u64; 2],
 }
 
 impl Refusal {
     /// The answer of a call: nothing where it was accepted.
     pub(crate) fn of_answer(answer: &Answer) -> Result<(), Refusal> {
         match *answer {
-            [0, _, _] => Ok(()),
-            [number, place, read] => Err(Refusal { ground: Ground::of_number(number), place, read }),
+            [0, _, _, _] => Ok(()),
+            [number, place, first, second] => Err(Refusal { ground: Ground::of_number(number), place, named: [first, second] }),
         }
+    }
+
+    /// The read that serial names, and nothing for the other grounds.
+    pub fn read(&self) -> Option<u64> {
+        (self.ground == Ground::Serial).then_some(self.named[0])
     }
 }
 
 impl fmt::Display for Refusal {
     fn fmt(&self, out: &mut fmt::Formatter<'_>) -> fmt::Result {
         write!(out, "refused {} {}", self.ground.number(), self.ground.word())?;
-        if self.ground == Ground::Serial {
-            write!(out, " at loop {}, read {}", self.place, self.read)?;
+        if let Some(read) = self.read() {
+            write!(out, " at loop {}, read {read}", self.place)?;
         } else if self.ground.has_byte() {
             write!(out, " at byte {}", self.place)?;
         }

@@ -36,7 +36,7 @@ pub enum Report {
 
 /// The loops in table order, each from first to last, with no plan.
 pub fn plain_run(table: &[u8], memory: &mut [f64]) -> Result<(), Refusal> {
-    let mut answer = [0; 3];
+    let mut answer = [0; 4];
     // SAFETY: every pointer and length is that of a live slice, and the lent ones are borrowed apart from each other.
     unsafe { vempaldi_plain_run(table.as_ptr(), table.len(), memory.as_mut_ptr(), memory.len(), &mut answer) };
     Refusal::of_answer(&answer)
@@ -44,7 +44,7 @@ pub fn plain_run(table: &[u8], memory: &mut [f64]) -> Result<(), Refusal> {
 
 /// One step of one processor.
 pub fn step(table: &[u8], processors: u32, processor: u32, state: &mut State, memory: &mut [f64]) -> Result<Report, Refusal> {
-    let mut answer = [0; 3];
+    let mut answer = [0; 4];
     let mut report = [0; 3];
     let (numbers, count) = (memory.as_mut_ptr(), memory.len());
     // SAFETY: as in `plain_run`; counts and report are lent for this call alone.
@@ -71,7 +71,7 @@ pub fn step(table: &[u8], processors: u32, processor: u32, state: &mut State, me
 /// A step for each byte of the order, then the lowest-numbered processor that can step until all are finished. The result is how many
 /// bytes named a processor with nothing to do.
 pub fn run(table: &[u8], processors: u32, order: &[u8], memory: &mut [f64]) -> Result<u64, Refusal> {
-    let mut answer = [0; 3];
+    let mut answer = [0; 4];
     let (numbers, count) = (memory.as_mut_ptr(), memory.len());
     // SAFETY: as in `plain_run`.
     let idle = unsafe {

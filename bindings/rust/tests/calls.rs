@@ -82,6 +82,51 @@ fn a_refusal_prints_its_word_and_ground() {
     }
 }
 
+/// 1 to 10, A0 of 21 elements, A0[i] = A0[i] + A0[i+10] + A0[i+9] + A0[i+1]. In ten iterations the first two reads meet no other
+/// iteration's store, and the last two do.
+#[rustfmt::skip]
+const SERIAL: &[u8] = &[
+    1, 21, 0, 0, 0,
+    2, 1, 0, 0, 0, 10, 0, 0, 0, 0, 0, 0,
+    3, 0, 0, 0, 3, 0, 10, 0, 5, 1, 3, 0, 9, 0, 5, 1, 3, 0, 1, 0, 5, 1,
+    6,
+];
+
+#[test]
+fn serial_names_the_lowest_colliding_read() {
+    let refusal = check(SERIAL).expect_err("refused");
+    assert_eq!((refusal.ground, refusal.place, refusal.named), (Ground::Serial, 0, [2, 0]));
+    assert_eq!(refusal.read(), Some(2));
+    let text = "refused 9 serial at loop 0, read 2: two different iterations of one loop meet at an element, one storing";
+    assert_eq!(refusal.to_string(), text);
+}
+
+#[test]
+fn every_call_names_the_same_read() {
+    let serial = check(SERIAL).expect_err("refused");
+    let mut memory = own_index();
+    assert_eq!(join(EXAMPLE, SERIAL), Err(serial));
+    assert_eq!(join(SERIAL, EXAMPLE), Err(serial));
+    assert_eq!(shifts_and_peels(SERIAL), Err(serial));
+    assert_eq!(threshold(SERIAL), Err(serial));
+    assert_eq!(sweeps(SERIAL), Err(serial));
+    assert_eq!(blocks(SERIAL, 2), Err(serial));
+    assert_eq!(fused_list(SERIAL, 2, 0), Err(serial));
+    assert_eq!(peeled_list(SERIAL, 2, 0), Err(serial));
+    assert_eq!(plain_run(SERIAL, &mut memory), Err(serial));
+    assert_eq!(step(SERIAL, 2, 0, &mut State::new(), &mut memory), Err(serial));
+    assert_eq!(run(SERIAL, 2, &[], &mut memory), Err(serial));
+    assert_eq!(listing(SERIAL, 2).expect("fits"), "refused 9 0\n");
+}
+
+#[test]
+fn the_other_grounds_name_nothing() {
+    let torn = check(&EXAMPLE[..60]).expect_err("refused");
+    assert_eq!((torn.place, torn.named, torn.read()), (60, [0, 0], None));
+    let short = blocks(EXAMPLE, 6).expect_err("refused");
+    assert_eq!((short.place, short.named, short.read()), (0, [0, 0], None));
+}
+
 #[test]
 fn a_joined_table_has_both_loops() {
     let joined = join(EXAMPLE, EXAMPLE).expect("joined");

@@ -2,6 +2,7 @@
 //! short, empty and longer.
 
 use vempaldi_checks::blocks::plan;
+use vempaldi_checks::collisions;
 use vempaldi_checks::damage;
 use vempaldi_checks::encoder::encode;
 use vempaldi_checks::lent;
@@ -69,10 +70,11 @@ fn mixed(tally: &mut Tally, seed: u64, shape: &Shape, count: u64) {
     for _ in 0..count {
         let good = encode(&tables::aligned(&mut random, shape));
         let meeting = encode(&tables::any(&mut random, &serial));
+        let colliding = encode(&collisions::table(&mut random));
         let broken = damage::field(&mut random, &good);
         let crowded = damage::crowd(&mut random, &good);
         let torn = good[..random.below(good.len())].to_vec();
-        for bytes in [good, meeting, broken, crowded, torn] {
+        for bytes in [good, meeting, colliding, broken, crowded, torn] {
             let processors = processors::any(&mut random);
             let processor = random.below(processors.max(1) as usize + 1) as u32;
             every_entry(tally, &bytes, processors, processor);

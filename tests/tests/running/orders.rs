@@ -3,6 +3,7 @@
 
 use crate::plans::{planned, Planned};
 use crate::stop::{first_difference, same_bits, stop};
+use vempaldi_checks::collisions;
 use vempaldi_checks::damage;
 use vempaldi_checks::encoder::encode;
 use vempaldi_checks::interpreter::plain_run;
@@ -37,7 +38,7 @@ pub fn compare_all() {
     long_runs(&mut tally);
     tally.print("runs in a caller's order");
     println!("  {idle} idle bytes in all");
-    tally.require(&[0, 1, 3, 4, 5, 6, 7, 8, 10, 11, 12], 50);
+    tally.require(&[0, 1, 3, 4, 5, 6, 7, 8, 9, 10, 11, 12], 50);
 }
 
 /// Few runs of larger tables, up to some thousand iterations.
@@ -145,6 +146,8 @@ fn refused(tally: &mut Tally, random: &mut Random, planned: &Planned, order: &[u
     compare(tally, &broken, right, order, &start);
     let crowded = damage::crowd(random, &planned.bytes);
     compare(tally, &crowded, right, order, &start);
+    let colliding = encode(&collisions::table(random));
+    compare(tally, &colliding, right, order, &start);
     let cut = &planned.bytes[..random.below(planned.bytes.len())];
     compare(tally, cut, right, order, &start);
     let processors = processors::any(random);

@@ -1,6 +1,7 @@
 //! The plain run.
 
 use crate::stop::{first_difference, same_bits, stop};
+use vempaldi_checks::collisions;
 use vempaldi_checks::damage;
 use vempaldi_checks::encoder::encode;
 use vempaldi_checks::interpreter::plain_run;
@@ -40,6 +41,8 @@ fn tables_of(tally: &mut Tally, seed: u64, shape: &Shape, count: usize) {
         let meeting = encode(&tables::over(&mut random, &serial, &one.arrays));
         let good = encode(&one);
         compare(tally, &mut random, &meeting, elements);
+        let colliding = encode(&collisions::table(&mut random));
+        compare(tally, &mut random, &colliding, elements);
         let broken = damage::field(&mut random, &good);
         compare(tally, &mut random, &broken, elements);
         let crowded = damage::crowd(&mut random, &good);

@@ -4,7 +4,9 @@
 use crate::plans::{planned, Planned};
 use crate::rows::numbers;
 use crate::stop::{first_difference, same_bits, stop};
+use vempaldi_checks::collisions;
 use vempaldi_checks::damage;
+use vempaldi_checks::encoder::encode;
 use vempaldi_checks::library_running as library;
 use vempaldi_checks::memories;
 use vempaldi_checks::outcome::agrees;
@@ -36,7 +38,7 @@ pub fn compare_all() {
         }
     }
     tally.print("single steps");
-    tally.require(&[0, 1, 3, 4, 5, 6, 7, 8, 10, 11, 12, 15], 50);
+    tally.require(&[0, 1, 3, 4, 5, 6, 7, 8, 9, 10, 11, 12, 15], 50);
 }
 
 fn any_call(random: &mut Random, planned: &Planned) -> Call {
@@ -63,6 +65,7 @@ fn any_call(random: &mut Random, planned: &Planned) -> Call {
         0 => call.table = damage::field(random, &planned.bytes),
         1 => call.table = damage::crowd(random, &planned.bytes),
         2 => call.table.truncate(random.below(planned.bytes.len())),
+        3 => call.table = encode(&collisions::table(random)),
         _ => {}
     }
     call

@@ -3,7 +3,7 @@
 use vempaldi_checks::library;
 use vempaldi_checks::library_planning as planning;
 use vempaldi_checks::library_running as running;
-use vempaldi_checks::outcome::Answer;
+use vempaldi_checks::outcome::{Answer, ACCEPTED};
 use vempaldi_checks::stepping::Counts;
 
 /// What the calls of a round are given.
@@ -93,7 +93,7 @@ fn run(g: &Given) -> Came {
 fn steps(g: &Given) -> Came {
     let mut memory = g.memory.clone();
     let mut counts = g.counts;
-    let mut came = Came { answer: [0; 3], sum: 0 };
+    let mut came = Came { answer: ACCEPTED, sum: 0 };
     for &named in &g.named {
         let mut report = [9; 3];
         let lent = (&mut counts, &mut memory, &mut report);

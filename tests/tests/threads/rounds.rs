@@ -1,6 +1,7 @@
 //! What rounds of calls are given, from a seed: the same in every run.
 
 use crate::calls::Given;
+use vempaldi_checks::collisions;
 use vempaldi_checks::damage;
 use vempaldi_checks::encoder::encode;
 use vempaldi_checks::memories;
@@ -36,6 +37,7 @@ fn made(random: &mut Random) -> Made {
         0 => damage::field(random, &bytes),
         1 => damage::change_byte(random, &bytes),
         2 => bytes[..random.below(bytes.len())].to_vec(),
+        3 => encode(&collisions::table(random)),
         _ => bytes,
     };
     Made { bytes, elements, most }
