@@ -174,7 +174,7 @@ impl Plan {
         for (k, one) in self.table.loops.iter().enumerate() {
             let y = top + ROW * k as f64;
             picture.text(MARGIN, y + 12.0, "strong", &format!("loop {k}"));
-            let said = assignment(one).unwrap_or_default();
+            let said = assignment(one).map_or(String::new(), |infix| infix.text);
             picture.cut((MARGIN, STATEMENT), y + 26.0, "small", 11.0, &said);
             picture.text(SHIFT_AT, y + 16.0, "mid", &self.amounts[k].shift.to_string());
             picture.text(PEEL_AT, y + 16.0, "mid", &self.amounts[k].peel.to_string());

@@ -21,6 +21,7 @@ mod svg;
 mod text;
 mod wording;
 
+pub use infix::{assignment, Infix};
 pub use parse::{make, Made, TextError};
 pub use records::{decode, Item, Loop, Table};
 pub use text::dump;

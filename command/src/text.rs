@@ -41,7 +41,7 @@ pub fn dump(table: &[u8]) -> String {
 }
 
 fn a_loop(number: usize, one: &Loop) -> String {
-    let said = assignment(one).map_or(String::new(), |infix| format!(": {infix}"));
+    let said = assignment(one).map_or(String::new(), |infix| format!(": {}", infix.text));
     let items: Vec<String> = one.items.iter().map(item).collect();
     let store = reference(one.array, one.offset);
     format!("# loop {number}{said}\nloop {} {} -> {store}: {}\n", one.first, one.last, items.join(" "))
