@@ -52,9 +52,9 @@ file in the order given, without names. The standard error has usage and input/o
   refused NUMBER PLACE          for 9: refused 9 LOOP READ
 Accepted:
   check, dump, make: accepted   (check -q: nothing; dump: no text)
-  plan, draw: the plan's lines, as above
-  run: idle N
-  join: the count of bytes written
+  plan, draw                    the plan's lines, as above
+  run: idle N                   N being the idle count
+  join: N                       the count of bytes written
 join, make and draw then need -o OUT, a file, for what they make. --values is not for --raw.
 
 The text of a table, # to the end of a line being a comment:
