@@ -65,5 +65,12 @@ paper "bin/vempaldi plan examples/example.table -p 2" "$(cat tests/example.listi
 paper "bin/vempaldi check examples/example.table" "examples/example.table: accepted"
 paper "bin/vempaldi run examples/example.table -p 2 --order 1,1,1,1,1,1,1,1,1,1,1,1" \
     "examples/example.table: 20 iterations on 2 processors, idle 3: agrees with the plain run, all 36 numbers bit for bit"
-[ "$count" -ge 13 ] || wrong "only $count commands found"
+# The raw answers: byte 0 of README.md is no kind; 10 indices in 6 blocks leave some of 1, below the threshold of 2; the joined table has 15
+# bytes of arrays, twice 45 of loops, and one end.
+paper "bin/vempaldi check --raw examples/example.table README.md || echo \"status \$?\"" $'accepted\nrefused 2 0\nstatus 1'
+paper "bin/vempaldi plan --raw examples/example.table -p 6 || echo \"status \$?\"" $'refused 11 0\nstatus 1'
+paper "bin/vempaldi run --raw examples/example.table -p 2 --order 1,1,1,1,1,1,1,1,1,1,1,1" "idle 3"
+paper "bin/vempaldi join --raw examples/example.table examples/example.table -o build/two.table" "106"
+[ "$count" -eq 17 ] || wrong "$count commands found, not 17"
+[ "$compared" -eq 7 ] || wrong "$compared commands found that say something, not 7"
 echo "README.md: $count commands work as printed, $compared of them with what they say"

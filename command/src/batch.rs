@@ -1,5 +1,6 @@
 //! Several files, one after the other: reading, progress, the line that counts them.
 
+use crate::options::Options;
 use crate::outcome::{Failure, Outcome};
 use std::fs::{self, File};
 use std::io::{self, IsTerminal, Read, Write};
@@ -77,14 +78,16 @@ fn clear_progress() {
 }
 
 /// Does the work for each file. Of several files one that cannot be read is named, and the others are still done; an output that cannot
-/// be written ends it.
+/// be written ends it. A script (`--raw`) is told of no progress and no counts.
 pub fn each(
-    files: &[String],
+    options: &Options,
     words: &Words,
     mut work: impl FnMut(&str, &[u8]) -> Result<Outcome, Failure>,
 ) -> Result<Outcome, Failure> {
     let (mut good, mut bad, mut unread) = (0, 0, 0);
-    let shown = files.len() >= MANY && io::stderr().is_terminal();
+    let files = options.some_files()?;
+    let told = files.len() > 1 && !options.raw();
+    let shown = told && files.len() >= MANY && io::stderr().is_terminal();
     for (at, name) in files.iter().enumerate() {
         if shown {
             show_progress(&format!("{} of {}, {bad} {}: {name}", at + 1, files.len(), words.bad));
@@ -102,7 +105,7 @@ pub fn each(
         }
     }
     clear_progress();
-    if files.len() > 1 {
+    if told {
         say(&counted(words, good, bad, unread));
     }
     Ok(match (bad, unread) {

@@ -1,6 +1,7 @@
 //! `draw`: a picture of a plan. Blocks stand across, loops down; above the barrier what is fused, below it what is peeled. The parts
 //! are those of the library's listing.
 
+use crate::answers;
 use crate::batch;
 use crate::infix::assignment;
 use crate::options::Options;
@@ -55,6 +56,7 @@ struct Part {
 struct Plan {
     name: String,
     table: Table,
+    listing: String,
     amounts: Vec<Amounts>,
     blocks: Vec<Block>,
     fused: Vec<Part>,
@@ -66,27 +68,26 @@ struct Plan {
 pub fn draw(options: &Options) -> Result<Outcome, Failure> {
     let name = options.one_file()?;
     let processors = options.processors()?;
+    answers::needs_file(options)?;
     let bytes = batch::read_table(name)?;
     match plan(name, &bytes, processors) {
-        Ok(plan) => {
-            batch::write(options.value("-o"), plan.picture().as_bytes())?;
-            Ok(Outcome::Good)
-        }
-        Err(refusal) => Ok(refused(name, &bytes, &refusal)),
+        Ok(plan) => answers::made(options, plan.picture().as_bytes(), &plan.listing),
+        Err(refusal) => refused(options, name, &bytes, &refusal),
     }
 }
 
 fn plan(name: &str, bytes: &[u8], processors: u32) -> Result<Plan, Refusal> {
-    let lines = listing(bytes, processors)?;
+    let listing = listing(bytes, processors)?;
     Ok(Plan {
         name: title(name),
         table: decode(bytes).0,
         amounts: vempaldi::shifts_and_peels(bytes)?,
         blocks: vempaldi::blocks(bytes, processors)?,
-        fused: parts(&lines, "fused"),
-        peeled: parts(&lines, "peeled"),
+        fused: parts(&listing, "fused"),
+        peeled: parts(&listing, "peeled"),
         threshold: vempaldi::threshold(bytes)?,
         sweeps: vempaldi::sweeps(bytes)?,
+        listing,
     })
 }
 
@@ -174,7 +175,7 @@ impl Plan {
         for (k, one) in self.table.loops.iter().enumerate() {
             let y = top + ROW * k as f64;
             picture.text(MARGIN, y + 12.0, "strong", &format!("loop {k}"));
-            let said = assignment(one).unwrap_or_default();
+            let said = assignment(one).map_or(String::new(), |infix| infix.text);
             picture.cut((MARGIN, STATEMENT), y + 26.0, "small", 11.0, &said);
             picture.text(SHIFT_AT, y + 16.0, "mid", &self.amounts[k].shift.to_string());
             picture.text(PEEL_AT, y + 16.0, "mid", &self.amounts[k].peel.to_string());

@@ -14,6 +14,7 @@ vempaldi: plans for a run of parallel loops made into one (shift-and-peel)
   vempaldi dump FILE..                       tables as text
   vempaldi make FILE [-o OUT]                the table of a text (the text is described below)
   vempaldi draw FILE -p N [-o plan.svg]      a picture of the plan: blocks across, loops down
+Each takes --raw too: the library's answer alone, for scripts (described below).
 
 One FILE may be - for the standard input. Without -o, join, make and draw write to the standard
 output. With several files a last line on the standard error counts them.
@@ -21,8 +22,9 @@ output. With several files a last line on the standard error counts them.
 Exit status: 0 all accepted (run: and all memories agree), 1 something refused or different or a
 text wrong, 2 usage or input/output error.
 
-A refusal names its number, word and ground, the record and the byte. Records, bytes, arrays, loops
-and processors count from 0. docs/REFUSALS.md has an example of each and what to do about it.
+A refusal names its number, word and ground, the record and the byte; 9 also shows the loop with the
+read that it names marked. Records, bytes, arrays, loops, reads and processors count from 0.
+docs/REFUSALS.md has an example of each and what to do about it.
 
 The lines of a plan:
   loop K SHIFT PEEL      block B FIRST LAST      sweeps BEFORE AFTER
@@ -43,6 +45,17 @@ MEMORY, the numbers before the run:
   random:SEED  numbers of all kinds, infinities and not-a-numbers too
   @FILE        binary64 numbers, 8 bytes each, little-endian, the arrays in order
 --values prints the memory after the run, -o OUT writes it to a file.
+
+--raw: the standard output has the library's answers and nothing else, a line or several for each
+file in the order given, without names. The standard error has usage and input/output errors alone
+(make: and what is wrong with a text; run: and a memory that differs). A refusal is one line:
+  refused NUMBER PLACE          for 9: refused 9 LOOP READ
+Accepted:
+  check, dump, make: accepted   (check -q: nothing; dump: no text)
+  plan, draw                    the plan's lines, as above
+  run: idle N                   N being the idle count
+  join: N                       the count of bytes written
+join, make and draw then need -o OUT, a file, for what they make. --values is not for --raw.
 
 The text of a table, # to the end of a line being a comment:
   array H 100                                   an array's name and length; A0, A1, .. are fine

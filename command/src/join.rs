@@ -1,5 +1,6 @@
 //! `join`: two tables into one.
 
+use crate::answers;
 use crate::batch;
 use crate::options::Options;
 use crate::outcome::{Failure, Outcome};
@@ -10,22 +11,20 @@ pub fn join(options: &Options) -> Result<Outcome, Failure> {
     let [left, right] = &options.files[..] else {
         return Err(Failure::Usage("join takes two files".to_string()));
     };
+    answers::needs_file(options)?;
     let first = batch::read_table(left)?;
     let second = batch::read_table(right)?;
     match vempaldi::join(&first, &second) {
-        Ok(joined) => {
-            batch::write(options.value("-o"), &joined)?;
-            Ok(Outcome::Good)
-        }
-        Err(refusal) => {
-            refused((left, &first), (right, &second), &refusal);
-            Ok(Outcome::Bad)
-        }
+        Ok(joined) => answers::made(options, &joined, &format!("{}\n", joined.len())),
+        Err(refusal) => answers::refused(options, &refusal, || {
+            say((left, &first), (right, &second), &refusal);
+            Ok(())
+        }),
     }
 }
 
 /// The refusal of joining does not say which table met a ground, so each is asked by itself.
-fn refused(left: (&str, &[u8]), right: (&str, &[u8]), refusal: &Refusal) {
+fn say(left: (&str, &[u8]), right: (&str, &[u8]), refusal: &Refusal) {
     for (name, table) in [left, right] {
         if let Err(own) = vempaldi::check(table) {
             batch::say(&format!("{name}: {}", describe(table, &own)));

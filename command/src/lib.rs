@@ -1,6 +1,7 @@
 //! The command `vempaldi`. What it says of a table is the proved library's answer; this crate reads files, words refusals, and turns
 //! tables into text and pictures.
 
+mod answers;
 mod batch;
 mod check;
 mod draw;
@@ -21,6 +22,7 @@ mod svg;
 mod text;
 mod wording;
 
+pub use infix::{assignment, Infix};
 pub use parse::{make, Made, TextError};
 pub use records::{decode, Item, Loop, Table};
 pub use text::dump;
@@ -63,13 +65,13 @@ fn dispatch(command: &str, words: &[String]) -> Result<Outcome, Failure> {
     }
     let options = Options::read(words)?;
     match command {
-        "check" => check::check(&options.only(&["-q"])?),
-        "plan" => plan::plan(&options.only(&["-p"])?),
-        "join" => join::join(&options.only(&["-o"])?),
-        "run" => run::run(&options.only(&["-p", "-o", "--order", "--memory", "--values"])?),
-        "dump" => text::dump_files(&options.only(&[])?),
-        "make" => parse::make_file(&options.only(&["-o"])?),
-        "draw" => draw::draw(&options.only(&["-p", "-o"])?),
+        "check" => check::check(&options.only(&["-q", "--raw"])?),
+        "plan" => plan::plan(&options.only(&["-p", "--raw"])?),
+        "join" => join::join(&options.only(&["-o", "--raw"])?),
+        "run" => run::run(&options.only(&["-p", "-o", "--order", "--memory", "--values", "--raw"])?),
+        "dump" => text::dump_files(&options.only(&["--raw"])?),
+        "make" => parse::make_file(&options.only(&["-o", "--raw"])?),
+        "draw" => draw::draw(&options.only(&["-p", "-o", "--raw"])?),
         other => Err(Failure::Usage(format!("no command {}; {COMMANDS}", quoted(other)))),
     }
 }

@@ -11,7 +11,7 @@ pub struct Options {
 }
 
 const WITH_VALUE: [&str; 4] = ["-p", "-o", "--order", "--memory"];
-const ALONE: [&str; 2] = ["-q", "--values"];
+const ALONE: [&str; 3] = ["-q", "--values", "--raw"];
 
 impl Options {
     pub fn read(words: &[String]) -> Result<Options, Failure> {
@@ -60,6 +60,11 @@ impl Options {
 
     pub fn has(&self, name: &str) -> bool {
         self.value(name).is_some()
+    }
+
+    /// Whether the answer alone is to be printed, for a script.
+    pub fn raw(&self) -> bool {
+        self.has("--raw")
     }
 
     pub fn processors(&self) -> Result<u32, Failure> {

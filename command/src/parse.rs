@@ -1,5 +1,6 @@
 //! `make`: the bytes of a table from its text.
 
+use crate::answers;
 use crate::batch;
 use crate::options::Options;
 use crate::outcome::{Failure, Outcome};
@@ -30,6 +31,7 @@ pub struct Made {
 
 pub fn make_file(options: &Options) -> Result<Outcome, Failure> {
     let name = options.one_file()?;
+    answers::needs_file(options)?;
     let bytes = batch::read_whole(name)?;
     if vempaldi::check(&bytes).is_ok() {
         batch::say(&format!("{name}: this is a table, not a text (vempaldi dump gives the text of a table)"));
@@ -42,12 +44,13 @@ pub fn make_file(options: &Options) -> Result<Outcome, Failure> {
             return Ok(Outcome::Bad);
         }
     };
-    if let Err(refusal) = vempaldi::check(&made.bytes) {
-        batch::say(&format!("{name}:{}: {}", made.line_of(&refusal), describe(&made.bytes, &refusal)));
-        return Ok(Outcome::Bad);
+    match vempaldi::check(&made.bytes) {
+        Ok(()) => answers::made(options, &made.bytes, "accepted\n"),
+        Err(refusal) => answers::refused(options, &refusal, || {
+            batch::say(&format!("{name}:{}: {}", made.line_of(&refusal), describe(&made.bytes, &refusal)));
+            Ok(())
+        }),
     }
-    batch::write(options.value("-o"), &made.bytes)?;
-    Ok(Outcome::Good)
 }
 
 /// The table of a text. Its numbers are only asked to fit their fields; whether the table is accepted is the library's to say.

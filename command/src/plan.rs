@@ -1,5 +1,6 @@
-//! `plan`: the library's listing, or the refusal in words.
+//! `plan`: the library's listing, or the refusal.
 
+use crate::answers;
 use crate::batch;
 use crate::check::WORDS;
 use crate::options::Options;
@@ -9,14 +10,13 @@ use vempaldi::Refusal;
 
 pub fn plan(options: &Options) -> Result<Outcome, Failure> {
     let processors = options.processors()?;
-    let files = options.some_files()?;
-    batch::each(files, &WORDS, |name, table| match listing(table, processors) {
-        Ok(text) => {
-            let head = if files.len() > 1 { format!("{name}:\n") } else { String::new() };
-            batch::print((head + &text).as_bytes())?;
-            Ok(Outcome::Good)
-        }
-        Err(refusal) => Ok(refused(name, table, &refusal)),
+    let several = options.some_files()?.len() > 1;
+    batch::each(options, &WORDS, |name, table| match listing(table, processors) {
+        Ok(text) => answers::accepted(options, &text, || {
+            let head = if several { format!("{name}:\n") } else { String::new() };
+            batch::print((head + &text).as_bytes())
+        }),
+        Err(refusal) => refused(options, name, table, &refusal),
     })
 }
 
@@ -27,11 +27,17 @@ pub fn listing(table: &[u8], processors: u32) -> Result<String, Refusal> {
     vempaldi::listing(table, processors)
 }
 
+pub fn refused(options: &Options, name: &str, table: &[u8], refusal: &Refusal) -> Result<Outcome, Failure> {
+    answers::refused(options, refusal, || {
+        say(name, table, refusal);
+        Ok(())
+    })
+}
+
 /// Says the refusal of a plan or a run on the standard error.
-pub fn refused(name: &str, table: &[u8], refusal: &Refusal) -> Outcome {
+pub fn say(name: &str, table: &[u8], refusal: &Refusal) {
     batch::say(&format!("{name}: {}", describe(table, refusal)));
     if let Some(more) = advice(table, refusal) {
         batch::say(&format!("{name}: {more}"));
     }
-    Outcome::Bad
 }

@@ -43,6 +43,16 @@ impl Table {
     }
 }
 
+impl Loop {
+    /// The offsets of the body's reads in byte order: a read's position here is the number that 9 names.
+    pub fn read_offsets(&self) -> impl Iterator<Item = i16> + '_ {
+        self.items.iter().filter_map(|item| match item {
+            Item::Read(_, offset) => Some(*offset),
+            _ => None,
+        })
+    }
+}
+
 /// How many bytes follow the kind byte.
 pub fn body_length(kind: u8) -> Option<usize> {
     [4, 11, 3, 4, 1, 0].get(usize::from(kind).checked_sub(1)?).copied()

@@ -1,11 +1,12 @@
 //! `run`: a run in a given order beside the plain run, compared bit by bit.
 
+use crate::answers;
 use crate::batch::{self, Words};
 use crate::memories::{self, Memory};
 use crate::options::Options;
 use crate::orders::Order;
 use crate::outcome::{Failure, Outcome};
-use crate::plan::refused;
+use crate::plan;
 use crate::records::{decode, Table};
 use crate::wording::counted;
 use vempaldi::{Ground, Refusal};
@@ -19,30 +20,31 @@ struct Both {
 }
 
 pub fn run(options: &Options) -> Result<Outcome, Failure> {
+    answers::memory_apart(options)?;
     let processors = options.processors()?;
     let order = Order::read(options.value("--order").unwrap_or("turns"))?;
     let memory = Memory::read(options.value("--memory").unwrap_or("index"))?;
-    let files = options.some_files()?;
+    options.some_files()?;
     if options.has("-o") {
         options.one_file()?;
     }
-    batch::each(files, &WORDS, |name, bytes| {
+    batch::each(options, &WORDS, |name, bytes| {
         if let Err(refusal) = vempaldi::check(bytes) {
-            return Ok(refused(name, bytes, &refusal));
+            return plan::refused(options, name, bytes, &refusal);
         }
         let (table, _) = decode(bytes);
         let order = order.bytes(processors, table.iterations());
         let start = memory.numbers(&table);
         let lent = start.len();
         match both(bytes, processors, &order, start) {
-            Ok(both) => say(options, name, &table, processors, &both),
-            Err(refusal) => {
-                let outcome = refused(name, bytes, &refusal);
+            Ok(both) => tell(options, name, &table, processors, &both),
+            Err(refusal) => answers::refused(options, &refusal, || {
+                plan::say(name, bytes, &refusal);
                 if refusal.ground == Ground::Memory {
                     batch::say(&lengths(name, table.elements(), lent));
                 }
-                Ok(outcome)
-            }
+                Ok(())
+            }),
         }
     })
 }
@@ -59,22 +61,37 @@ fn both(table: &[u8], processors: u32, order: &[u8], start: Vec<f64>) -> Result<
     Ok(Both { run, plain, idle })
 }
 
-fn say(options: &Options, name: &str, table: &Table, processors: u32, both: &Both) -> Result<Outcome, Failure> {
+fn tell(options: &Options, name: &str, table: &Table, processors: u32, both: &Both) -> Result<Outcome, Failure> {
     let different: Vec<usize> = (0..both.run.len()).filter(|&at| both.run[at].to_bits() != both.plain[at].to_bits()).collect();
     let verdict = match different.first() {
         None => format!("agrees with the plain run, all {} numbers bit for bit", both.run.len()),
         Some(&at) => format!("DIFFERS from the plain run in {} numbers, first {}", different.len(), pair(table, both, at)),
     };
-    let (iterations, processors) = (counted(table.iterations(), "iteration"), counted(processors as usize, "processor"));
-    let line = format!("{name}: {iterations} on {processors}, idle {}: {verdict}\n", both.idle);
-    batch::print(line.as_bytes())?;
-    if options.has("--values") {
-        batch::print(values(table, &both.run).as_bytes())?;
-    }
-    if let Some(out) = options.value("-o") {
-        batch::write(Some(out), &memories::bytes(&both.run))?;
-    }
+    let raw = || {
+        write_memory(options, both)?;
+        // The library did not answer this, so it is none of the lines that a script reads.
+        if !different.is_empty() {
+            batch::say(&format!("{name}: {verdict}"));
+        }
+        batch::print(format!("idle {}\n", both.idle).as_bytes())
+    };
+    let words = || {
+        let (iterations, processors) = (counted(table.iterations(), "iteration"), counted(processors as usize, "processor"));
+        batch::print(format!("{name}: {iterations} on {processors}, idle {}: {verdict}\n", both.idle).as_bytes())?;
+        if options.has("--values") {
+            batch::print(values(table, &both.run).as_bytes())?;
+        }
+        write_memory(options, both)
+    };
+    answers::either(options, raw, words)?;
     Ok(if different.is_empty() { Outcome::Good } else { Outcome::Bad })
+}
+
+fn write_memory(options: &Options, both: &Both) -> Result<(), Failure> {
+    match options.value("-o") {
+        Some(out) => batch::write(Some(out), &memories::bytes(&both.run)),
+        None => Ok(()),
+    }
 }
 
 /// Both numbers of an element, with their bits.

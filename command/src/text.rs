@@ -1,5 +1,6 @@
 //! `dump`: a table as text that `make` turns into the same bytes.
 
+use crate::answers;
 use crate::batch::{self, Words};
 use crate::infix::{assignment, reference};
 use crate::options::Options;
@@ -10,16 +11,19 @@ use crate::refusals::describe;
 const WORDS: Words = Words { good: "accepted", bad: "refused" };
 
 pub fn dump_files(options: &Options) -> Result<Outcome, Failure> {
-    let files = options.some_files()?;
-    batch::each(files, &WORDS, |name, table| {
-        let head = if files.len() > 1 { format!("# {name}\n") } else { String::new() };
-        batch::print((head + &dump(table)).as_bytes())?;
+    let several = options.some_files()?.len() > 1;
+    batch::each(options, &WORDS, |name, table| {
+        let text = || {
+            let head = if several { format!("# {name}\n") } else { String::new() };
+            batch::print((head + &dump(table)).as_bytes())
+        };
         match vempaldi::check(table) {
-            Ok(()) => Ok(Outcome::Good),
-            Err(refusal) => {
+            Ok(()) => answers::accepted(options, "accepted\n", text),
+            Err(refusal) => answers::refused(options, &refusal, || {
+                text()?;
                 batch::say(&format!("{name}: {}", describe(table, &refusal)));
-                Ok(Outcome::Bad)
-            }
+                Ok(())
+            }),
         }
     })
 }
@@ -41,7 +45,7 @@ pub fn dump(table: &[u8]) -> String {
 }
 
 fn a_loop(number: usize, one: &Loop) -> String {
-    let said = assignment(one).map_or(String::new(), |infix| format!(": {infix}"));
+    let said = assignment(one).map_or(String::new(), |infix| format!(": {}", infix.text));
     let items: Vec<String> = one.items.iter().map(item).collect();
     let store = reference(one.array, one.offset);
     format!("# loop {number}{said}\nloop {} {} -> {store}: {}\n", one.first, one.last, items.join(" "))

@@ -1,9 +1,12 @@
-//! Runs the commands of docs/REFUSALS.md as they are printed there: what follows a command in its block is what it says.
+//! Runs the commands of docs/REFUSALS.md as they are printed there: what follows a command in its block is what it says. A section that
+//! has a ground's number is about that refusal; the one for scripts has raw answers, accepted ones too.
 
 use std::path::PathBuf;
 use std::process::Command;
 
 struct Example {
+    /// The first word of its section's head.
+    section: String,
     command: String,
     says: Vec<String>,
 }
@@ -14,11 +17,14 @@ fn root() -> PathBuf {
 
 fn examples(text: &str) -> Vec<Example> {
     let mut found: Vec<Example> = Vec::new();
-    let mut inside = false;
+    let (mut section, mut inside) = (String::new(), false);
     for line in text.lines() {
+        if let Some(head) = line.strip_prefix("## ") {
+            section = head.split(' ').next().unwrap_or("").to_string();
+        }
         match line.strip_prefix("    ") {
             Some(code) if code.contains("bin/vempaldi ") => {
-                found.push(Example { command: code.to_string(), says: Vec::new() });
+                found.push(Example { section: section.clone(), command: code.to_string(), says: Vec::new() });
                 inside = true;
             }
             Some(said) if inside => found.last_mut().expect("inside").says.push(said.to_string()),
@@ -28,17 +34,39 @@ fn examples(text: &str) -> Vec<Example> {
     found
 }
 
+fn document() -> Vec<Example> {
+    examples(&std::fs::read_to_string(root().join("docs/REFUSALS.md")).expect("the document"))
+}
+
+/// Runs it and compares all that it prints. The result is the standard error alone.
+fn run(example: &Example, status: i32) -> String {
+    let line = example.command.replace("bin/vempaldi", env!("CARGO_BIN_EXE_vempaldi"));
+    let output = Command::new("sh").args(["-c", &line]).current_dir(root()).output().expect("ran");
+    let err = String::from_utf8_lossy(&output.stderr).into_owned();
+    let said = String::from_utf8_lossy(&output.stdout).into_owned() + &err;
+    assert_eq!(said.lines().collect::<Vec<_>>(), example.says, "{}", example.command);
+    assert_eq!(output.status.code(), Some(status), "{}", example.command);
+    err
+}
+
 #[test]
-fn every_example_says_what_is_printed_below_it() {
-    let text = std::fs::read_to_string(root().join("docs/REFUSALS.md")).expect("the document");
-    let found = examples(&text);
+fn every_refusal_says_what_is_printed_below_it() {
+    let found: Vec<Example> = document().into_iter().filter(|example| example.section != "For").collect();
     assert_eq!(found.len(), 13);
     for example in found {
-        let line = example.command.replace("bin/vempaldi", env!("CARGO_BIN_EXE_vempaldi"));
-        let output = Command::new("sh").args(["-c", &line]).current_dir(root()).output().expect("ran");
-        let said = [output.stdout, output.stderr].concat();
-        let said: Vec<String> = String::from_utf8_lossy(&said).lines().map(str::to_string).collect();
-        assert_eq!(said, example.says, "{}", example.command);
-        assert_eq!(output.status.code(), Some(1), "{}", example.command);
+        let number = format!(": refused {} ", example.section);
+        assert!(example.says[0].contains(&number), "{}", example.command);
+        run(&example, 1);
+    }
+}
+
+#[test]
+fn every_raw_answer_is_what_is_printed_below_it() {
+    let found: Vec<Example> = document().into_iter().filter(|example| example.section == "For").collect();
+    assert_eq!(found.len(), 11);
+    for example in found {
+        assert!(example.command.contains(" --raw "), "{}", example.command);
+        let refused = example.says.iter().any(|line| line.starts_with("refused "));
+        assert_eq!(run(&example, i32::from(refused)), "", "{}", example.command);
     }
 }
