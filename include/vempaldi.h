@@ -131,7 +131,7 @@ uint64_t vempaldi_peeled_list(const uint8_t *table, size_t table_length, uint32_
 /* The plan as text: lines `loop` k shift peel, `block` b first last, `fused` b k from to, `peeled` b k from to, `sweeps` before after;
  * or the one line `refused` number place (for 9 the loop).
  * Writes the text, each line with its line feed and no zero byte behind. Refuses with 13 alone: 1 to 11 are the text's to say, and
- * the answer is 0, 0, 0 then. */
+ * the answer is 0, 0, 0, 0 then. */
 uint64_t vempaldi_listing(const uint8_t *table, size_t table_length, uint32_t processors,
                           uint8_t *out, size_t out_length, uint64_t answer[4]);
 

@@ -1,7 +1,7 @@
 -- An answer: what was asked for, or a refusal. Tests stand in the order in which they are made.
 use Prim.Native.Nat.{ℕ}
 use native.Mathlib.Omega.{arith}
-use mathlib.Core.Path.{_≡_, refl, sym, ap}
+use mathlib.Core.Path.{_≡_, refl, sym, ap, _∙_}
 use mathlib.Core.Logic.{_⊎_, inl, inr}
 use mathlib.Core.Bool.{Bool, true, false}
 use Rattle.refusals.specs.declared.Refusal.{Refusal}
@@ -27,6 +27,10 @@ abbrev pub refusalOf : {T : Type 0} → AnswerOf T → Refusal
 refusalOf (refused r) = r
 refusalOf (accepted t) = none
 
+-- a refusal has a ground: 0 is told of what is accepted and of nothing else
+abbrev pub Grounded : {T : Type 0} → AnswerOf T → Type 0
+Grounded a = (r : Refusal) → a ≡ refused r → r .ground ≡ 0 → ⊥
+
 -- LAWS
 module _ {T : Type 0} where
   pub not-both : {r : Refusal} {t : T} → refused r ≡ accepted t → ⊥
@@ -48,7 +52,18 @@ module _ {T : Type 0} where
   stopped r true more q e = inl (refl, ap refusalOf e)
   stopped r false more q e = inr (refl, e)
 
+  pub accepted-grounded : (t : T) → Grounded (accepted t)
+  accepted-grounded t r e z = not-both (sym e)
+
+  pub if-grounded : (q : Refusal) (b : Bool) (more : AnswerOf T) → (q .ground ≡ 0 → ⊥) → Grounded more → Grounded (refused q if b else more)
+  if-grounded q true more some rest r e z = some (ap (λ (x : Refusal). x .ground) (ap refusalOf e) ∙ z)
+  if-grounded q false more some rest r e z = rest r e z
+
 module _ {T U : Type 0} where
+  pub after-grounded : (a : AnswerOf T) (more : T → AnswerOf U) → Grounded a → ((t : T) → Grounded (more t)) → Grounded (after a more)
+  after-grounded (refused q) more some rest r e z = some q refl (ap (λ (x : Refusal). x .ground) (ap refusalOf e) ∙ z)
+  after-grounded (accepted t) more some rest r e z = rest t r e z
+
   -- what is accepted after an answer
   pub after-accepted : (a : AnswerOf T) (more : T → AnswerOf U) (u : U) → after a more ≡ accepted u → (t : T) × (a ≡ accepted t) × (more t ≡ accepted u)
   after-accepted (refused r) more u e = absurd (not-both e)
