@@ -14,7 +14,6 @@ use ranges::PHASE;
 use records::STORE;
 use records::Store;
 use sweeps::sweeps_of as sweeps_in;
-ghost use mathlib.Core.Path.{_≡_};
 ghost use mathlib.Core.List.{[], _∷_, _++_};
 ghost use Prim.Native.Nat.{suc, _+_, _-_, _*_, _^_, _<_, _≤_};
 ghost use lib.ListN.{length};

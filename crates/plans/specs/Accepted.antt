@@ -11,7 +11,7 @@ use Rattle.model.specs.Table.{Table, count, first, last}
 use Rattle.model.specs.References.{allRefs}
 use Rattle.model.specs.Sound.{Sound}
 use Rattle.refusals.specs.Refusals.{met}
-use Rattle.refusals.specs.Answers.{AnswerOf, accepted, refused, passed, after-accepted}
+use Rattle.refusals.specs.Answers.{accepted, refused, passed, after-accepted}
 use Rattle.reader.specs.Reading.{Answer}
 use Rattle.serial.specs.Serial.{table}
 use Rattle.grounds.specs.Accepted.{Valid, accepted-valid, valid-last}

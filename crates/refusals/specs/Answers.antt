@@ -46,12 +46,6 @@ module _ {T : Type 0} where
   passed r true more t e = absurd (not-both e)
   passed r false more t e = (refl, e)
 
-  -- a test before a refusal
-  pub stopped : (r : Refusal) (b : Bool) (more : AnswerOf T) (q : Refusal) → (refused r if b else more) ≡ refused q
-      → ((b ≡ true) × (r ≡ q)) ⊎ ((b ≡ false) × (more ≡ refused q))
-  stopped r true more q e = inl (refl, ap refusalOf e)
-  stopped r false more q e = inr (refl, e)
-
   pub accepted-grounded : (t : T) → Grounded (accepted t)
   accepted-grounded t r e z = not-both (sym e)
 

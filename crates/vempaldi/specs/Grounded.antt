@@ -21,10 +21,9 @@ use Rattle.plans.specs.Plans.{Settings, Planned, planOf, shortFor, badProcessor
 use Rattle.entries.specs.Entries.{amounts, thresholds, sweepsGiven, blocksGiven, listGiven}
 use Rattle.iterations.specs.Memory.{total, remembered}
 use Rattle.plain.specs.Plain.{plainAnswer}
-use Rattle.turns.specs.Turn.{Said, After, next, turn, stepped, wrongState}
+use Rattle.turns.specs.Turn.{Said, next, stepped, wrongState}
 use Rattle.turns.specs.Reach.{Turn, does, halts, stops, turn-is}
 use Rattle.turns.specs.Meaning.{turn-said}
-use Rattle.stepping.specs.declared.Report.{Report}
 use Rattle.stepping.specs.declared.Report.the-variants.{Refused}
 use Rattle.stepping.specs.Step.{workOf, reportOf, elements, steppedBy, step}
 use Rattle.stepping.specs.Run.{runAnswer}

@@ -19,8 +19,10 @@ give-amounts-requires c κs = c .before .before .before .before .read-through .e
 returns-2 : tie.Need-returns-2
 unfolding amounts
 returns-2 c =
-    let a = c .before .before .before .before .before .before .before .before .before .before .before .args in
-    entry-given (table (now (a .s))) amountsOf (now (a .out)) (c .before .before .before .before .before .before .before .read-through .ensures .held (c .before .before .before .before .before .if1 .left) .0) (c .before .before .give-amounts .ensures)
+    let i = c .before .before .before .before .before in
+    let x = i .before .before .read-through in
+    let a = i .before .before .before .before .before .before .args in
+    entry-given (table (now (a .s))) amountsOf (now (a .out)) (x .ensures .held (i .if1 .left) .0) (c .before .before .give-amounts .ensures)
 
 pub shifts-and-peels-spec : {M : Type 1} → statement M
 shifts-and-peels-spec =

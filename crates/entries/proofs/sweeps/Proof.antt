@@ -21,8 +21,10 @@ give-sweeps-requires c κs = c .before .before .before .before .read-through .en
 returns-2 : tie.Need-returns-2
 unfolding sweepsGiven
 returns-2 c =
-    let a = c .before .before .before .before .before .before .before .before .before .before .before .args in
-    entry-given (table (now (a .s))) (λ t. before t ∷ after t ∷ []) (now (a .out)) (c .before .before .before .before .before .before .before .read-through .ensures .held (c .before .before .before .before .before .if1 .left) .0) (c .before .before .give-sweeps .ensures)
+    let i = c .before .before .before .before .before in
+    let x = i .before .before .read-through in
+    let a = i .before .before .before .before .before .before .args in
+    entry-given (table (now (a .s))) (λ t. before t ∷ after t ∷ []) (now (a .out)) (x .ensures .held (i .if1 .left) .0) (c .before .before .give-sweeps .ensures)
 
 pub sweeps-spec : {M : Type 1} → statement M
 sweeps-spec =

@@ -23,8 +23,10 @@ give-threshold-requires c κs = let h = c .before .before .before .before .read-
 returns-2 : tie.Need-returns-2
 unfolding thresholds
 returns-2 c =
-    let a = c .before .before .before .before .before .before .before .before .before .before .before .args in
-    entry-given (table (now (a .s))) (λ t. thresholdOf t ∷ []) (now (a .out)) (c .before .before .before .before .before .before .before .read-through .ensures .held (c .before .before .before .before .before .if1 .left) .0) (c .before .before .give-threshold .ensures)
+    let i = c .before .before .before .before .before in
+    let x = i .before .before .read-through in
+    let a = i .before .before .before .before .before .before .args in
+    entry-given (table (now (a .s))) (λ t. thresholdOf t ∷ []) (now (a .out)) (x .ensures .held (i .if1 .left) .0) (c .before .before .give-threshold .ensures)
 
 pub threshold-spec : {M : Type 1} → statement M
 threshold-spec =

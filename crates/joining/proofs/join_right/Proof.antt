@@ -25,8 +25,10 @@ same-lengths-requires c κs = (c .before .before .before .before .before .before
 
 add-total : tie.Need-add-total
 add-total c =
-    let h = c .before .before .before .before .before .before .before .read-through .ensures .held (c .before .before .before .before .before .if1 .left) in
-    omega (arith, c .before .before .loops-in .ensures, c .loops-in2 .ensures, few-loops (c .before .before .before .before .before .before .before .before .before .before .before .before .pre .1), few-loops (h .1))
+    let i = c .before .before .before .before .before in
+    let d = i .before .before in
+    let h = d .read-through .ensures .held (i .if1 .left) in
+    omega (arith, c .before .before .loops-in .ensures, c .loops-in2 .ensures, few-loops (d .before .before .before .before .before .pre .1), few-loops (h .1))
 
 returns-2 : tie.Need-returns-2
 returns-2 c =

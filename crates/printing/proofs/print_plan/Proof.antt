@@ -8,9 +8,11 @@ use Rattle.printing.proofs.print_plan.Tie as tie
 
 returns : tie.Need-returns
 returns c =
-    let a = c .before .before .before .before .before .before .before .before .before .before .before .before .args in
+    let i = c .before .before .before .before .before in
+    let d = i .before .before .before in
+    let a = d .before .before .before .before .args in
     let e =
-    refused-text (now (a .s)) (settings (a .processors)) _ _ (c .before .before .before .before .before .before .before .before .plan-table .ensures) (c .before .before .before .before .before .if1 .taken) _ (c .before .before .before .wide .ensures .0) in
+    refused-text (now (a .s)) (settings (a .processors)) _ _ (d .plan-table .ensures) (i .if1 .taken) _ (c .before .before .before .wide .ensures .0) in
     prints-same e (c .before .before .print-refusal .ensures)
 
 sweeps-of-requires : tie.Need-sweeps-of-requires

@@ -47,7 +47,8 @@ run-row-requires c κs =
 returns-2 : tie.Need-returns-2
 returns-2 c =
     let r = c .before .before .before in
-    let b = r .before .before .before .before .before .before .before .before .before .before .before in
+    let i = r .before .before .before .before .before .before .before .before .before .before in
+    let b = i .before in
     let d = b .before .before .before .before .before in
     let a = d .args in
     let p = d .pre in
@@ -59,7 +60,7 @@ returns-2 c =
     let y = r .before .before .before .before .before .before .put-all-lists .ensures in
     let x = r .run-row in
     rw (c .none .ensures)
-    (λ s w e. runs-made s w (now (a .order)) (now (a .memory)) (plannedIn (a .a) st) e (r .before .before .before .before .before .before .before .before .before .before .if1 .left ∙ n) _ (x .result)
+    (λ s w e. runs-made s w (now (a .order)) (now (a .memory)) (plannedIn (a .a) st) e (i .if1 .left ∙ n) _ (x .result)
     (x .ensures (workIn (a .a) st) (step s w)
     (given-in (a .a) st p _ _ (bs .result .firsts) ld (l .0) (l .1) (omega (arith, y .long)) (y .each) s w e)))
 

@@ -5,7 +5,9 @@ use Rattle.vempaldi.proofs.vempaldi_blocks.Statement.{statement}
 use Rattle.vempaldi.proofs.vempaldi_blocks.Tie as tie
 
 returns : tie.Need-returns
-returns c = gives-told (now (c .before .before .before .before .before .before .before .before .args .answer)) (c .before .before .before .before .blocks2 .ensures) (c .tell-outcome .ensures)
+returns c =
+    let d = c .before .before .before .before in
+    gives-told (now (d .before .before .before .before .args .answer)) (d .blocks2 .ensures) (c .tell-outcome .ensures)
 
 pub vempaldi-blocks-spec : {M : Type 1} → statement M
 vempaldi-blocks-spec = tie.close (tie.spec (λ c κs. search needs) (λ c κs. search needs) (λ c. search needs) returns)

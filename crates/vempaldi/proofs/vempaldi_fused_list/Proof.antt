@@ -5,7 +5,9 @@ use Rattle.vempaldi.proofs.vempaldi_fused_list.Statement.{statement}
 use Rattle.vempaldi.proofs.vempaldi_fused_list.Tie as tie
 
 returns : tie.Need-returns
-returns c = gives-told (now (c .before .before .before .before .before .before .before .before .args .answer)) (c .before .before .before .before .list .ensures) (c .tell-outcome .ensures)
+returns c =
+    let d = c .before .before .before .before in
+    gives-told (now (d .before .before .before .before .args .answer)) (d .list .ensures) (c .tell-outcome .ensures)
 
 pub vempaldi-fused-list-spec : {M : Type 1} → statement M
 vempaldi-fused-list-spec = tie.close (tie.spec (λ c κs. search needs) (λ c κs. search needs) (λ c. search needs) returns)

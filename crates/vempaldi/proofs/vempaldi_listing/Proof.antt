@@ -5,7 +5,9 @@ use Rattle.vempaldi.proofs.vempaldi_listing.Statement.{statement}
 use Rattle.vempaldi.proofs.vempaldi_listing.Tie as tie
 
 returns : tie.Need-returns
-returns c = gives-told (now (c .before .before .before .before .before .before .before .before .args .answer)) (c .before .before .before .before .print-plan .ensures .gives) (c .tell-outcome .ensures)
+returns c =
+    let d = c .before .before .before .before in
+    gives-told (now (d .before .before .before .before .args .answer)) (d .print-plan .ensures .gives) (c .tell-outcome .ensures)
 
 pub vempaldi-listing-spec : {M : Type 1} → statement M
 vempaldi-listing-spec = tie.close (tie.spec (λ c κs. search needs) (λ c κs. search needs) (λ c. search needs) returns)

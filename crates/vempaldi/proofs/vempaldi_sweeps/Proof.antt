@@ -5,7 +5,9 @@ use Rattle.vempaldi.proofs.vempaldi_sweeps.Statement.{statement}
 use Rattle.vempaldi.proofs.vempaldi_sweeps.Tie as tie
 
 returns : tie.Need-returns
-returns c = gives-told (now (c .before .before .before .before .before .before .before .before .args .answer)) (c .before .before .before .before .sweeps .ensures) (c .tell-outcome .ensures)
+returns c =
+    let d = c .before .before .before .before in
+    gives-told (now (d .before .before .before .before .args .answer)) (d .sweeps .ensures) (c .tell-outcome .ensures)
 
 pub vempaldi-sweeps-spec : {M : Type 1} → statement M
 vempaldi-sweeps-spec = tie.close (tie.spec (λ c κs. search needs) (λ c κs. search needs) (λ c. search needs) returns)
