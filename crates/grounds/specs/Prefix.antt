@@ -113,7 +113,7 @@ module _ (s : List ℕ) (n : ℕ) (enough : 2077 ≤ n) (long : n ≤ length s) 
 
       go : ((m : ℕ) (r : Record) → Records s m (r ∷ rs) → Clears (r ∷ rs) → length s < m + f → n < m + g
           → readFrom g (take n s) m (r ∷ rs) ≡ readFrom f s m (r ∷ rs)) → (x : Tested) → tested s p (summary rs) (lengths rs) ≡ x
-          → follow (take n s) p rs (λ r m. readFrom g (take n s) m (r ∷ rs)) x ≡ follow s p rs (λ r m. readFrom f s m (r ∷ rs)) x
+          → follow (take n s) rs (λ r m. readFrom g (take n s) m (r ∷ rs)) x ≡ follow s rs (λ r m. readFrom f s m (r ∷ rs)) x
       go rest (Refused k) e = refl
       go rest (Passed r m) e =
           let (w, o) = passed-whole s p (summary rs) (lengths rs) r m e in

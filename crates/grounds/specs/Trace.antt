@@ -49,7 +49,7 @@ run-from (suc f) s p rs h l = go (λ n r. run-from f s n (r ∷ rs)) (tested s p
     ended n w false e = last (done w (ltb-false _ _ e))
 
     go : ((n : ℕ) (r : Record) → n ≤ length s → length s < n + f → Run s n (r ∷ rs) (readFrom f s n (r ∷ rs)))
-        → (x : Tested) → tested s p (summary rs) (lengths rs) ≡ x → Run s p rs (follow s p rs (λ r n. readFrom f s n (r ∷ rs)) x)
+        → (x : Tested) → tested s p (summary rs) (lengths rs) ≡ x → Run s p rs (follow s rs (λ r n. readFrom f s n (r ∷ rs)) x)
     go rest (Refused r) e =
         let (is, some) = tested-ground s p (summary rs) (lengths rs) r e in
         rw is (last (stop refl (rw is at some)))

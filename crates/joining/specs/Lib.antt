@@ -4,3 +4,5 @@ pub mod Joining
 pub mod Beside
 -- what is written is read back as one table
 pub mod ReadBack
+-- what joining is refused with
+pub mod Refused

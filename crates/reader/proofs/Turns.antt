@@ -61,7 +61,7 @@ module _ (s : List ℕ) (c : List ℕ) (t : Summary) (at rows : ℕ) (inv : Inv 
         sym (answered ∙ ap (λ (u : Summary). tested s at u c) summed ∙ tested-same (summary rs) c (lengths rs) lens-same s at)
 
     -- a turn of the definition
-    turn : (y : Tested) → x ≡ y → follow s at rs (λ r n. readFrom (left - 1) s n (r ∷ rs)) y ≡ reading s
+    turn : (y : Tested) → x ≡ y → follow s rs (λ r n. readFrom (left - 1) s n (r ∷ rs)) y ≡ reading s
     unfolding readFrom
     turn y e = let f : left ≡ suc (left - 1) = omega arith in rw (find, e) at (subst (λ (n : ℕ). readFrom n s at rs ≡ reading s) f rest)
 

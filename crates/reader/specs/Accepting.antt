@@ -64,7 +64,7 @@ from-rest (suc f) s at rs t e = go (λ r n. from-rest f s n (r ∷ rs) t) (teste
         (rs, ended (subst (Whole s at (summary rs) (lengths rs) End) m w), cc)
 
     go : ((r : Record) (n : ℕ) → readFrom f s n (r ∷ rs) ≡ accepted t → Gone s n (r ∷ rs) t) → (x : Tested)
-        → tested s at (summary rs) (lengths rs) ≡ x → follow s at rs (λ r n. readFrom f s n (r ∷ rs)) x ≡ accepted t → Gone s at rs t
+        → tested s at (summary rs) (lengths rs) ≡ x → follow s rs (λ r n. readFrom f s n (r ∷ rs)) x ≡ accepted t → Gone s at rs t
     go more (found.Refused g) k h = absurd (not-both h)
     go more (found.Passed r n) k h =
         let (w, o) = passed-whole s at (summary rs) (lengths rs) r n k in

@@ -34,15 +34,15 @@ abbrev pub Answer : Type 0
 Answer = AnswerOf Table
 
 -- after the tests of the record at a place: a ground refuses there; past the end record bytes left over are 8
-unfoldable pub follow : List ℕ → ℕ → List Record → (Record → ℕ → Answer) → Tested → Answer
-follow s at rs more (Refused r) = refused r
-follow s at rs more (Passed r n) = more r n
-follow s at rs more (Ended n) = refused (met 8 n) if ltb n (length s) else accepted (tableOf rs)
+unfoldable pub follow : List ℕ → List Record → (Record → ℕ → Answer) → Tested → Answer
+follow s rs more (Refused r) = refused r
+follow s rs more (Passed r n) = more r n
+follow s rs more (Ended n) = refused (met 8 n) if ltb n (length s) else accepted (tableOf rs)
 
 -- from a place on, after the records rs
 unfoldable pub readFrom : ℕ → List ℕ → ℕ → List Record → Answer
 readFrom zero s at rs = refused (met 1 at)
-readFrom (suc f) s at rs = follow s at rs (λ r n. readFrom f s n (r ∷ rs)) (tested s at (summary rs) (lengths rs))
+readFrom (suc f) s at rs = follow s rs (λ r n. readFrom f s n (r ∷ rs)) (tested s at (summary rs) (lengths rs))
 
 -- every record has a byte, so the length and one more bounds the number of records
 unfoldable pub reading : List ℕ → Answer

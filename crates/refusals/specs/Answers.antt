@@ -1,7 +1,7 @@
 -- An answer: what was asked for, or a refusal. Tests stand in the order in which they are made.
 use Prim.Native.Nat.{ℕ}
 use native.Mathlib.Omega.{arith}
-use mathlib.Core.Path.{_≡_, refl, sym, ap, _∙_}
+use mathlib.Core.Path.{_≡_, refl, sym, ap, subst}
 use mathlib.Core.Logic.{_⊎_, inl, inr}
 use mathlib.Core.Bool.{Bool, true, false}
 use Rattle.refusals.specs.declared.Refusal.{Refusal}
@@ -27,9 +27,9 @@ abbrev pub refusalOf : {T : Type 0} → AnswerOf T → Refusal
 refusalOf (refused r) = r
 refusalOf (accepted t) = none
 
--- a refusal has a ground: 0 is told of what is accepted and of nothing else
-abbrev pub Grounded : {T : Type 0} → AnswerOf T → Type 0
-Grounded a = (r : Refusal) → a ≡ refused r → r .ground ≡ 0 → ⊥
+-- every refusal of an answer is so
+abbrev pub Only : {T : Type 0} → (Refusal → Type 0) → AnswerOf T → Type 0
+Only P a = (r : Refusal) → a ≡ refused r → P r
 
 -- LAWS
 module _ {T : Type 0} where
@@ -42,22 +42,28 @@ module _ {T : Type 0} where
   told-refused (accepted t) r e some = absurd (some (ap (λ (x : Refusal). x .ground) e))
 
   -- a test before what is accepted
-  pub passed : (r : Refusal) (b : Bool) (more : AnswerOf T) (t : T) → (refused r if b else more) ≡ accepted t → (b ≡ false) × (more ≡ accepted t)
-  passed r true more t e = absurd (not-both e)
-  passed r false more t e = (refl, e)
+  pub goes-on : (r : Refusal) (b : Bool) (more : AnswerOf T) (t : T) → (refused r if b else more) ≡ accepted t → (b ≡ false) × (more ≡ accepted t)
+  goes-on r true more t e = absurd (not-both e)
+  goes-on r false more t e = (refl, e)
 
-  pub accepted-grounded : (t : T) → Grounded (accepted t)
-  accepted-grounded t r e z = not-both (sym e)
+-- what every refusal is, where nothing is refused, before a test, and before what follows
+module _ {T : Type 0} (P : Refusal → Type 0) where
+  pub accepted-only : (t : T) → Only P (accepted t)
+  accepted-only t r e = absurd (not-both (sym e))
 
-  pub if-grounded : (q : Refusal) (b : Bool) (more : AnswerOf T) → (q .ground ≡ 0 → ⊥) → Grounded more → Grounded (refused q if b else more)
-  if-grounded q true more some rest r e z = some (ap (λ (x : Refusal). x .ground) (ap refusalOf e) ∙ z)
-  if-grounded q false more some rest r e z = rest r e z
+  pub refused-only : (q : Refusal) → P q → Only {T = T} P (refused q)
+  refused-only q h r e = subst P (ap refusalOf e) h
+
+  pub if-only : (q : Refusal) (b : Bool) (more : AnswerOf T) → P q → Only P more → Only P (refused q if b else more)
+  if-only q true more h rest = refused-only q h
+  if-only q false more h rest = rest
+
+pub after-only : {T U : Type 0} (P : Refusal → Type 0) (a : AnswerOf T) (more : T → AnswerOf U) → Only P a → ((t : T) → Only P (more t))
+    → Only P (after a more)
+after-only P (refused q) more h rest = refused-only P q (h q refl)
+after-only P (accepted t) more h rest = rest t
 
 module _ {T U : Type 0} where
-  pub after-grounded : (a : AnswerOf T) (more : T → AnswerOf U) → Grounded a → ((t : T) → Grounded (more t)) → Grounded (after a more)
-  after-grounded (refused q) more some rest r e z = some q refl (ap (λ (x : Refusal). x .ground) (ap refusalOf e) ∙ z)
-  after-grounded (accepted t) more some rest r e z = rest t r e z
-
   -- what is accepted after an answer
   pub after-accepted : (a : AnswerOf T) (more : T → AnswerOf U) (u : U) → after a more ≡ accepted u → (t : T) × (a ≡ accepted t) × (more t ≡ accepted u)
   after-accepted (refused r) more u e = absurd (not-both e)

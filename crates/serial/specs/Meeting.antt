@@ -159,10 +159,10 @@ module _ (t : Table) (k : ℕ) (s : Statement) (body : loop t k .body ≡ s ∷ 
   reads-one = rw body (append-nil (reads k (s .items)))
 
   -- the two iterations in which the destination and a read at offset o meet
-  met : (n : ℕ) (q : Reference) → k < count t → n < length (allReads k (loop t k .body))
+  meet-at : (n : ℕ) (q : Reference) → k < count t → n < length (allReads k (loop t k .body))
       → getD (allReads k (loop t k .body)) n (destination k s) ≡ q → s .array ≡ q .array
       → (i j : ℕ) → Inside t (iteration k i) → Inside t (iteration k j) → i ≢ j → i + s .offset ≡ j + q .offset → Collides t k n
-  met n q few l e p i j a b f g = record {
+  meet-at n q few l e p i j a b f g = record {
     one = i;
     other = j;
     one-inside = a;
@@ -199,18 +199,18 @@ module _ (t : Table) (k : ℕ) (s : Statement) (body : loop t k .body ≡ s ∷ 
 
           go : Dec (q .offset < s .offset) → Collides t k n
           go (yes z) =
-              met n q few numbered named (sym (apart .0)) (first t k) (first t k + (s .offset - q .offset))
+              meet-at n q few numbered named (sym (apart .0)) (first t k) (first t k + (s .offset - q .offset))
               (few, omega arith, omega (arith, apart .3)) (few, omega arith, omega (arith, apart .3)) (λ h. omega arith) (omega arith)
           go (no z) =
-              met n q few numbered named (sym (apart .0)) (first t k + (q .offset - s .offset)) (first t k)
+              meet-at n q few numbered named (sym (apart .0)) (first t k + (q .offset - s .offset)) (first t k)
               (few, omega arith, omega (arith, apart .2, apart .1)) (few, omega arith, omega (arith, apart .2, apart .1))
               (λ h. apart .1 (omega arith)) (omega arith)
 
   -- two iterations that meet are found by the test
-  met-collides : (q : Reference) (i j : ℕ) → Inside t (iteration k i) → Inside t (iteration k j) → i ≢ j → s .array ≡ q .array
+  meet-found : (q : Reference) (i j : ℕ) → Inside t (iteration k i) → Inside t (iteration k j) → i ≢ j → s .array ≡ q .array
       → i + s .offset ≡ j + q .offset → collides span (s .array) (s .offset) (q .array) (q .offset) ≡ true
   unfolding span
-  met-collides q i j a b n p g =
+  meet-found q i j a b n p g =
       apart-collides span (s .array) (s .offset) (q .array) (q .offset) (sym p, (λ z. n (omega arith)), omega (arith, a, b), omega (arith, a, b))
 
   -- no read before the one that it names collides
@@ -230,7 +230,7 @@ module _ (t : Table) (k : ℕ) (s : Statement) (body : loop t k .body ≡ s ∷ 
           let at : x .one + s .offset ≡ x .other + q .offset = omega (arith, meets .1, ap (λ (r : Reference). r .offset) u) in
           false-true
           (sym (hit-lower k span (s .array) (s .offset) (s .items) 0 n (sym loop-hits ∙ e) m (x .target) (omega arith))
-          ∙ met-collides q (x .one) (x .other) (x .one-inside) (x .other-inside) (x .differ) same at)
+          ∙ meet-found q (x .one) (x .other) (x .one-inside) (x .other-inside) (x .differ) same at)
       go (inr v) = false-true (sym (read-stores k (s .items) (x .target) v) ∙ x .stores)
 
   -- where the test finds nothing, no two iterations meet
@@ -239,7 +239,7 @@ module _ (t : Table) (k : ℕ) (s : Statement) (body : loop t k .body ≡ s ∷ 
   unfolding hits span
   clash q i j h e a b n p g =
       let f = hit-none k span (s .array) (s .offset) (s .items) 0 (sym loop-hits ∙ e) q h in
-      false-true (sym f ∙ met-collides q i j a b n p g)
+      false-true (sym f ∙ meet-found q i j a b n p g)
 
   pub none-parallel : loopHit (loop t k) ≡ Nothing → Serial t k → ⊥
   none-parallel e x = go (cases-cons (rw refs-one at (x .left-in))) (cases-cons (rw refs-one at (x .right-in)))

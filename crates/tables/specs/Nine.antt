@@ -15,7 +15,7 @@ use Rattle.model.specs.Table.{Table, Statement, loop, count}
 use Rattle.model.specs.Sound.{Sound}
 use Rattle.refusals.specs.declared.Refusal.{Refusal}
 use Rattle.refusals.specs.Refusals.{met, naming}
-use Rattle.refusals.specs.Answers.{accepted, refused, refusalOf, Grounded, not-both, after-refused}
+use Rattle.refusals.specs.Answers.{accepted, refused, refusalOf, not-both, after-refused}
 use Rattle.reader.specs.Reading.{Answer, reading}
 use Rattle.serial.specs.declared.Collision.{Collision}
 use Rattle.serial.specs.declared.Collision.the-variants.{Nothing, Read}
@@ -123,13 +123,10 @@ module _ (s : List ℕ) where
           let w = lowest-from t 0 (count t) r g in
           subst (λ (q : Refusal). Told q s) (sym (w .is)) (serial t f (first-meeting t f r w))
 
-  -- so 0 is told of an accepted table alone
-  told-some : (r : Refusal) → Told r s → r .ground ≡ 0 → ⊥
+  -- a ground that is told is none of 0
+  pub told-some : (r : Refusal) → Told r s → r .ground ≡ 0 → ⊥
   told-some r (ground {n} {p} g) z = omega (arith, z, ground-number s n p g)
   told-some r (serial t f m) z = omega (arith, z)
-
-  pub table-grounded : Grounded (table s)
-  table-grounded r e = told-some r (refused-told r e)
 
   -- an accepted table was read, and no two iterations of a loop meet
   pub accepted-read : (t : Table) → table s ≡ accepted t → (reading s ≡ accepted t) × ((k : ℕ) → k < count t → Serial t k → ⊥)

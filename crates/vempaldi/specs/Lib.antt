@@ -1,4 +1,6 @@
 -- what an exported function leaves in the answer's numbers
 pub mod Answers
--- an answer's first number is 0 where the call is accepted and nowhere else
-pub mod Grounded
+-- what each exported function is refused with
+pub mod Refused
+-- the four numbers of an answer, by an example
+pub mod Example

@@ -4,6 +4,7 @@ use refusals::Refusal;
 use stepping::Report;
 use steps::Counts;
 ghost use mathlib.Core.Path.{_≡_};
+ghost use Prim.Native.Nat.{_≤_};
 ghost use lib.ListN.{length};
 ghost use Rattle.refusals.specs.Answers.{refusalOf};
 ghost use Rattle.serial.specs.Serial.{table as accepts};
@@ -87,6 +88,7 @@ pub extern "C" fn vempaldi_listing(
     ensures { λ r. ⌜ now (answer .exit) ≡ answered (refusalOf (fitted (length (now (out .entry))) (text (now (table .entry)) (settings processors)))) (now (answer .entry)) ⌝ }
     ensures { λ r. ⌜ r ≡ countOf (fitted (length (now (out .entry))) (text (now (table .entry)) (settings processors))) ⌝ }
     ensures { λ r. ⌜ now (out .exit) ≡ final (fitted (length (now (out .entry))) (text (now (table .entry)) (settings processors))) (now (out .entry)) ⌝ }
+    ensures { λ r. ⌜ length (text (now (table .entry)) (settings processors)) ≤ 212900 ⌝ }
 {
     let o = printing::print_plan(table, processors, out);
     tell_outcome(answer, o)
