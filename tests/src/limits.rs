@@ -336,6 +336,12 @@ fn several_loops() -> Vec<Case> {
             1,
         ),
         case("the second loop reads what the first stores", both(&none, &[(1, 0), (0, 0)]), 0, 0),
+        names(
+            "the sixteenth loop alone is serial",
+            summed((0..15).fold(two_arrays(), |table, _| summed(table, &none)), &late).end(),
+            15,
+            2,
+        ),
     ]
 }
 

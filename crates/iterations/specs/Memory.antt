@@ -13,7 +13,7 @@ use Rattle.model.specs.Table.{Statement, Table, loop, count, first, last, itera
 use Rattle.model.specs.Bodies.{place, value, performed, run}
 use Rattle.model.specs.PlainRun.{upward, looped, plainRun}
 use Rattle.refusals.specs.Refusals.{met}
-use Rattle.refusals.specs.Answers.{AnswerOf, accepted, refused, _if_else_, after, goes-on, after-accepted}
+use Rattle.refusals.specs.Answers.{AnswerOf, accepted, refused, _if_else_, after, if-accepted, after-accepted}
 use Rattle.grounds.specs.Statements.{sum}
 
 -- how many elements the arrays have in all
@@ -30,7 +30,7 @@ module _ {T : Type 0} (size : T → ℕ) where
   unfolding remembered
   remembered-accepted n a t e =
       let (u, f, g) = after-accepted a _ t e in
-      let (like, h) = goes-on (met 12 0) (not (eqb n (size u))) (accepted u) t g in
+      let (like, h) = if-accepted (met 12 0) (not (eqb n (size u))) (accepted u) t g in
       let z : u ≡ t = cc in
       (f ∙ h, eqb-true n (size u) (not-false (eqb n (size u)) like) ∙ ap size z)
 

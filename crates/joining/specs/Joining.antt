@@ -10,7 +10,7 @@ use lib.Dec.{eqb, ltb}
 use borrow.Author.Tests.{eqb-true, eq-eqb, ltb-false, not-false}
 use Rattle.model.specs.Table.{Table, count}
 use Rattle.refusals.specs.Refusals.{met}
-use Rattle.refusals.specs.Answers.{accepted, refused, _if_else_, after, goes-on, after-accepted}
+use Rattle.refusals.specs.Answers.{accepted, refused, _if_else_, after, if-accepted, after-accepted}
 use Rattle.serial.specs.Serial.{table}
 use Rattle.outputs.specs.Given.{Given, fitted}
 
@@ -74,9 +74,9 @@ unfolding joining fitted
 written-known left right room bs e =
     let (t, f, h) = after-accepted (table left) _ bs e in
     let (u, g, k) = after-accepted (table right) _ bs h in
-    let (like, k₂) = goes-on (met 14 0) (not (alike (t .lengths) (u .lengths))) _ bs k in
-    let (few, k₃) = goes-on (met 4 0) (ltb 16 (count t + count u)) _ bs k₂ in
-    let (fits, k₄) = goes-on (met 13 0) (ltb room (length (bytes left right (length (t .lengths))))) _ bs k₃ in
+    let (like, k₂) = if-accepted (met 14 0) (not (alike (t .lengths) (u .lengths))) _ bs k in
+    let (few, k₃) = if-accepted (met 4 0) (ltb 16 (count t + count u)) _ bs k₂ in
+    let (fits, k₄) = if-accepted (met 13 0) (ltb room (length (bytes left right (length (t .lengths))))) _ bs k₃ in
     let made : bytes left right (length (t .lengths)) ≡ bs = cc in
     record {
       ours = t;

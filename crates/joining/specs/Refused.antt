@@ -33,24 +33,34 @@ module _ (left right : List ℕ) where
   both-some r crowd z = omega (arith, z)
   both-some r buffer z = omega (arith, z)
 
-  abbrev P : Refusal → Type 0
-  P = OfBoth left right
+  abbrev Allowed : Refusal → Type 0
+  Allowed = OfBoth left right
 
   -- after both tables
-  tests-only : (t u : Table) (room : ℕ) (bs : List ℕ) → Only P (
+  tests-only : (t u : Table) (room : ℕ) (bs : List ℕ) → Only Allowed (
       refused (met 14 0) if not (alike (t .lengths) (u .lengths)) else
       refused (met 4 0) if ltb 16 (count t + count u) else
       fitted room bs)
   unfolding fitted
   tests-only t u room bs =
-      if-only P (met 14 0) (not (alike (t .lengths) (u .lengths))) _ unlike
-      (if-only P (met 4 0) (ltb 16 (count t + count u)) _ crowd
-      (if-only P (met 13 0) (ltb room (length bs)) (accepted bs) buffer (accepted-only P bs)))
+      if-only Allowed (met 14 0) (not (alike (t .lengths) (u .lengths))) _ unlike
+      (if-only Allowed (met 4 0) (ltb 16 (count t + count u)) _ crowd
+      (if-only Allowed (met 13 0) (ltb room (length bs)) (accepted bs) buffer (accepted-only Allowed bs)))
 
-  pub join-refused : (room : ℕ) → Only P (joining left right room)
+  pub join-refused : (room : ℕ) → Only Allowed (joining left right room)
   unfolding joining
   join-refused room = go (table left) refl
     where
-      go : (a : Answer) → table left ≡ a → Only P (joining left right room)
+      go : (a : Answer) → table left ≡ a → Only Allowed (joining left right room)
       go (refused q) e = λ r f. in-left (refused-told left r (e ∙ ap refused (ap refusalOf (rw e at f))))
-      go (accepted t) e = rw e (after-only P (table right) _ (λ r f. in-right t e (refused-told right r f)) (λ u. tests-only t u room _))
+      go (accepted t) e = rw e (after-only Allowed (table right) _ (λ r f. in-right t e (refused-told right r f)) (λ u. tests-only t u room _))
+
+-- a table that is refused decides: left's, and where left is accepted right's
+pub left-decides : (left right : List ℕ) (room : ℕ) (r : Refusal) → table left ≡ refused r → joining left right room ≡ refused r
+unfolding joining
+left-decides left right room r e = rw e
+
+pub right-decides : (left right : List ℕ) (room : ℕ) (t : Table) (r : Refusal) → table left ≡ accepted t → table right ≡ refused r
+    → joining left right room ≡ refused r
+unfolding joining
+right-decides left right room t r e f = rw (e, f)

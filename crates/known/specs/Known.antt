@@ -1,4 +1,4 @@
--- The known results, from bytes and by computation, in the paper's order.
+-- The known results, from bytes and by computation, in the paper's order, and one of what 9 names.
 use Prim.Native.Nat.{ℕ, zero, suc, _+_, _-_}
 use mathlib.Core.Path.{_≡_, refl}
 use mathlib.Core.List.{List, [], _∷_, _++_}

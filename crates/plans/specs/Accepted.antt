@@ -11,7 +11,7 @@ use Rattle.model.specs.Table.{Table, count, first, last}
 use Rattle.model.specs.References.{allRefs}
 use Rattle.model.specs.Sound.{Sound}
 use Rattle.refusals.specs.Refusals.{met}
-use Rattle.refusals.specs.Answers.{accepted, refused, goes-on, after-accepted}
+use Rattle.refusals.specs.Answers.{accepted, refused, if-accepted, after-accepted}
 use Rattle.reader.specs.Reading.{Answer}
 use Rattle.serial.specs.Serial.{table}
 use Rattle.grounds.specs.Accepted.{Valid, accepted-valid, valid-last}
@@ -121,8 +121,8 @@ fitting-accepted : (wrong : Bool) (w : Settings) (a : Answer) (q : Planned) → 
 unfolding fitting
 fitting-accepted wrong w a q e =
     let (t, f, g) = after-accepted a _ q e in
-    let (b, h) = goes-on (met 10 0) wrong (fits w t) q g in
-    let (short, k) = goes-on (met 11 0) (shortFor t w) (accepted (record { table = t; plan = planOf t w })) q h in
+    let (b, h) = if-accepted (met 10 0) wrong (fits w t) q g in
+    let (short, k) = if-accepted (met 11 0) (shortFor t w) (accepted (record { table = t; plan = planOf t w })) q h in
     let z : record { table = t; plan = planOf t w } ≡ q = cc in
     subst (λ (x : Planned). (a ≡ accepted (x .table)) × (x .plan ≡ planOf (x .table) w) × (wrong ≡ false) × (shortFor (x .table) w ≡ false)) z
     (f, refl, b, short)

@@ -42,22 +42,23 @@ module _ {T : Type 0} where
   told-refused (accepted t) r e some = absurd (some (ap (λ (x : Refusal). x .ground) e))
 
   -- a test before what is accepted
-  pub goes-on : (r : Refusal) (b : Bool) (more : AnswerOf T) (t : T) → (refused r if b else more) ≡ accepted t → (b ≡ false) × (more ≡ accepted t)
-  goes-on r true more t e = absurd (not-both e)
-  goes-on r false more t e = (refl, e)
+  pub if-accepted : (r : Refusal) (b : Bool) (more : AnswerOf T) (t : T) → (refused r if b else more) ≡ accepted t → (b ≡ false) × (more ≡ accepted t)
+  if-accepted r true more t e = absurd (not-both e)
+  if-accepted r false more t e = (refl, e)
 
--- what every refusal is, where nothing is refused, before a test, and before what follows
+-- what every refusal is, where nothing is refused, and before a test
 module _ {T : Type 0} (P : Refusal → Type 0) where
   pub accepted-only : (t : T) → Only P (accepted t)
   accepted-only t r e = absurd (not-both (sym e))
 
-  pub refused-only : (q : Refusal) → P q → Only {T = T} P (refused q)
+  refused-only : (q : Refusal) → P q → Only {T = T} P (refused q)
   refused-only q h r e = subst P (ap refusalOf e) h
 
   pub if-only : (q : Refusal) (b : Bool) (more : AnswerOf T) → P q → Only P more → Only P (refused q if b else more)
   if-only q true more h rest = refused-only q h
   if-only q false more h rest = rest
 
+-- and before what follows
 pub after-only : {T U : Type 0} (P : Refusal → Type 0) (a : AnswerOf T) (more : T → AnswerOf U) → Only P a → ((t : T) → Only P (more t))
     → Only P (after a more)
 after-only P (refused q) more h rest = refused-only P q (h q refl)

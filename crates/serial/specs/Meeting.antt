@@ -158,7 +158,7 @@ module _ (t : Table) (k : ℕ) (s : Statement) (body : loop t k .body ≡ s ∷ 
   reads-one : allReads k (loop t k .body) ≡ reads k (s .items)
   reads-one = rw body (append-nil (reads k (s .items)))
 
-  -- the two iterations in which the destination and a read at offset o meet
+  -- the two iterations in which the destination and a read meet
   meet-at : (n : ℕ) (q : Reference) → k < count t → n < length (allReads k (loop t k .body))
       → getD (allReads k (loop t k .body)) n (destination k s) ≡ q → s .array ≡ q .array
       → (i j : ℕ) → Inside t (iteration k i) → Inside t (iteration k j) → i ≢ j → i + s .offset ≡ j + q .offset → Collides t k n

@@ -84,7 +84,7 @@ fn loop_hit(k: usize, store: &Store) -> Collision
     )
 }
 
-// The loops of a table in a store, from the first on: 9 names the lowest that collides and its first read that does.
+// The loops of a table in a store, from the first on: 9 carries the lowest that collides, and names its first read that does.
 fn check_loops(store: &Store) -> Refusal
     requires { ⌜ Held (now store) ⌝ }
     ensures { λ r. ⌜ ReadInto (through (accepted (tableIn (now (store .entry))))) r (now (store .entry)) ⌝ }

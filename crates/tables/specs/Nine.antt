@@ -123,7 +123,7 @@ module _ (s : List ℕ) where
           let w = lowest-from t 0 (count t) r g in
           subst (λ (q : Refusal). Told q s) (sym (w .is)) (serial t f (first-meeting t f r w))
 
-  -- a ground that is told is none of 0
+  -- a ground that is told is not 0
   pub told-some : (r : Refusal) → Told r s → r .ground ≡ 0 → ⊥
   told-some r (ground {n} {p} g) z = omega (arith, z, ground-number s n p g)
   told-some r (serial t f m) z = omega (arith, z)
@@ -144,8 +144,8 @@ module _ (s : List ℕ) where
       accepted-read t e .1 p (rw z at (g .there)) (rw z at (g .meets))
 
   -- the loop and the read of 9 are the only ones: where the bytes are read and two iterations meet, that is the answer
-  pub nine-only : (t : Table) (p n : ℕ) → reading s ≡ accepted t → FirstMeeting t p n → table s ≡ refused (naming 9 p n 0)
-  nine-only t p n f m = go (table s) refl
+  pub nine-where : (t : Table) (p n : ℕ) → reading s ≡ accepted t → FirstMeeting t p n → table s ≡ refused (naming 9 p n 0)
+  nine-where t p n f m = go (table s) refl
     where
       same-loop : (q i : ℕ) → FirstMeeting t q i → Dec (p < q) → Dec (q < p) → p ≡ q
       same-loop q i w (yes l) d = absurd (w .lowest-loop p l (m .meets))

@@ -12,17 +12,17 @@ use Rattle.stepping.specs.Step.{reportOf, step}
 
 -- an answer: the ground's number, 0 for none; the place; the two numbers that are named
 abbrev pub answered : Refusal → List ℕ → List ℕ
-answered r w = set (set (set (set w 0 (r .ground)) 1 (r .place)) 2 (r .first)) 3 (r .second)
+answered r xs = set (set (set (set xs 0 (r .ground)) 1 (r .place)) 2 (r .first)) 3 (r .second)
 
 -- a report: 0, a loop and an iteration; 1 where the processor waits; 2 where it is finished. A refused call leaves it as found
 abbrev pub written : ℕ → ℕ → ℕ → List ℕ → List ℕ
-written kind number index w = set (set (set w 0 kind) 1 number) 2 index
+written kind number index xs = set (set (set xs 0 kind) 1 number) 2 index
 
 unfoldable pub reported : Report → List ℕ → List ℕ
-reported (Refused r) w = w
-reported (Performed number index) w = written 0 number index w
-reported Waiting w = written 1 0 0 w
-reported Finished w = written 2 0 0 w
+reported (Refused r) xs = xs
+reported (Performed number index) xs = written 0 number index xs
+reported Waiting xs = written 1 0 0 xs
+reported Finished xs = written 2 0 0 xs
 
 -- what is refused
 unfoldable pub refusalIn : Report → Refusal

@@ -26,10 +26,13 @@ use Rattle.plain.specs.Plain.{plainAnswer}
 use Rattle.turns.specs.Turn.{Said, next, stepped, wrongState}
 use Rattle.turns.specs.Reach.{Turn, does, halts, stops, turn-is}
 use Rattle.turns.specs.Meaning.{turn-said}
-use Rattle.stepping.specs.declared.Report.the-variants.{Refused}
+use Rattle.stepping.specs.declared.Report.{Report}
+use Rattle.stepping.specs.declared.Report.the-variants.{Refused, Performed, Waiting, Finished}
 use Rattle.stepping.specs.Step.{workOf, reportOf, elements, steppedBy, step}
 use Rattle.stepping.specs.Run.{runAnswer}
-use Rattle.vempaldi.specs.Answers.{reportAt}
+use Rattle.listing.specs.Listing.{refusalLine}
+use Rattle.printing.specs.Printing.{textOf, text}
+use Rattle.vempaldi.specs.Answers.{refusalIn, reportAt}
 
 -- a call on the table's bytes s, whose own grounds are these
 pub data Of (s : List ℕ) (own : List ℕ) : Refusal → Type 0 where
@@ -42,7 +45,7 @@ of-some s own r (told h) z = told-some s r h z
 of-some s own r (later m l) z = omega (arith, z)
 
 module _ (s : List ℕ) where
-  -- the last test of each call
+  -- with these grounds of its own
   module _ (own : List ℕ) where
     fitted-only : Mem 13 own → (room : ℕ) (bs : List ℕ) → Only (Of s own) (fitted room bs)
     unfolding fitted
@@ -54,7 +57,7 @@ module _ (s : List ℕ) where
         after-only (Of s own) a _ h (λ t.
         if-only (Of s own) (met 12 0) (not (eqb n (size t))) (accepted t) (later m (omega arith)) (accepted-only (Of s own) t))
 
-    -- what follows reading
+    -- reading, and the planner
     table-only : Only (Of s own) (table s)
     table-only r e = told (refused-told s r e)
 
@@ -119,10 +122,10 @@ turn-goes-on q b cs x (does n come opened more) r e = let z : _≡_ {A = ℕ} 0 
 turn-goes-on q b cs x (halts n come some which) r e = let z : _≡_ {A = ℕ} 0 1 = cc in omega arith
 turn-goes-on q b cs x (stops used opened) r e = let z : _≡_ {A = ℕ} 0 1 = cc in omega arith
 
-pub step-refused : (s : List ℕ) (w : Settings) (b : ℕ) (cs : List ℕ) (m : List Float) (r : Refusal)
+report-refused : (s : List ℕ) (w : Settings) (b : ℕ) (cs : List ℕ) (m : List Float) (r : Refusal)
     → reportAt s w b cs m ≡ Refused r → Of s (10 ∷ 11 ∷ 12 ∷ 15 ∷ []) r
 unfolding step steppedBy stepped
-step-refused s w b cs m r =
+report-refused s w b cs m r =
     go (remembered elements (length m) (plannedFor s w b))
     (remembered-only s _ (mthere (mthere (mhere refl))) elements (length m) (plannedFor s w b) (named-only s _ (mhere refl) (mthere (mhere refl)) w b))
   where
@@ -140,3 +143,54 @@ step-refused s w b cs m r =
         → Of s (10 ∷ 11 ∷ 12 ∷ 15 ∷ []) r
     go (refused q) h e = h r (ap refused (same q e))
     go (accepted q) h e = at q (wrongState (workOf q) cs) refl e
+
+-- what is told of a step is its report's refusal
+pub step-refused : (s : List ℕ) (w : Settings) (b : ℕ) (cs : List ℕ) (m : List Float) → (refusalIn (reportAt s w b cs m) .ground ≡ 0 → ⊥)
+    → Of s (10 ∷ 11 ∷ 12 ∷ 15 ∷ []) (refusalIn (reportAt s w b cs m))
+unfolding refusalIn
+step-refused s w b cs m = go (reportAt s w b cs m) refl
+  where
+    go : (x : Report) → reportAt s w b cs m ≡ x → (refusalIn x .ground ≡ 0 → ⊥) → Of s (10 ∷ 11 ∷ 12 ∷ 15 ∷ []) (refusalIn x)
+    go (Refused r) e some = report-refused s w b cs m r e
+    go (Performed k i) e some = absurd (some refl)
+    go Waiting e some = absurd (some refl)
+    go Finished e some = absurd (some refl)
+
+-- A TABLE THAT IS REFUSED DECIDES: every call on it is refused with what check is, whatever else it is given
+module _ (s : List ℕ) (r : Refusal) (e : table s ≡ refused r) where
+  pub amounts-decided : (room : ℕ) → amounts s room ≡ refused r
+  unfolding amounts
+  amounts-decided room = rw e
+
+  pub threshold-decided : (room : ℕ) → thresholds s room ≡ refused r
+  unfolding thresholds
+  threshold-decided room = rw e
+
+  pub sweeps-decided : (room : ℕ) → sweepsGiven s room ≡ refused r
+  unfolding sweepsGiven
+  sweeps-decided room = rw e
+
+  pub blocks-decided : (w : Settings) (room : ℕ) → blocksGiven s w room ≡ refused r
+  unfolding blocksGiven planned fitting
+  blocks-decided w room = rw e
+
+  pub list-decided : (phase : ℕ) (w : Settings) (b room : ℕ) → listGiven phase s w b room ≡ refused r
+  unfolding listGiven plannedFor fitting
+  list-decided phase w b room = rw e
+
+  pub plain-decided : (n : ℕ) → plainAnswer s n ≡ refused r
+  unfolding plainAnswer remembered
+  plain-decided n = rw e
+
+  pub run-decided : (w : Settings) (n : ℕ) → runAnswer s w n ≡ refused r
+  unfolding planned fitting remembered
+  run-decided w n = rw e
+
+  pub step-decided : (w : Settings) (b : ℕ) (cs : List ℕ) (m : List Float) → refusalIn (reportAt s w b cs m) ≡ r
+  unfolding refusalIn step steppedBy plannedFor fitting remembered
+  step-decided w b cs m = rw e
+
+  -- the listing's text is the line of that refusal
+  pub text-decided : (w : Settings) → text s w ≡ refusalLine (r .ground) (r .place)
+  unfolding text textOf planned fitting
+  text-decided w = rw e
