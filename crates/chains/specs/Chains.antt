@@ -43,7 +43,7 @@ some-or-all {A} {Q} {R} f (y ∷ l) = go (f y) (some-or-all f l)
     go (inr q) (inl (x, m, p)) = inl (x, mthere m, p)
     go (inr q) (inr r) = inr λ x. elim [ mhere e ↦ rw e q | mthere m ↦ r x m ]
 
-last-dependence : {rs : List Reference} {k : ℕ} → Chain rs k → (x : Reference) × (y : Reference) × Dependence rs x y × (y .number ≡ k)
+pub last-dependence : {rs : List Reference} {k : ℕ} → Chain rs k → (x : Reference) × (y : Reference) × Dependence rs x y × (y .number ≡ k)
 last-dependence (one {x} {y} d) = (x, y, d, refl)
 last-dependence (more {x} {y} c d) = (x, y, d, refl)
 

@@ -8,3 +8,5 @@ pub mod Order
 pub mod Below
 -- the lists of all processors: each iteration of a table in one of them
 pub mod Fusion
+-- each iteration in one list, once: what that says
+pub mod EachOnce

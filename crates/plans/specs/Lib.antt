@@ -4,3 +4,5 @@ pub mod Plans
 pub mod Accepted
 -- what the code leaves of it
 pub mod Code
+-- demand 2, from a table's bytes
+pub mod FromBytes

@@ -1,0 +1,106 @@
+-- DEMAND 2, from a table's bytes. Where they are accepted, each loop's shift and peel are the largest totals over all chains of dependences that
+-- end at it, and the threshold is the largest sum of the two of one loop; where they are planned for, the plan has these shifts and peels, and
+-- each iteration stands in one list, once.
+use Prim.Native.Nat.{ℕ, zero, suc, _+_, _≤_, _<_}
+use native.Mathlib.Omega.{arith}
+use native.Mathlib.Decide.{decLt}
+use mathlib.Core.Path.{_≡_, sym, _∙_}
+use mathlib.Core.Logic.{_⊎_, inl, inr, ⊎-elim}
+use mathlib.Core.List.{List}
+use mathlib.Core.List.{List·Memᴰ as Mem}
+use lib.ListN.{getD}
+use Rattle.model.specs.declared.Iteration.{Iteration}
+use Rattle.model.specs.Table.{Table, count, Inside}
+use Rattle.model.specs.References.{allRefs}
+use Rattle.refusals.specs.Answers.{accepted}
+use Rattle.serial.specs.Serial.{table}
+use Rattle.chains.specs.Dependence.{backward, forward}
+use Rattle.chains.specs.Chains.{Chain, Largest, last-dependence}
+use Rattle.chains.specs.Tables.{shift-largest, peel-largest, allRefs-refs, plan-least}
+use Rattle.chains.specs.Legal.{LegalPlan}
+use Rattle.chains.specs.Walk.{shifts, peels}
+use Rattle.chains.specs.Threshold.{threshold-attained, threshold-upper}
+use Rattle.lists.specs.Fusion.{work, fusedList, peeledList, Once, once, owner, phase}
+use Rattle.lists.specs.EachOnce.{EachOnce}
+use Rattle.plans.specs.Plans.{Settings, Planned, shiftOf, peelOf, thresholdOf, planned}
+use Rattle.plans.specs.Accepted.{AcceptedPlan, valid, planned-accepts}
+
+-- SHIFTS, PEELS, THRESHOLD
+module _ (s : List ℕ) (t : Table) (read : table s ≡ accepted t) where
+  few : count t ≤ 16
+  few = valid s t read .few-loops
+
+  pub shifts-largest : (k : ℕ) → Largest backward (allRefs t) k (shiftOf t k)
+  shifts-largest = shift-largest t few
+
+  pub peels-largest : (k : ℕ) → Largest forward (allRefs t) k (peelOf t k)
+  peels-largest = peel-largest t few
+
+  -- no shifts and peels that meet every dependence are smaller
+  pub none-smaller : (a p : List ℕ) → LegalPlan (allRefs t) a p → (k : ℕ) → (shiftOf t k ≤ getD a k 0) × (peelOf t k ≤ getD p k 0)
+  none-smaller = plan-least t few
+
+  -- past the last loop no chain ends
+  none-past : (k : ℕ) → count t ≤ k → Chain (allRefs t) k → ⊥
+  none-past k l c =
+      let (x, y, d, e) = last-dependence c in
+      omega (arith, e, allRefs-refs t y (d .to) .0)
+
+  past-zero : (k n : ℕ) (amount : _) → count t ≤ k → Largest amount (allRefs t) k n → n ≡ 0
+  past-zero k n amount l h = ⊎-elim (λ r. absurd (none-past k l (r .0))) (λ r. r .1) (h .attained)
+
+  -- some loop's shift and peel together are the threshold, and no loop's are more
+  pub threshold-some : (k : ℕ) × (k < count t) × (shiftOf t k + peelOf t k ≡ thresholdOf t)
+  threshold-some =
+      let (k, l, e) = threshold-attained (shifts (allRefs t)) (peels (allRefs t)) in
+      go k e (decLt k (count t))
+    where
+      go : (k : ℕ) → shiftOf t k + peelOf t k ≡ thresholdOf t → Dec (k < count t)
+          → (k : ℕ) × (k < count t) × (shiftOf t k + peelOf t k ≡ thresholdOf t)
+      go k e (yes l) = (k, l, e)
+      go k e (no l) =
+          let a = past-zero k (shiftOf t k) backward (omega arith) (shifts-largest k) in
+          let b = past-zero k (peelOf t k) forward (omega arith) (peels-largest k) in
+          let most = threshold-upper (shifts (allRefs t)) (peels (allRefs t)) 0 (omega arith) in
+          (0, omega (arith, valid s t read .some-loops), omega (arith, a, b, e, most))
+
+  pub threshold-most : (k : ℕ) → k < count t → shiftOf t k + peelOf t k ≤ thresholdOf t
+  threshold-most k l = threshold-upper (shifts (allRefs t)) (peels (allRefs t)) k (omega (arith, few))
+
+-- LISTS
+module _ (s : List ℕ) (w : Settings) (q : Planned) (planned-is : planned s w ≡ accepted q) where
+  abbrev law : AcceptedPlan s w q
+  law = planned-accepts s w q planned-is
+
+  -- the plan has the largest totals
+  pub plan-shifts : (k : ℕ) → Largest backward (allRefs (q .table)) k (q .plan .shift k)
+  plan-shifts k = rw (law .plan-is) (shifts-largest s (q .table) (law .read) k)
+
+  pub plan-peels : (k : ℕ) → Largest forward (allRefs (q .table)) k (q .plan .peel k)
+  plan-peels k = rw (law .plan-is) (peels-largest s (q .table) (law .read) k)
+
+  -- each iteration stands in one list, once
+  pub each-once : EachOnce (q .table) (q .plan)
+  each-once = record {
+    stands = stands;
+    one-fused = λ x b d l i m n. home .alone 0 b x (omega arith) l m .1 ∙ sym (home .alone 0 d x (omega arith) i n .1);
+    one-peeled = λ x b d l i m n. home .alone 1 b x (omega arith) l m .1 ∙ sym (home .alone 1 d x (omega arith) i n .1);
+    not-both = λ x b d l i m n. omega (arith, home .alone 0 b x (omega arith) l m .2, home .alone 1 d x (omega arith) i n .2);
+    fused-once = λ b l. home .single 0 b (omega arith) l;
+    peeled-once = λ b l. home .single 1 b (omega arith) l;
+    fused-inside = λ b x l m. home .alone 0 b x (omega arith) l m .0;
+    peeled-inside = λ b x l m. home .alone 1 b x (omega arith) l m .0;
+  }
+    where
+      home : Once (q .table) (q .plan) (law .fit .wide)
+      home = once (q .table) (q .plan) (law .fit .wide)
+
+      at : (n b : ℕ) (x : Iteration) → Mem x (work (q .table) (q .plan) n b) → Mem x (fusedList (q .table) (q .plan) b) ⊎ Mem x (peeledList (q .table) (q .plan) b)
+      at zero b x m = inl m
+      at (suc n) b x m = inr m
+
+      stands : (x : Iteration) → Inside (q .table) x → (b : ℕ) × (b < q .plan .processors)
+          × (Mem x (fusedList (q .table) (q .plan) b) ⊎ Mem x (peeledList (q .table) (q .plan) b))
+      stands x i =
+          let (l, n, m) = home .listed x i in
+          (owner (q .table) (q .plan) x, l, at (phase (q .table) (q .plan) x) (owner (q .table) (q .plan) x) x m)
