@@ -4,3 +4,5 @@ pub mod Answers
 pub mod Refused
 -- the four numbers of an answer, by an example
 pub mod Example
+-- what the numbers of a step's answer say
+pub mod Steps

@@ -1,0 +1,154 @@
+-- Each exported function on one table is refused only with a ground that holds. So the first number of an answer is 0 where the call is accepted and
+-- nowhere else.
+use Prim.Native.Nat.{ℕ, _≤_}
+use native.Mathlib.Omega.{arith}
+use mathlib.Core.Path.{_≡_, refl, sym, ap, subst, _∙_}
+use mathlib.Core.Bool.{Bool, true, false, false≢true, not}
+use mathlib.Core.List.{List, [], _∷_}
+use lib.Dec.{eqb, ltb}
+use lib.ListN.{length}
+use lib.Ieee.{Float}
+use borrow.Author.Tests.{ltb-true, eq-eqb}
+use Rattle.refusals.specs.declared.Refusal.{Refusal}
+use Rattle.refusals.specs.Refusals.{met}
+use Rattle.refusals.specs.Answers.{AnswerOf, accepted, refused, _if_else_, after, refusalOf, Only, accepted-only, if-only}
+use Rattle.model.specs.declared.Iteration.{Iteration}
+use Rattle.model.specs.Table.{Table, iteration}
+use Rattle.model.specs.Bodies.{run}
+use Rattle.numbers.specs.Numbers.{encoded}
+use Rattle.serial.specs.Serial.{table}
+use Rattle.tables.specs.Nine.{told-some, refused-told}
+use Rattle.outputs.specs.Given.{fitted}
+use Rattle.plans.specs.Plans.{Settings, Planned, planOf, thresholdOf, shortFor, badProcessors, badNumber, fits, fitting, planned, plannedFor}
+use Rattle.sweeps.specs.Sweeps as Sweeps
+use Rattle.entries.specs.Entries.{amountsOf, blocksOf, listedOf, amounts, thresholds, sweepsGiven, blocksGiven, listGiven}
+use Rattle.iterations.specs.Memory.{total, remembered}
+use Rattle.plain.specs.Plain.{plainAnswer}
+use Rattle.turns.specs.Turn.{Said, refuses, next, stepped, wrongState}
+use Rattle.turns.specs.Reach.{Turn, does, halts, stops, turn-is}
+use Rattle.turns.specs.Meaning.{turn-said}
+use Rattle.stepping.specs.Step.{workOf, elements, steppedBy, step}
+use Rattle.stepping.specs.Run.{runAnswer}
+use Rattle.answers.specs.Statements.{BadProcessors, BadNumber, Short}
+use Rattle.answers.specs.Tests.{Decides, ten, ten-named, eleven, fifteen}
+use Rattle.answers.specs.Refusing.{Then, before, here, ReadRefused, FitRefused, PlanRefused, NamedRefused, MemoryRefused, OutputRefused, StateRefused}
+
+-- a test of what an answer accepts, and then more
+test-only : {T U : Type 0} (P : Refusal → Type 0) (a : AnswerOf T) (g : ℕ) (test : T → Bool) (more : T → AnswerOf U) → Only P a
+    → ((t : T) → a ≡ accepted t → test t ≡ true → P (met g 0)) → ((t : T) → a ≡ accepted t → test t ≡ false → Only P (more t))
+    → Only P (after a (λ t. refused (met g 0) if test t else more t))
+test-only P (refused q) g test more first given past = λ r e. first r (ap refused (ap refusalOf e))
+test-only {U} P (accepted t) g test more first given past = go (test t) refl
+  where
+    go : (x : Bool) → test t ≡ x → Only {T = U} P (refused (met g 0) if x else more t)
+    go true e r f = subst P (ap refusalOf f) (given t refl e)
+    go false e r f = past t refl e r f
+
+-- no refusal has the ground 0
+pub then-some : {T : Type 0} (a : AnswerOf T) (Before : Refusal → Type 0) (g : ℕ) (Holds : T → Type 0) → 1 ≤ g
+    → ((r : Refusal) → Before r → r .ground ≡ 0 → ⊥) → (r : Refusal) → Then a Before g Holds r → r .ground ≡ 0 → ⊥
+then-some a Before g Holds l some r (before h) z = some r h z
+then-some a Before g Holds l some r (here t e h) z = omega (arith, z)
+
+-- 12 and 13 after any answer
+module _ {T : Type 0} (a : AnswerOf T) (Before : Refusal → Type 0) (first : Only Before a) where
+  remembered-only : (size : T → ℕ) (n : ℕ) → Only (MemoryRefused a Before size n) (remembered size n a)
+  unfolding remembered
+  remembered-only size n =
+      test-only (MemoryRefused a Before size n) a 12 (λ t. not (eqb n (size t))) accepted (λ r e. before (first r e))
+      (λ t e x. here t e (λ same. false≢true (rw (eq-eqb n (size t) same) at x)))
+      (λ t e x. accepted-only _ t)
+
+  fitted-only : (bytes : T → List ℕ) (room : ℕ) → Only (OutputRefused a Before bytes room) (after a (λ t. fitted room (bytes t)))
+  unfolding fitted
+  fitted-only bytes room =
+      test-only (OutputRefused a Before bytes room) a 13 (λ t. ltb room (length (bytes t))) (λ t. accepted (bytes t)) (λ r e. before (first r e))
+      (λ t e x. here t e (ltb-true room (length (bytes t)) x))
+      (λ t e x. accepted-only _ (bytes t))
+
+-- THE EXPORTED FUNCTIONS
+module _ (s : List ℕ) where
+  pub check-refused : Only (ReadRefused s) (table s)
+  check-refused = refused-told s
+
+  pub amounts-refused : (room : ℕ) → Only (OutputRefused (table s) (ReadRefused s) (λ t. encoded (amountsOf t)) room) (amounts s room)
+  unfolding amounts
+  amounts-refused = fitted-only (table s) (ReadRefused s) check-refused (λ t. encoded (amountsOf t))
+
+  pub threshold-refused : (room : ℕ) → Only (OutputRefused (table s) (ReadRefused s) (λ t. encoded (thresholdOf t ∷ [])) room) (thresholds s room)
+  unfolding thresholds
+  threshold-refused = fitted-only (table s) (ReadRefused s) check-refused (λ t. encoded (thresholdOf t ∷ []))
+
+  pub sweeps-refused : (room : ℕ)
+      → Only (OutputRefused (table s) (ReadRefused s) (λ t. encoded (Sweeps.before t ∷ Sweeps.after t ∷ [])) room) (sweepsGiven s room)
+  unfolding sweepsGiven
+  sweeps-refused = fitted-only (table s) (ReadRefused s) check-refused (λ t. encoded (Sweeps.before t ∷ Sweeps.after t ∷ []))
+
+  pub plain-refused : (n : ℕ) → Only (MemoryRefused (table s) (ReadRefused s) total n) (plainAnswer s n)
+  unfolding plainAnswer
+  plain-refused = remembered-only (table s) (ReadRefused s) check-refused total
+
+  module _ (w : Settings) where
+    fitting-only : (Bad : Type 0) (wrong : Bool) → Decides wrong Bad → Only (FitRefused s w Bad) (fitting wrong w (table s))
+    unfolding fitting
+    fitting-only Bad wrong d =
+        test-only (FitRefused s w Bad) (table s) 10 (λ t. wrong) (fits w) (λ r e. before (before (check-refused r e)))
+        (λ t e x. before (here t e (d .0 x)))
+        (λ t e x. short t e (λ bad. false≢true (sym x ∙ d .1 bad)) (shortFor t w) refl)
+      where
+        short : (t : Table) → table s ≡ accepted t → (Bad → ⊥) → (x : Bool) → shortFor t w ≡ x
+            → Only {T = Planned} (FitRefused s w Bad) (refused (met 11 0) if x else accepted (record { table = t; plan = planOf t w }))
+        short t e fine true x r f = subst (FitRefused s w Bad) (ap refusalOf f) (here t e (fine, eleven t w .0 x))
+        short t e fine false x r f = accepted-only (FitRefused s w Bad) (record { table = t; plan = planOf t w }) r f
+
+    plan-refused : Only (PlanRefused s w) (planned s w)
+    unfolding planned
+    plan-refused = fitting-only (BadProcessors w) (badProcessors w) (ten w)
+
+    named-refused : (b : ℕ) → Only (NamedRefused s w b) (plannedFor s w b)
+    unfolding plannedFor
+    named-refused b = fitting-only (BadNumber w b) (badNumber w b) (ten-named w b)
+
+    pub blocks-refused : (room : ℕ) → Only (OutputRefused (planned s w) (PlanRefused s w) (λ q. encoded (blocksOf (q .plan))) room) (blocksGiven s w room)
+    unfolding blocksGiven
+    blocks-refused = fitted-only (planned s w) (PlanRefused s w) plan-refused (λ q. encoded (blocksOf (q .plan)))
+
+    -- both lists
+    pub list-refused : (phase b room : ℕ)
+        → Only (OutputRefused (plannedFor s w b) (NamedRefused s w b) (λ q. encoded (listedOf phase b q)) room) (listGiven phase s w b room)
+    unfolding listGiven
+    list-refused phase b = fitted-only (plannedFor s w b) (NamedRefused s w b) (named-refused b) (λ q. encoded (listedOf phase b q))
+
+    pub run-refused : (n : ℕ) → Only (MemoryRefused (planned s w) (PlanRefused s w) elements n) (runAnswer s w n)
+    run-refused = remembered-only (planned s w) (PlanRefused s w) plan-refused elements
+
+    -- THE STEP
+    module _ (b : ℕ) (counts : List ℕ) (m : List Float) where
+      abbrev pub StepRefused : Refusal → Type 0
+      StepRefused =
+          StateRefused (remembered elements (length m) (plannedFor s w b))
+          (MemoryRefused (plannedFor s w b) (NamedRefused s w b) elements (length m)) counts
+
+      pub step-refused : (r : Refusal) → step s w b counts m .said ≡ refuses r → StepRefused r
+      unfolding step steppedBy stepped
+      step-refused r = go (remembered elements (length m) (plannedFor s w b)) refl
+        where
+          same : (q : Refusal) → _≡_ {A = Said Iteration} (refuses q) (refuses r) → q ≡ r
+          same q e = cc
+
+          go : (a : AnswerOf Planned) → remembered elements (length m) (plannedFor s w b) ≡ a → steppedBy b counts m a .said ≡ refuses r → StepRefused r
+          go (refused q) f e =
+              before (remembered-only (plannedFor s w b) (NamedRefused s w b) (named-refused b) elements (length m) r (f ∙ ap refused (same q e)))
+          go (accepted q) f e = at (wrongState (workOf q) counts) refl
+            where
+              -- a turn refuses nothing
+              goes-on : (x : Said Iteration) → Turn (iteration 0 0) (workOf q) b counts x → x ≡ refuses r → ⊥
+              goes-on x (does n come opened more) e = let z : _≡_ {A = ℕ} 0 1 = cc in omega arith
+              goes-on x (halts n come some which) e = let z : _≡_ {A = ℕ} 0 1 = cc in omega arith
+              goes-on x (stops used opened) e = let z : _≡_ {A = ℕ} 0 1 = cc in omega arith
+
+              at : (x : Bool) → wrongState (workOf q) counts ≡ x → StepRefused r
+              at true x = subst StepRefused (same (met 15 0) (rw x at e)) (here q f (fifteen q counts .0 x))
+              at false x =
+                  absurd (goes-on (next (iteration 0 0) (workOf q) b counts) (turn-is (iteration 0 0) (workOf q) (omega arith) b counts)
+                  (sym (turn-said (iteration 0 0) (workOf q) (run (q .table)) b counts m) ∙ rw x at e))

@@ -1,0 +1,45 @@
+-- What each exported function on one table may be refused with: a ground of 1 to 9 that holds of the table's bytes, with what 9 names; or a later
+-- one of its own that holds, of a table that none of the earlier ones refuses. What joining is refused with stands beside its definition.
+use Prim.Native.Nat.{ℕ}
+use mathlib.Core.Path.{_≡_}
+use mathlib.Core.List.{List}
+use Rattle.refusals.specs.declared.Refusal.{Refusal}
+use Rattle.refusals.specs.Refusals.{met}
+use Rattle.refusals.specs.Answers.{AnswerOf, accepted}
+use Rattle.serial.specs.Serial.{table}
+use Rattle.tables.specs.Nine.{Told}
+use Rattle.plans.specs.Plans.{Settings, Planned}
+use Rattle.answers.specs.Statements.{BadProcessors, BadNumber, Short, OtherLength, NoRoom, BadState}
+
+-- an answer, and then a test of what it accepts: the answer's own refusal; or the test's number, where its ground holds, with place 0 and no name
+pub data Then {T : Type 0} (a : AnswerOf T) (Before : Refusal → Type 0) (g : ℕ) (Holds : T → Type 0) : Refusal → Type 0 where
+  before : {r : Refusal} → Before r → Then a Before g Holds r
+  here : (t : T) → a ≡ accepted t → Holds t → Then a Before g Holds (met g 0)
+
+module _ (s : List ℕ) where
+  -- reading: 1 to 9
+  abbrev pub ReadRefused : Refusal → Type 0
+  ReadRefused r = Told r s
+
+  -- then 10, which is asked of P and of a processor that is named, and 11
+  module _ (w : Settings) where
+    abbrev pub FitRefused : Type 0 → Refusal → Type 0
+    FitRefused Bad = Then (table s) (Then (table s) ReadRefused 10 (λ t. Bad)) 11 (λ t. (Bad → ⊥) × Short t w)
+
+    abbrev pub PlanRefused : Refusal → Type 0
+    PlanRefused = FitRefused (BadProcessors w)
+
+    abbrev pub NamedRefused : ℕ → Refusal → Type 0
+    NamedRefused b = FitRefused (BadNumber w b)
+
+-- 12, of a memory of n elements, and 13, of so much room, after an answer
+module _ {T : Type 0} (a : AnswerOf T) (Before : Refusal → Type 0) where
+  abbrev pub MemoryRefused : (T → ℕ) → ℕ → Refusal → Type 0
+  MemoryRefused size n = Then a Before 12 (λ t. OtherLength n (size t))
+
+  abbrev pub OutputRefused : (T → List ℕ) → ℕ → Refusal → Type 0
+  OutputRefused bytes room = Then a Before 13 (λ t. NoRoom room (bytes t))
+
+-- 15, of the counts
+abbrev pub StateRefused : AnswerOf Planned → (Refusal → Type 0) → List ℕ → Refusal → Type 0
+StateRefused a Before counts = Then a Before 15 (λ q. BadState q counts)
