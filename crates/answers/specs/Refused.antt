@@ -63,7 +63,7 @@ module _ {T : Type 0} (a : AnswerOf T) (Before : Refusal → Type 0) (first : On
   unfolding fitted
   fitted-only bytes room =
       test-only (OutputRefused a Before bytes room) a 13 (λ t. ltb room (length (bytes t))) (λ t. accepted (bytes t)) (λ r e. before (first r e))
-      (λ t e x. here t e (ltb-true room (length (bytes t)) x))
+      (λ t e x. here t e (omega (arith, ltb-true room (length (bytes t)) x)))
       (λ t e x. accepted-only _ (bytes t))
 
 -- THE EXPORTED FUNCTIONS
