@@ -9,6 +9,8 @@ pub mod Reported
 -- every complete schedule leaves what the plain order leaves; and there is one
 pub mod Plain
 pub mod Exists
+-- every order is some schedule's
+pub mod EveryOrder
 -- the same where a turn is one step of an action
 pub mod Steps
 pub mod Fine

@@ -10,7 +10,7 @@ use lib.Dec.{ltb}
 use borrow.Author.Tests.{ltb-true, ltb-false}
 use lib.ListN.{length, length-append}
 use Rattle.order.specs.Lists.{if-yes, pick-length, perm-length}
-use Rattle.order.specs.Machine.{left, left-size, left-rest, left-next, rest, rest-next, next, bump, count, trace, final, zeros, runs, run-perm}
+use Rattle.order.specs.Machine.{left, left-size, left-rest, left-next, rest, rest-next, next, next-open, bump, count, trace, final, zeros, runs, run-perm}
 use Rattle.order.specs.Exists.{Ready, some-ready, nothing}
 use Rattle.order.specs.Rows.{Rows, plan, whole}
 use Rattle.blocks.specs.Sums.{column, total-same}
@@ -19,7 +19,7 @@ use Rattle.turns.specs.Turn.{Said, refuses, performs, waits, ends, After
 use Rattle.turns.specs.Row.{noneDone, countsAfter, memoryAfter, performing, lowest, canStep, closing, listed, rowOf}
 use Rattle.turns.specs.Row.{lowest-holds, lowest-none, counts-append}
 use Rattle.turns.specs.Reach.{Reachable}
-use Rattle.turns.specs.Machine.{done, work, next-open}
+use Rattle.turns.specs.Machine.{done, work}
 use Rattle.turns.specs.Follows.{Calls, called, started}
 use Rattle.turns.specs.Complete.{Complete, ends-complete}
 

@@ -11,7 +11,7 @@ use lib.ListN.{length, getD, drop}
 use lib.Seq.{drop-cons, drop-append-add, drop-append-le}
 use Rattle.order.specs.Lists.{if-yes, put-same, put-other, joined, mem-joined, drop-mem, nth-mem, Tested}
 use Rattle.order.specs.Reorder.{runAll}
-use Rattle.order.specs.Machine.{Plan, left, rest, left-rest, Open, open?, bump, count}
+use Rattle.order.specs.Machine.{Plan, left, rest, left-rest, open?, next-open, bump, count}
 use Rattle.order.specs.Machine.{next as goesOn}
 use Rattle.order.specs.Rows.{Rows, plan, whole}
 use Rattle.blocks.specs.Sums.{column}
@@ -58,15 +58,8 @@ module _ {A : Type 0} (f : ℕ → List A) (n N c : ℕ) (few : n ≤ N) where
   drop-early : (d : A) → c < length (joined n f) → Mem (getD (joined n f) c d) (drop c (joined N f))
   drop-early d h = rw (split, drop-append-le c (joined n f) others (omega arith), drop-cons (joined n f) c d h) (mhere refl)
 
--- THE MACHINE'S NEXT ACTION, where the barrier before it is open, and where it is not
+-- where the barrier before it is closed, the machine does not perform an action
 module _ {A : Type 0} (p : Plan A) (c : ℕ → ℕ) where
-  pub next-open : (x : A) (l : List A) → Open p c (p .phase x) → goesOn p c (x ∷ l) ≡ x ∷ []
-  next-open x l o = go (open? p c (p .phase x))
-    where
-      go : (w : Tested (λ y. p .phase x ≤ p .phase y) (rest p c)) → ⊎-elim (λ o. x ∷ []) (λ o. []) w ≡ x ∷ []
-      go (inl w) = refl
-      go (inr (y, m, n)) = absurd (n (o y m))
-
   next-closed : (x y : A) (l : List A) → Mem y (rest p c) → p .phase y < p .phase x → goesOn p c (x ∷ l) ≡ []
   next-closed x y l m e = go (open? p c (p .phase x))
     where
