@@ -20,9 +20,9 @@ use Rattle.blocks.specs.Sums.{column}
 use Rattle.lists.specs.Fusion.{Once, once as in-one-list, owner, phase}
 use Rattle.rows.specs.Theorem.{any-schedule}
 use Rattle.turns.specs.Turn.{Said, performs}
-use Rattle.turns.specs.Row.{noneDone, reports, countsAfter, memoryAfter, reportsTo}
+use Rattle.turns.specs.Row.{actionsOf, noneDone, reports, countsAfter, memoryAfter, reportsTo}
 use Rattle.turns.specs.Reach.{Reachable}
-use Rattle.turns.specs.Follows.{performed, started}
+use Rattle.turns.specs.Follows.{started}
 use Rattle.turns.specs.Complete as turns
 use Rattle.turns.specs.Own as own
 use Rattle.turns.specs.Reached as reach
@@ -75,7 +75,7 @@ module _ (s : List ℕ) (w : Settings) (q : Planned) (planned-is : planned s w �
 
     -- BESIDE IT, of every row, complete or not. What its calls perform, in order:
     abbrev pub row : List Iteration
-    row = performed (reports (step s w) bs noneDone m)
+    row = actionsOf (reports (step s w) bs noneDone m)
 
     -- no iteration is reported twice
     pub once : NoDup row
@@ -94,7 +94,7 @@ module _ (s : List ℕ) (w : Settings) (q : Planned) (planned-is : planned s w �
     -- each processor keeps its own list's order: the calls that name it have performed the first of its fused list and then its peeled list,
     -- as many as its count says
     pub own-calls : (d : ℕ) → d < q .plan .processors
-        → performed (reportsTo (step s w) d bs noneDone m) ++ drop (column (countsAfter (step s w) bs noneDone m) d) (fused q d ++ peeled q d)
+        → actionsOf (reportsTo (step s w) d bs noneDone m) ++ drop (column (countsAfter (step s w) bs noneDone m) d) (fused q d ++ peeled q d)
         ≡ fused q d ++ peeled q d
     own-calls d l = own.own-calls (calls s w q planned-is) d l bs m fits
 

@@ -2,21 +2,13 @@
 -- phase; and a row that has reported every action is complete. Assumes nothing.
 use mathlib.Core.Path.{_≡_, refl, ap}
 use mathlib.Core.Logic.{_⊎_, inl, inr, ⊎-elim}
-use mathlib.Core.List.{List, [], _∷_, _++_, Memᴰ·append-left, Memᴰ·append-right, List·Memᴰ·append-cases, List·Memᴰ·not-nil}
-use mathlib.Core.List.{List·Memᴰ as Mem, List·Memᴰ·head as mhere, List·Memᴰ·tail as mthere}
+use mathlib.Core.List.{List, [], _∷_, _++_, Memᴰ·append-right, List·Memᴰ·append-cases, List·Memᴰ·not-nil}
+use mathlib.Core.List.{List·Memᴰ as Mem, List·Memᴰ·head as mhere}
 use Prim.Native.Nat.{ℕ, _<_}
 use native.Mathlib.Decide.{ℕ-discrete}
 use native.Mathlib.Omega.{arith}
-use Rattle.order.specs.Lists.{Before, bhere, bthere, NoDup, before-total, only-mem, mem-only, only-before}
+use Rattle.order.specs.Lists.{Before, NoDup, before-total, before-append-left, before-across, only-mem, mem-only, only-before}
 use Rattle.order.specs.Machine.{Plan, trace, final, zeros, left, left-rest, mine, runs, run-mine, run-rises, run-ahead, Complete}
-
-before-across : {A : Type 0} {x y : A} {l m : List A} → Mem x l → Mem y m → Before x y (l ++ m)
-before-across (mhere {xs = l} e) h = bhere e (Memᴰ·append-right l h)
-before-across (mthere g) h = bthere (before-across g h)
-
-before-left-append : {A : Type 0} {x y : A} {l : List A} (m : List A) → Before x y l → Before x y (l ++ m)
-before-left-append m (bhere e h) = bhere e (Memᴰ·append-left m h)
-before-left-append m (bthere b) = bthere (before-left-append m b)
 
 module _ {A : Type 0} (p : Plan A) (bs : List ℕ) where
   -- the row's actions, and what processor b has left then
@@ -34,7 +26,7 @@ module _ {A : Type 0} (p : Plan A) (bs : List ℕ) where
   reports-once x d =
       p .once (p .owner x) x
       (rw (own-order (p .owner x)) at
-      (before-left-append (remains (p .owner x)) (only-before (λ y. ℕ-discrete (p .owner y) (p .owner x)) reports refl refl d)))
+      (before-append-left (remains (p .owner x)) (only-before (λ y. ℕ-discrete (p .owner y) (p .owner x)) reports refl refl d)))
 
   -- an action of a list is done or left
   pub done-or-left : (b : ℕ) (x : A) → Mem x (p .list b) → Mem x reports ⊎ Mem x (remains b)

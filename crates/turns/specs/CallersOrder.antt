@@ -16,25 +16,25 @@ use Rattle.order.specs.Rows.{Rows, plan, whole}
 use Rattle.blocks.specs.Sums.{column, total-same}
 use Rattle.lists.specs.Joined.{length-joined}
 use Rattle.turns.specs.Turn.{Said, refuses, performs, waits, ends, After, before}
-use Rattle.turns.specs.Row.{noneDone, countsAfter, memoryAfter, performing, lowest, canStep, closing, listed, rowOf}
+use Rattle.turns.specs.Row.{actionIn, noneDone, countsAfter, memoryAfter, performing, lowest, canStep, closing, listed, rowOf}
 use Rattle.turns.specs.Row.{lowest-holds, lowest-none, counts-append}
 use Rattle.turns.specs.Reach.{Reachable}
-use Rattle.turns.specs.Machine.{done, work}
+use Rattle.turns.specs.Machine.{work}
 use Rattle.turns.specs.Follows.{Calls, called, started}
 use Rattle.turns.specs.Complete.{Complete, ends-complete}
 
 -- a call performs exactly if there is an action
-performing-done : {A : Type 0} (s : Said A) → performing s ≡ true → (x : A) × (done s ≡ x ∷ [])
-performing-done (refuses r) e = absurd (false≢true e)
-performing-done (performs x) e = (x, refl)
-performing-done waits e = absurd (false≢true e)
-performing-done ends e = absurd (false≢true e)
+performing-action : {A : Type 0} (s : Said A) → performing s ≡ true → (x : A) × (actionIn s ≡ x ∷ [])
+performing-action (refuses r) e = absurd (false≢true e)
+performing-action (performs x) e = (x, refl)
+performing-action waits e = absurd (false≢true e)
+performing-action ends e = absurd (false≢true e)
 
-done-performing : {A : Type 0} (s : Said A) (x : A) → done s ≡ x ∷ [] → performing s ≡ true
-done-performing (refuses r) x e = cc
-done-performing (performs y) x e = refl
-done-performing waits x e = cc
-done-performing ends x e = cc
+action-performing : {A : Type 0} (s : Said A) (x : A) → actionIn s ≡ x ∷ [] → performing s ≡ true
+action-performing (refuses r) x e = cc
+action-performing (performs y) x e = refl
+action-performing waits x e = cc
+action-performing ends x e = cc
 
 module _ {A M : Type 0} {none : A} {r : Rows A} {run : A → M → M} {Fits : M → Type 0} {step : ℕ → List ℕ → M → After A M}
     (k : Calls none r run Fits step) where
@@ -52,13 +52,13 @@ module _ {A M : Type 0} {none : A} {r : Rows A} {run : A → M → M} {Fits : M 
         able (b, x, l, e, o) =
             let proper : b < r .size = left-size (plan r) (column cs) b {x = x} (rw e (mhere refl)) in
             let q = called k b cs m fits t .same ∙ ap (next (plan r) (column cs)) e ∙ next-open (plan r) (column cs) x l o in
-            false≢true (sym (still b proper) ∙ done-performing (step b cs m .said) x q)
+            false≢true (sym (still b proper) ∙ action-performing (step b cs m .said) x q)
 
     -- a call that performs leaves one less
     fewer : (b : ℕ) → canStep step cs m b ≡ true → length (undone cs) ≡ suc (length (undone (step b cs m .counts)))
     unfolding canStep
     fewer b e =
-        let (x, d) = performing-done (step b cs m .said) e in
+        let (x, d) = performing-action (step b cs m .said) e in
         let c = called k b cs m fits t in
         taken x (left (plan r) (column cs) b) refl (sym (c .same) ∙ d) (column (step b cs m .counts)) (c .counts ∙ ap (count (plan r) (column cs) b) d)
       where

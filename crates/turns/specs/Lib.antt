@@ -18,5 +18,11 @@ pub mod Own
 pub mod Reached
 -- rows that have reported every action, and what holds of every row
 pub mod Complete
+-- all are finished after a complete row, and only then
+pub mod Finished
+-- an order of all actions
+pub mod Orders
+-- every order is some row's
+pub mod EveryOrder
 -- the row of a run in a caller's order is complete
 pub mod CallersOrder

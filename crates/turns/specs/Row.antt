@@ -29,6 +29,17 @@ unfoldable pub idle : {A : Type 0} → List (Said A) → ℕ
 idle [] = 0
 idle (r ∷ rs) = cond (performing r) 0 1 + idle rs
 
+-- the action that a call performs, if it does; and those of a row's calls, in order
+abbrev pub actionIn : {A : Type 0} → Said A → List A
+actionIn (refuses r) = []
+actionIn (performs x) = x ∷ []
+actionIn waits = []
+actionIn ends = []
+
+abbrev pub actionsOf : {A : Type 0} → List (Said A) → List A
+actionsOf [] = []
+actionsOf (s ∷ ss) = actionIn s ++ actionsOf ss
+
 -- the least of 0 to n - 1 that passes, n if there is none
 abbrev pub lowest : ℕ → (ℕ → Bool) → ℕ
 lowest zero f = zero
