@@ -52,11 +52,11 @@ performs-reported x (a ∷ ss) m =
 
 module _ (s : List ℕ) (w : Settings) (q : Planned) (planned-is : planned s w ≡ accepted q) where
   -- the iterations of the table are those of the lists
-  home : Once (q .table) (q .plan) (fit s w q planned-is .wide)
+  pub home : Once (q .table) (q .plan) (fit s w q planned-is .wide)
   home = in-one-list (q .table) (q .plan) (fit s w q planned-is .wide)
 
   module _ (bs : List ℕ) (m : List Float) where
-    listed : Complete s w q bs m → turns.Complete (lists s w q planned-is) (step s w) bs m
+    pub listed : Complete s w q bs m → turns.Complete (lists s w q planned-is) (step s w) bs m
     listed all n b x l i h = reported-performs x (reports (step s w) bs noneDone m) (all x (home .alone n b x l i h .0))
 
     pub unlisted : turns.Complete (lists s w q planned-is) (step s w) bs m → Complete s w q bs m

@@ -4,3 +4,9 @@ pub mod Calls
 pub mod AnyRow
 -- the run in a caller's order
 pub mod CallersOrder
+-- an order of all iterations
+pub mod Orders
+-- demand 3 of orders: every order is some row's
+pub mod EveryOrder
+-- all are finished after a complete row
+pub mod Finished

@@ -39,7 +39,7 @@ said-waits (performs x) e = cc
 said-waits waits e = refl
 said-waits ends e = cc
 
-said-ends : (a : Said Iteration) → reportOf a ≡ Finished → a ≡ ends
+pub said-ends : (a : Said Iteration) → reportOf a ≡ Finished → a ≡ ends
 said-ends (refuses r) e = cc
 said-ends (performs x) e = cc
 said-ends waits e = cc
