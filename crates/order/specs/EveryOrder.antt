@@ -9,7 +9,7 @@ use native.Mathlib.Decide.{ℕ-discrete}
 use native.Mathlib.Omega.{arith}
 use Rattle.order.specs.Lists.{if-yes, if-no, Before, bhere, bthere, NoDup, before-left, before-right}
 use Rattle.order.specs.Lists.{same-list, only-mem, mem-only, only-passes, only-before, before-only, mem-joined}
-use Rattle.order.specs.Machine.{Plan, zeros, left, left-next, left-other, Open, next, bump, count, next-open, trace, final, mine, InOrder, Complete}
+use Rattle.order.specs.Machine.{Plan, start, left, left-next, left-other, Open, next, bump, count, next-open, trace, final, mine, InOrder, Exhausts}
 use Rattle.order.specs.Plain.{Covers}
 
 module _ {A : Type 0} (p : Plan A) where
@@ -60,11 +60,11 @@ module _ {A : Type 0} (p : Plan A) where
       ap (λ (l : List A). left p (final p (owners t) (count p c (owner x) l)) b) (turn c x t o) ∙ does-all t (bump p c (owner x)) (others c x t o) b
 
   -- so it is the order of a complete schedule
-  pub order-trace : {t : List A} → InOrder p t → trace p (owners t) zeros ≡ t
-  order-trace {t} o = does-trace t zeros (record { lists = o .lists; phases = o .phases })
+  pub order-trace : {t : List A} → InOrder p t → trace p (owners t) start ≡ t
+  order-trace {t} o = does-trace t start (record { lists = o .lists; phases = o .phases })
 
-  pub order-complete : {t : List A} → InOrder p t → Complete p (owners t)
-  order-complete {t} o = does-all t zeros (record { lists = o .lists; phases = o .phases })
+  pub order-complete : {t : List A} → InOrder p t → Exhausts p (owners t)
+  order-complete {t} o = does-all t start (record { lists = o .lists; phases = o .phases })
 
   -- BY WHAT STANDS BEFORE WHAT: such a list has each action once, keeps the order of each list, and has none before one of an earlier phase
   pub in-order : {t : List A} → Covers p t → ((b : ℕ) (x y : A) → Before x y (list b) → Before x y t)

@@ -16,5 +16,3 @@ pub mod Steps
 pub mod Fine
 -- plans told by numbers: phases, processors, keys
 pub mod Rows
--- which actions commute
-pub mod Memory

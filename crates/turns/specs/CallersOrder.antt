@@ -10,8 +10,8 @@ use lib.Dec.{ltb}
 use borrow.Author.Tests.{ltb-true, ltb-false}
 use lib.ListN.{length, length-append}
 use Rattle.order.specs.Lists.{if-yes, pick-length, perm-length}
-use Rattle.order.specs.Machine.{left, left-size, left-rest, left-next, rest, rest-next, next, next-open, bump, count, trace, final, zeros, runs, run-perm}
-use Rattle.order.specs.Exists.{Ready, some-ready, nothing}
+use Rattle.order.specs.Machine.{left, left-size, left-rest, left-next, rest, rest-next, next, next-open, bump, count, trace, final, start, runs, run-perm}
+use Rattle.order.specs.Exists.{Able, some-able, nothing}
 use Rattle.order.specs.Rows.{Rows, plan, whole}
 use Rattle.blocks.specs.Sums.{column, total-same}
 use Rattle.lists.specs.Joined.{length-joined}
@@ -21,7 +21,7 @@ use Rattle.turns.specs.Row.{lowest-holds, lowest-none, counts-append}
 use Rattle.turns.specs.Reach.{Reachable}
 use Rattle.turns.specs.Machine.{work}
 use Rattle.turns.specs.Follows.{Calls, called, started}
-use Rattle.turns.specs.Complete.{Complete, ends-complete}
+use Rattle.turns.specs.Complete.{Complete, exhausts-complete}
 
 -- a call performs exactly if there is an action
 performing-action : {A : Type 0} (s : Said A) → performing s ≡ true → (x : A) × (actionIn s ≡ x ∷ [])
@@ -46,10 +46,10 @@ module _ {A M : Type 0} {none : A} {r : Rows A} {run : A → M → M} {Fits : M 
     -- where nobody can step, nothing is left
     stuck : ((b : ℕ) → b < r .size → canStep step cs m b ≡ false) → undone cs ≡ []
     unfolding canStep
-    stuck still = nothing (plan r) (undone cs) (λ x h. able (some-ready (plan r) (column cs) (suc (r .phase x)) x h (omega arith)))
+    stuck still = nothing (plan r) (undone cs) (λ x h. stays (some-able (plan r) (column cs) (suc (r .phase x)) x h (omega arith)))
       where
-        able : Ready (plan r) (column cs) → ⊥
-        able (b, x, l, e, o) =
+        stays : Able (plan r) (column cs) → ⊥
+        stays (b, x, l, e, o) =
             let proper : b < r .size = left-size (plan r) (column cs) b {x = x} (rw e (mhere refl)) in
             let q = called k b cs m fits t .same ∙ ap (next (plan r) (column cs)) e ∙ next-open (plan r) (column cs) x l o in
             false≢true (sym (still b proper) ∙ action-performing (step b cs m .said) x q)
@@ -95,10 +95,10 @@ module _ {A M : Type 0} {none : A} {r : Rows A} {run : A → M → M} {Fits : M 
       go false e ih = stuck cs m fits t (λ d i. lowest-none (r .size) d (canStep step cs m) (ltb-false b (r .size) e) i)
 
   -- all lists together have as many actions as the machine has to do
-  all-listed : length (rest (plan r) zeros) ≡ listed (work r)
+  all-listed : length (rest (plan r) start) ≡ listed (work r)
   all-listed =
-      length-joined (left (plan r) zeros) (r .size)
-      ∙ total-same (r .size) (λ b. length (left (plan r) zeros b)) (before (work r) (r .phases))
+      length-joined (left (plan r) start) (r .size)
+      ∙ total-same (r .size) (λ b. length (left (plan r) start b)) (before (work r) (r .phases))
       (λ b l. ap length (if-yes (decLt b (r .size)) (whole r b) [] l) ∙ length-joined (λ n. r .work n b) (r .phases))
 
   module _ (order : List ℕ) (m : M) (fits : Fits m) where
@@ -107,9 +107,9 @@ module _ {A M : Type 0} {none : A} {r : Rows A} {run : A → M → M} {Fits : M 
 
     enough : length (undone counts) ≤ listed (work r)
     enough =
-        let p = perm-length (run-perm (plan r) (runs (plan r) order zeros)) in
+        let p = perm-length (run-perm (plan r) (runs (plan r) order start)) in
         let q = ap (λ (c : ℕ → ℕ). length (rest (plan r) c)) (started k order m fits .counts) in
-        omega (arith, p, q, all-listed, length-append (trace (plan r) order zeros) (rest (plan r) (final (plan r) order zeros)))
+        omega (arith, p, q, all-listed, length-append (trace (plan r) order start) (rest (plan r) (final (plan r) order start)))
 
     abbrev calls : List ℕ
     calls = rowOf step (r .size) (listed (work r)) order m
@@ -125,7 +125,7 @@ module _ {A M : Type 0} {none : A} {r : Rows A} {run : A → M → M} {Fits : M 
     -- its row is complete
     pub row-complete : Complete r step (rowOf step (r .size) (listed (work r)) order m) m
     row-complete =
-        ends-complete k calls m fits
+        exhausts-complete k calls m fits
         (λ b. subst (λ (c : ℕ → ℕ). left (plan r) c b ≡ []) (started k calls m fits .counts)
         (nothing (plan r) (left (plan r) (column (countsAfter step calls noneDone m)) b)
         (λ y h. List·Memᴰ·not-nil (rw nothing-left at (left-rest (plan r) (column (countsAfter step calls noneDone m)) b h)))))

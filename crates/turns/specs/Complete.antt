@@ -9,8 +9,7 @@ use mathlib.Core.List.{List, _∷_, _++_, List·Memᴰ·cases-cons}
 use mathlib.Core.List.{List·Memᴰ as Mem, List·Memᴰ·head as mhere, List·Memᴰ·tail as mthere}
 use Rattle.order.specs.Lists.{if-yes, Before, NoDup, joined-mem, mem-joined}
 use Rattle.order.specs.Reorder.{runAll}
-use Rattle.order.specs.Machine.{trace, zeros}
-use Rattle.order.specs.Machine.{Complete as Ends}
+use Rattle.order.specs.Machine.{trace, start, Exhausts}
 use Rattle.order.specs.Exists.{complete-exists}
 use Rattle.order.specs.Rows.{Rows, plan, whole, cut-mem}
 use Rattle.order.specs.Reported.{reports-once, after-earlier, reported-complete, complete-reported}
@@ -56,22 +55,22 @@ module _ {A M : Type 0} {none : A} {r : Rows A} {run : A → M → M} {Fits : M 
     abbrev pub row : List A
     row = actionsOf (reports step bs noneDone m)
 
-    pub row-is : row ≡ trace (plan r) bs zeros
+    pub row-is : row ≡ trace (plan r) bs start
     row-is = started k bs m fits .actions
 
     -- then nothing is left
-    pub complete-ends : Complete r step bs m → Ends (plan r) bs
-    complete-ends all =
+    pub complete-exhausts : Complete r step bs m → Exhausts (plan r) bs
+    complete-exhausts all =
         reported-complete (plan r) bs
         (λ b x h. let (n, l, i, g) = mem-plan r b x h in rw (← row-is) (actions-mem x (reports step bs noneDone m) (all n b x l i g)))
 
     -- so if every complete schedule leaves what g does (order's any-schedule-by-keys), the row does
-    pub any-row : (g : M → M) → ((ds : List ℕ) → Ends (plan r) ds → (s : M) → runAll run (trace (plan r) ds zeros) s ≡ g s)
+    pub any-row : (g : M → M) → ((ds : List ℕ) → Exhausts (plan r) ds → (s : M) → runAll run (trace (plan r) ds start) s ≡ g s)
         → Complete r step bs m → memoryAfter step bs noneDone m ≡ g m
-    any-row g same all = started k bs m fits .memory ∙ same bs (complete-ends all) m
+    any-row g same all = started k bs m fits .memory ∙ same bs (complete-exhausts all) m
 
-    pub ends-complete : Ends (plan r) bs → Complete r step bs m
-    ends-complete e n b x l i h =
+    pub exhausts-complete : Exhausts (plan r) bs → Complete r step bs m
+    exhausts-complete e n b x l i h =
         mem-actions x (reports step bs noneDone m) (rw row-is (complete-reported (plan r) bs e b x (plan-mem r n b x l i h)))
 
     pub once : NoDup row
@@ -88,4 +87,4 @@ module _ {A M : Type 0} {none : A} {r : Rows A} {run : A → M → M} {Fits : M 
 
   -- there is a complete row
   pub some-row : (m : M) → Fits m → (bs : List ℕ) × Complete r step bs m
-  some-row m fits = let (bs, e) = complete-exists (plan r) in (bs, ends-complete bs m fits e)
+  some-row m fits = let (bs, e) = complete-exists (plan r) in (bs, exhausts-complete bs m fits e)

@@ -17,7 +17,7 @@ use Rattle.turns.specs.Row.{actionsOf, noneDone, reports, memoryAfter}
 use Rattle.turns.specs.Orders.{Order}
 use Rattle.turns.specs.Machine.{work}
 use Rattle.turns.specs.Follows.{Calls, started}
-use Rattle.turns.specs.Complete.{plan-mem, mem-plan, Complete, row, row-is, complete-ends, ends-complete}
+use Rattle.turns.specs.Complete.{plan-mem, mem-plan, Complete, row, row-is, complete-exhausts, exhausts-complete}
 
 -- an order of the rows' lists is one of the machine's
 module _ {A : Type 0} (r : Rows A) {l : List A} where
@@ -84,7 +84,7 @@ module _ {A M : Type 0} {none : A} {r : Rows A} {run : A → M → M} {Fits : M 
     order-performed = row-is k rowFor m fits ∙ order-trace (plan r) (order-in-order r o)
 
     pub order-complete-row : Complete r step rowFor m
-    order-complete-row = ends-complete k rowFor m fits (order-complete (plan r) (order-in-order r o))
+    order-complete-row = exhausts-complete k rowFor m fits (order-complete (plan r) (order-in-order r o))
 
     -- it leaves what running the order leaves
     pub order-memory : memoryAfter step rowFor noneDone m ≡ runAll run l m
@@ -92,4 +92,4 @@ module _ {A M : Type 0} {none : A} {r : Rows A} {run : A → M → M} {Fits : M 
 
   -- what a complete row performs is such an order
   pub row-order : (bs : List ℕ) → Complete r step bs m → Order (work r) (row k bs m fits)
-  row-order bs all = rw (row-is k bs m fits) (in-order-order r (complete-in-order (plan r) bs (complete-ends k bs m fits all)))
+  row-order bs all = rw (row-is k bs m fits) (in-order-order r (complete-in-order (plan r) bs (complete-exhausts k bs m fits all)))

@@ -7,7 +7,7 @@ use mathlib.Core.List.{List, [], _∷_}
 use lib.ListN.{length, drop}
 use lib.Seq.{drop-nil}
 use Rattle.order.specs.Lists.{if-yes}
-use Rattle.order.specs.Machine.{left, final, zeros}
+use Rattle.order.specs.Machine.{left, final, start}
 use Rattle.order.specs.Rows.{Rows, plan, whole}
 use Rattle.blocks.specs.Sums.{column}
 use Rattle.turns.specs.Turn.{Work, Said, ends, After, before, next}
@@ -16,7 +16,7 @@ use Rattle.turns.specs.Reach.{before-up, Turn, does, halts, stops, turn-
 use Rattle.turns.specs.Meaning.{own-length, turn-said, ends-says}
 use Rattle.turns.specs.Machine.{drop-all, work}
 use Rattle.turns.specs.Follows.{Calls, started}
-use Rattle.turns.specs.Complete.{Complete, complete-ends, ends-complete}
+use Rattle.turns.specs.Complete.{Complete, complete-exhausts, exhausts-complete}
 
 drop-none : {A : Type 0} (n : ℕ) (l : List A) → drop n l ≡ [] → length l ≤ n
 drop-none n [] e = omega arith
@@ -46,7 +46,7 @@ module _ {A M : Type 0} {none : A} {r : Rows A} {run : A → M → M} {Fits : M 
   NextEnds b = step b (countsAfter step bs noneDone m) (memoryAfter step bs noneDone m) .said ≡ ends
 
   -- what the machine has left is what the counts leave of the lists
-  left-is : (b : ℕ) → b < r .size → left (plan r) (final (plan r) bs zeros) b ≡ drop (column counts b) (whole r b)
+  left-is : (b : ℕ) → b < r .size → left (plan r) (final (plan r) bs start) b ≡ drop (column counts b) (whole r b)
   left-is b l =
       ap (λ (c : ℕ → ℕ). left (plan r) c b) (sym (started k bs m fits .counts)) ∙ ap (drop (column counts b)) (if-yes (decLt b (r .size)) (whole r b) [] l)
 
@@ -61,13 +61,13 @@ module _ {A M : Type 0} {none : A} {r : Rows A} {run : A → M → M} {Fits : M 
       used : (d : ℕ) → d < r .size → before (work r) (r .phases) d ≤ column counts d
       used d i =
           omega
-          (arith, own-length (work r) d (r .phases), drop-none (column counts d) (whole r d) (sym (left-is d i) ∙ complete-ends k bs m fits all d))
+          (arith, own-length (work r) d (r .phases), drop-none (column counts d) (whole r d) (sym (left-is d i) ∙ complete-exhausts k bs m fits all d))
 
   pub finished-complete : ((b : ℕ) → b < r .size → NextEnds b) → Complete r step bs m
-  finished-complete all = ends-complete k bs m fits (λ b. go b (decLt b (r .size)))
+  finished-complete all = exhausts-complete k bs m fits (λ b. go b (decLt b (r .size)))
     where
-      go : (b : ℕ) → Dec (b < r .size) → left (plan r) (final (plan r) bs zeros) b ≡ []
+      go : (b : ℕ) → Dec (b < r .size) → left (plan r) (final (plan r) bs start) b ≡ []
       go b (yes l) =
           let (u, o) = ends-says none (work r) (k .some-phase) b counts (sym (next-said b l) ∙ all b l) in
           left-is b l ∙ drop-all (column counts b) (whole r b) (omega (arith, own-length (work r) b (r .phases)))
-      go b (no l) = ap (drop (final (plan r) bs zeros b)) (plan r .beyond b (omega arith)) ∙ drop-nil (final (plan r) bs zeros b)
+      go b (no l) = ap (drop (final (plan r) bs start b)) (plan r .beyond b (omega arith)) ∙ drop-nil (final (plan r) bs start b)

@@ -8,7 +8,7 @@ use mathlib.Core.List.{List, [], _∷_, _++_}
 use lib.ListN.{drop}
 use lib.Seq.{drop-nil}
 use Rattle.order.specs.Reorder.{runAll, runAll-append}
-use Rattle.order.specs.Machine.{left, next, count, trace, final, zeros}
+use Rattle.order.specs.Machine.{left, next, count, trace, final, start}
 use Rattle.order.specs.Rows.{Rows, plan}
 use Rattle.blocks.specs.Sums.{column}
 use Rattle.refusals.specs.Refusals.{met}
@@ -96,5 +96,5 @@ module _ {A M : Type 0} {none : A} {r : Rows A} {run : A → M → M} {Fits : M 
       turned c d p q = rw (q, p) (refl, refl)
 
   -- a row from the first call's counts is a schedule from the machine's start
-  pub started : (bs : List ℕ) (m : M) → Fits m → Follows bs noneDone zeros m
+  pub started : (bs : List ℕ) (m : M) → Fits m → Follows bs noneDone start m
   started bs m f = subst (λ (c : ℕ → ℕ). Follows bs noneDone c m) (fun-ext none-done) (follows bs noneDone m f (none-reachable (work r)))

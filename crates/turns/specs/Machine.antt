@@ -11,7 +11,7 @@ use lib.ListN.{length, getD, drop}
 use lib.Seq.{drop-cons, drop-append-add, drop-append-le}
 use Rattle.order.specs.Lists.{if-yes, put-same, put-other, joined, mem-joined, drop-mem, nth-mem, Tested}
 use Rattle.order.specs.Reorder.{runAll}
-use Rattle.order.specs.Machine.{Plan, left, rest, left-rest, open?, next-open, bump, count}
+use Rattle.order.specs.Machine.{Plan, left, rest, left-rest, Late, open?, next-open, bump, count}
 use Rattle.order.specs.Machine.{next as goesOn}
 use Rattle.order.specs.Rows.{Rows, plan, whole}
 use Rattle.blocks.specs.Sums.{column}
@@ -57,7 +57,7 @@ module _ {A : Type 0} (p : Plan A) (c : ℕ → ℕ) where
   next-closed : (x y : A) (l : List A) → Mem y (rest p c) → p .phase y < p .phase x → goesOn p c (x ∷ l) ≡ []
   next-closed x y l m e = go (open? p c (p .phase x))
     where
-      go : (w : Tested (λ y. p .phase x ≤ p .phase y) (rest p c)) → ⊎-elim (λ o. x ∷ []) (λ o. []) w ≡ []
+      go : (w : Tested (Late p (p .phase x)) (rest p c)) → ⊎-elim (λ o. x ∷ []) (λ o. []) w ≡ []
       go (inl w) = absurd (omega (arith, w y m))
       go (inr w) = refl
 
