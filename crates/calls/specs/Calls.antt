@@ -33,7 +33,7 @@ module _ (s : List ℕ) (w : Settings) (q : Planned) (planned-is : planned s w �
   calls = record {
     some-phase = omega arith;
     few = fit .few;
-    keeps = λ x m e. run-length (q .table) x m ∙ e;
+    keeps = λ x m e. run-length (q .table) _ m ∙ e;
     step-turn = step-turn s w q planned-is;
     step-past = step-past s w q planned-is;
   }

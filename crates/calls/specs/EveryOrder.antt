@@ -36,12 +36,12 @@ module _ (s : List ℕ) (w : Settings) (q : Planned) (planned-is : planned s w �
   }
     where
       own : (n b : ℕ) (x y : Iteration) → n < 2 → b < q .plan .processors → Before x y (workOf q .list n b) → Before x y l
-      own zero b x y i j h = o .own-fused b x y j h
-      own (suc n) b x y i j h = o .own-peeled b x y j h
+      own zero b x y i j h = o .own-fused b x y (omega arith) h
+      own (suc n) b x y i j h = o .own-peeled b x y (omega arith) h
 
       barrier : (i j a b : ℕ) (x y : Iteration) → i < j → j < 2 → a < q .plan .processors → b < q .plan .processors
           → Mem x (workOf q .list j b) → Mem y (workOf q .list i a) → Before x y l → ⊥
-      barrier zero (suc j) a b x y e f g h u v k = o .barrier b a x y h g u v k
+      barrier zero (suc j) a b x y e f g h u v k = o .barrier b a x y (omega arith) (omega arith) u v k
       barrier zero zero a b x y e f g h u v k = omega arith
       barrier (suc i) j a b x y e f g h u v k = omega arith
 

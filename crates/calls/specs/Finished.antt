@@ -1,5 +1,6 @@
 -- All are finished after a complete row of step calls, and only then: the next call of each processor reports it.
 use Prim.Native.Nat.{ℕ, _<_}
+use native.Mathlib.Omega.{arith}
 use mathlib.Core.Path.{_≡_, ap}
 use mathlib.Core.List.{List}
 use lib.Ieee.{Float}
@@ -23,7 +24,7 @@ nextReport s w bs m b = reportOf (step s w b (countsAfter (step s w) bs noneDone
 module _ (s : List ℕ) (w : Settings) (q : Planned) (planned-is : planned s w ≡ accepted q) (m : List Float) (fits : Fits q m) where
   module _ (bs : List ℕ) where
     pub all-finished : Complete s w q bs m → (b : ℕ) → b < q .plan .processors → nextReport s w bs m b ≡ Finished
-    all-finished all b l = ap reportOf (turns.complete-finished (calls s w q planned-is) bs m fits (listed s w q planned-is bs m all) b l)
+    all-finished all b l = ap reportOf (turns.complete-finished (calls s w q planned-is) bs m fits (listed s w q planned-is bs m all) b (omega arith))
 
     pub finished-all : ((b : ℕ) → b < q .plan .processors → nextReport s w bs m b ≡ Finished) → Complete s w q bs m
     finished-all all = unlisted s w q planned-is bs m (turns.finished-complete (calls s w q planned-is) bs m fits (λ b l. said-ends _ (all b l)))

@@ -37,8 +37,7 @@ module _ (Counts : Reference → Reference → Type 0) (t : Table) where
       → Meet (x .index) (y .index) r q
       → Contained (c .shift (x .number)) (c .peel (x .number)) (x .index) (c .shift (y .number)) (c .peel (y .number)) (y .index)
   contained c ok x y r q d m =
-      contained-by (c .shift (x .number)) (c .peel (x .number)) (x .index) (c .shift (y .number)) (c .peel (y .number)) (y .index)
-      (backward r q) (forward r q) (omega (arith, m .1)) (omega (arith, ok .shifted (x .number) (y .number) r q d))
+      contained-by _ _ (x .index) _ _ (y .index) (backward r q) (forward r q) (omega (arith, m .1)) (omega (arith, ok .shifted (x .number) (y .number) r q d))
       (omega (arith, ok .peeled (x .number) (y .number) r q d))
 
 -- two references to one array, at least one of them a destination, are enough

@@ -36,13 +36,13 @@ module _ {A : Type 0} (r : Rows A) {l : List A} where
     kept : (b : ℕ) (x y : A) → Before x y (plan r .list b) → Before x y l
     kept b x y h =
         let (i, g) = cut-before r b x y (decLt b size) h in
-        ⊎-elim (λ (n, j, k). o .own n b x y j i k) (λ (m, n, j, k, u, v). later m n i j k u v) (before-joined (λ n. r .work n b) phases g)
+        ⊎-elim (λ (n, j, k). o .own n b x y (omega arith) i k) (λ (m, n, j, k, u, v). later m n i j k u v) (before-joined (λ n. r .work n b) phases g)
       where
         later : (m n : ℕ) → b < size → m < n → n < phases → Mem x (r .work m b) → Mem y (r .work n b) → Before x y l
         later m n i j k u v =
             ⊎-elim
             (λ (e : x ≡ y). absurd (omega (arith, ap phase e, known m b x (omega arith) i u .1, known n b y k i v .1)))
-            (⊎-elim (λ d. d) (λ d. absurd (o .barrier m n b b y x j k i i v u d)))
+            (⊎-elim (λ d. d) (λ d. absurd (o .barrier m n b b y x j (omega arith) i i v u d)))
             (before-total (o .each m b x (omega arith) i u) (o .each n b y k i v))
 
     rises : (x y : A) → Before x y l → phase x ≤ phase y
@@ -54,7 +54,7 @@ module _ {A : Type 0} (r : Rows A) {l : List A} where
             let (n, b, i, j, u) = o .listed x (before-left h) in
             let (m, a, f, g, v) = o .listed y (before-right h) in
             let p : m < n = omega (arith, known n b x i j u .1, known m a y f g v .1) in
-            absurd (o .barrier m n a b x y p i g j u v h)
+            absurd (o .barrier m n a b x y p (omega arith) g j u v h)
 
     order-in-order : InOrder (plan r) l
     order-in-order = in-order (plan r) covers kept rises

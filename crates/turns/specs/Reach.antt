@@ -18,10 +18,10 @@ use Rattle.turns.specs.Row.{noneDone, none-done}
 -- one more of processor b, and of no other
 module _ (cs : List ℕ) (b : ℕ) where
   pub counted-same : b < length cs → column (counted cs b) b ≡ suc (column cs b)
-  counted-same l = getD-set-same cs b (suc (column cs b)) 0 l
+  counted-same l = getD-set-same cs b _ 0 l
 
   pub counted-other : (k : ℕ) → k ≢ b → column (counted cs b) k ≡ column cs k
-  counted-other k n = getD-set-other cs b k (suc (column cs b)) 0 n
+  counted-other k n = getD-set-other cs b k _ 0 n
 
 module _ {A : Type 0} (w : Work A) where
   open Work w using (processors, phases, list)
@@ -72,7 +72,7 @@ module _ {A : Type 0} (w : Work A) where
 
         go : (b : ℕ) → b < 64 → Dec (b < processors) → wrongCount w cs b ≡ false
         go b l (yes i) =
-            rw (lt-ltb b processors i, le-ltb (before w phases b) (column cs b) (r .below b i))
+            rw (lt-ltb b processors i, le-ltb (before w phases b) (column cs b) (omega (arith, r .below b i)))
             (some-none phases (λ n. ltb (before w n b) (column cs b) && closed w cs n) (λ n k. early n b k i (decLt (before w n b) (column cs b))))
         go b l (no i) = rw (le-ltb b processors (omega arith)) (le-ltb 0 (column cs b) (omega (arith, r .beyond b l (omega arith))))
 
