@@ -12,15 +12,15 @@ use Rattle.model.specs.declared.Iteration.{Iteration}
 use Rattle.model.specs.Bodies.{run}
 use Rattle.refusals.specs.Answers.{accepted}
 use Rattle.lists.specs.Fusion.{owner, phase}
-use Rattle.turns.specs.Row.{actionsOf, noneDone, reports}
 use Rattle.turns.specs.Orders as turns
 use Rattle.turns.specs.EveryOrder.{rowFor, order-performed, order-complete-row, order-memory, row-order}
 use Rattle.plans.specs.Plans.{Settings, Planned, planned}
 use Rattle.plain.specs.Plain.{plainMemory}
-use Rattle.stepping.specs.Step.{workOf, step}
-use Rattle.calls.specs.Calls.{Fits, calls}
+use Rattle.stepping.specs.Step.{workOf}
+use Rattle.calls.specs.Rows.{Fits, Complete, row}
+use Rattle.calls.specs.Calls.{calls}
 use Rattle.calls.specs.Orders.{Order}
-use Rattle.calls.specs.AnyRow.{Complete, home, listed, unlisted, any-row, row}
+use Rattle.calls.specs.AnyRow.{home, listed, unlisted, any-row}
 
 module _ (s : List ℕ) (w : Settings) (q : Planned) (planned-is : planned s w ≡ accepted q) where
   -- the order is one of the plan's lists in two phases
@@ -65,7 +65,7 @@ module _ (s : List ℕ) (w : Settings) (q : Planned) (planned-is : planned s w �
       named-complete = unlisted s w q planned-is named m (order-complete-row (calls s w q planned-is) m fits l (by-phases o))
 
       -- some row of step calls performs exactly that order, and is complete
-      pub some-row-performs : (bs : List ℕ) × (actionsOf (reports (step s w) bs noneDone m) ≡ l) × Complete s w q bs m
+      pub some-row-performs : (bs : List ℕ) × (row s w bs m ≡ l) × Complete s w q bs m
       some-row-performs = (named, order-performed (calls s w q planned-is) m fits l (by-phases o), named-complete)
 
       -- so running it leaves the plain run's memory
@@ -74,5 +74,5 @@ module _ (s : List ℕ) (w : Settings) (q : Planned) (planned-is : planned s w �
           sym (order-memory (calls s w q planned-is) m fits l (by-phases o)) ∙ any-row s w q planned-is named m fits named-complete
 
     -- what a complete row performs is such an order
-    pub row-is-order : (bs : List ℕ) → Complete s w q bs m → Order q (row s w q planned-is bs m fits)
+    pub row-is-order : (bs : List ℕ) → Complete s w q bs m → Order q (row s w bs m)
     row-is-order bs all = of-phases (row-order (calls s w q planned-is) m fits bs (listed s w q planned-is bs m all))

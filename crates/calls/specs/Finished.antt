@@ -5,21 +5,16 @@ use mathlib.Core.Path.{_≡_, ap}
 use mathlib.Core.List.{List}
 use lib.Ieee.{Float}
 use Rattle.refusals.specs.Answers.{accepted}
-use Rattle.turns.specs.Row.{noneDone, countsAfter, memoryAfter}
 use Rattle.turns.specs.Finished as turns
 use Rattle.plans.specs.Plans.{Settings, Planned, planned}
-use Rattle.stepping.specs.declared.Report.{Report}
 use Rattle.stepping.specs.declared.Report.the-variants.{Finished}
-use Rattle.stepping.specs.Step.{reportOf, step}
+use Rattle.stepping.specs.Step.{reportOf}
 use Rattle.stepping.specs.Run.{runRow}
 use Rattle.stepping.specs.Meaning.{said-ends}
-use Rattle.calls.specs.Calls.{Fits, calls}
-use Rattle.calls.specs.AnyRow.{Complete, listed, unlisted}
+use Rattle.calls.specs.Rows.{Fits, Complete, nextReport}
+use Rattle.calls.specs.Calls.{calls}
+use Rattle.calls.specs.AnyRow.{listed, unlisted}
 use Rattle.calls.specs.CallersOrder.{row-complete}
-
--- what the next call of processor b reports, after a row
-abbrev pub nextReport : List ℕ → Settings → List ℕ → List Float → ℕ → Report
-nextReport s w bs m b = reportOf (step s w b (countsAfter (step s w) bs noneDone m) (memoryAfter (step s w) bs noneDone m) .said)
 
 module _ (s : List ℕ) (w : Settings) (q : Planned) (planned-is : planned s w ≡ accepted q) (m : List Float) (fits : Fits q m) where
   module _ (bs : List ℕ) where

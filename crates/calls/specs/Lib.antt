@@ -1,3 +1,5 @@
+-- rows of step calls
+pub mod Rows
 -- the calls of an accepted plan are calls as turns has them
 pub mod Calls
 -- demand 3, and what holds of every row

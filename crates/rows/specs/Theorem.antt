@@ -23,7 +23,8 @@ use Rattle.blocks.specs.Index.{same-part}
 use Rattle.lists.specs.Order.{Less, less-key}
 use Rattle.lists.specs.Fusion.{Fusion, Wide, phases, work, owner, phase, key, rank, pastAll, index-below, rows, once}
 use Rattle.rows.specs.PlainOrder.{plain, plain-mem, plain-before, plain-once, plain-run}
-use Rattle.rows.specs.Legal.{Depends, NoneMissed, Legal, contained}
+use Rattle.rows.specs.Legal.{Depends, NoneMissed, Legal}
+use Rattle.rows.specs.Contained.{contained}
 
 -- two iterations clash, if the table has them
 abbrev pub Dependent : Table → Iteration → Iteration → Type 0

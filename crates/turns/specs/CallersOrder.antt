@@ -16,12 +16,13 @@ use Rattle.order.specs.Rows.{Rows, plan, whole}
 use Rattle.blocks.specs.Sums.{column, total-same}
 use Rattle.lists.specs.Joined.{length-joined}
 use Rattle.turns.specs.Turn.{Said, refuses, performs, waits, ends, After, before}
-use Rattle.turns.specs.Row.{actionIn, noneDone, countsAfter, memoryAfter, performing, lowest, canStep, closing, listed, rowOf}
-use Rattle.turns.specs.Row.{lowest-holds, lowest-none, counts-append}
-use Rattle.turns.specs.Reach.{Reachable}
-use Rattle.turns.specs.Machine.{work}
-use Rattle.turns.specs.Follows.{Calls, called, started}
-use Rattle.turns.specs.Complete.{Complete, exhausts-complete}
+use Rattle.turns.specs.Row.{actionIn, noneDone, countsAfter, memoryAfter, performing, lowest, canStep, closing, listed, rowOf, Complete}
+use Rattle.turns.specs.Lowest.{lowest-holds, lowest-none}
+use Rattle.turns.specs.RowLaws.{counts-append}
+use Rattle.turns.specs.Reachable.{Reachable}
+use Rattle.turns.specs.Calls.{work, Calls}
+use Rattle.turns.specs.Follows.{called, started}
+use Rattle.turns.specs.Complete.{exhausts-complete}
 
 -- a call performs exactly if there is an action
 performing-action : {A : Type 0} (s : Said A) → performing s ≡ true → (x : A) × (actionIn s ≡ x ∷ [])
@@ -123,7 +124,7 @@ module _ {A M : Type 0} {none : A} {r : Rows A} {run : A → M → M} {Fits : M 
         ∙ closing-ends n counts (memoryAfter step order noneDone m) (f .fits) (f .reachable) enough
 
     -- its row is complete
-    pub row-complete : Complete r step (rowOf step (r .size) (listed (work r)) order m) m
+    pub row-complete : Complete step (work r) (rowOf step (r .size) (listed (work r)) order m) m
     row-complete =
         exhausts-complete k calls m fits
         (λ b. subst (λ (c : ℕ → ℕ). left (plan r) c b ≡ []) (started k calls m fits .counts)

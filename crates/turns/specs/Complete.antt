@@ -14,8 +14,9 @@ use Rattle.order.specs.Exists.{complete-exists}
 use Rattle.order.specs.Rows.{Rows, plan, whole, cut-mem}
 use Rattle.order.specs.Reported.{reports-once, after-earlier, reported-complete, complete-reported}
 use Rattle.turns.specs.Turn.{Said, refuses, performs, waits, ends, After}
-use Rattle.turns.specs.Row.{actionIn, actionsOf, noneDone, reports, memoryAfter}
-use Rattle.turns.specs.Follows.{Calls, started}
+use Rattle.turns.specs.Row.{actionIn, actionsOf, noneDone, reports, memoryAfter, Complete}
+use Rattle.turns.specs.Calls.{work, Calls}
+use Rattle.turns.specs.Follows.{started}
 
 -- an action is reported exactly if it is among those performed
 pub actions-mem : {A : Type 0} (x : A) (ss : List (Said A)) → Mem (performs x) ss → Mem x (actionsOf ss)
@@ -43,11 +44,6 @@ module _ {A : Type 0} (r : Rows A) where
       let (n, l, g) = mem-joined (λ n. r .work n b) (r .phases) h in
       (n, l, i, g)
 
--- the row has reported every action of every list
-module _ {A M : Type 0} (r : Rows A) (step : ℕ → List ℕ → M → After A M) where
-  abbrev pub Complete : List ℕ → M → Type 0
-  Complete bs m = (n b : ℕ) (x : A) → n < r .phases → b < r .size → Mem x (r .work n b) → Mem (performs x) (reports step bs noneDone m)
-
 module _ {A M : Type 0} {none : A} {r : Rows A} {run : A → M → M} {Fits : M → Type 0} {step : ℕ → List ℕ → M → After A M}
     (k : Calls none r run Fits step) where
   module _ (bs : List ℕ) (m : M) (fits : Fits m) where
@@ -59,17 +55,17 @@ module _ {A M : Type 0} {none : A} {r : Rows A} {run : A → M → M} {Fits : M 
     row-is = started k bs m fits .actions
 
     -- then nothing is left
-    pub complete-exhausts : Complete r step bs m → Exhausts (plan r) bs
+    pub complete-exhausts : Complete step (work r) bs m → Exhausts (plan r) bs
     complete-exhausts all =
         reported-complete (plan r) bs
         (λ b x h. let (n, l, i, g) = mem-plan r b x h in rw (← row-is) (actions-mem x (reports step bs noneDone m) (all n b x l i g)))
 
     -- so if every complete schedule leaves what g does (order's any-schedule-by-keys), the row does
     pub any-row : (g : M → M) → ((ds : List ℕ) → Exhausts (plan r) ds → (s : M) → runAll run (trace (plan r) ds start) s ≡ g s)
-        → Complete r step bs m → memoryAfter step bs noneDone m ≡ g m
+        → Complete step (work r) bs m → memoryAfter step bs noneDone m ≡ g m
     any-row g same all = started k bs m fits .memory ∙ same bs (complete-exhausts all) m
 
-    pub exhausts-complete : Exhausts (plan r) bs → Complete r step bs m
+    pub exhausts-complete : Exhausts (plan r) bs → Complete step (work r) bs m
     exhausts-complete e n b x l i h =
         mem-actions x (reports step bs noneDone m) (rw row-is (complete-reported (plan r) bs e b x (plan-mem r n b x l i h)))
 
@@ -86,5 +82,5 @@ module _ {A M : Type 0} {none : A} {r : Rows A} {run : A → M → M} {Fits : M 
         rw row-is (after-earlier (plan r) bs a x y (plan-mem r i a y early p g) (omega arith))
 
   -- there is a complete row
-  pub some-row : (m : M) → Fits m → (bs : List ℕ) × Complete r step bs m
+  pub some-row : (m : M) → Fits m → (bs : List ℕ) × Complete step (work r) bs m
   some-row m fits = let (bs, e) = complete-exists (plan r) in (bs, exhausts-complete bs m fits e)

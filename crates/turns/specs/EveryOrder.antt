@@ -13,11 +13,11 @@ use Rattle.order.specs.Plain.{Covers, in-order-covers}
 use Rattle.order.specs.Rows.{Rows, plan, whole, cut-before}
 use Rattle.order.specs.EveryOrder.{owners, in-order, order-trace, order-complete, order-kept}
 use Rattle.turns.specs.Turn.{After}
-use Rattle.turns.specs.Row.{actionsOf, noneDone, reports, memoryAfter}
+use Rattle.turns.specs.Row.{actionsOf, noneDone, reports, memoryAfter, Complete}
 use Rattle.turns.specs.Orders.{Order}
-use Rattle.turns.specs.Machine.{work}
-use Rattle.turns.specs.Follows.{Calls, started}
-use Rattle.turns.specs.Complete.{plan-mem, mem-plan, Complete, row, row-is, complete-exhausts, exhausts-complete}
+use Rattle.turns.specs.Calls.{work, Calls}
+use Rattle.turns.specs.Follows.{started}
+use Rattle.turns.specs.Complete.{plan-mem, mem-plan, row, row-is, complete-exhausts, exhausts-complete}
 
 -- an order of the rows' lists is one of the machine's
 module _ {A : Type 0} (r : Rows A) {l : List A} where
@@ -83,7 +83,7 @@ module _ {A M : Type 0} {none : A} {r : Rows A} {run : A → M → M} {Fits : M 
     pub order-performed : actionsOf (reports step rowFor noneDone m) ≡ l
     order-performed = row-is k rowFor m fits ∙ order-trace (plan r) (order-in-order r o)
 
-    pub order-complete-row : Complete r step rowFor m
+    pub order-complete-row : Complete step (work r) rowFor m
     order-complete-row = exhausts-complete k rowFor m fits (order-complete (plan r) (order-in-order r o))
 
     -- it leaves what running the order leaves
@@ -91,5 +91,5 @@ module _ {A M : Type 0} {none : A} {r : Rows A} {run : A → M → M} {Fits : M 
     order-memory = started k rowFor m fits .memory ∙ ap (λ (t : List A). runAll run t m) (order-trace (plan r) (order-in-order r o))
 
   -- what a complete row performs is such an order
-  pub row-order : (bs : List ℕ) → Complete r step bs m → Order (work r) (row k bs m fits)
+  pub row-order : (bs : List ℕ) → Complete step (work r) bs m → Order (work r) (row k bs m fits)
   row-order bs all = rw (row-is k bs m fits) (in-order-order r (complete-in-order (plan r) bs (complete-exhausts k bs m fits all)))

@@ -11,12 +11,13 @@ use Rattle.order.specs.Machine.{left, final, start}
 use Rattle.order.specs.Rows.{Rows, plan, whole}
 use Rattle.blocks.specs.Sums.{column}
 use Rattle.turns.specs.Turn.{Work, Said, ends, After, before, next}
-use Rattle.turns.specs.Row.{noneDone, countsAfter, memoryAfter}
+use Rattle.turns.specs.Row.{noneDone, countsAfter, memoryAfter, Complete}
 use Rattle.turns.specs.Reach.{before-up, Turn, does, halts, stops, turn-is}
 use Rattle.turns.specs.Meaning.{own-length, turn-said, ends-says}
-use Rattle.turns.specs.Machine.{drop-all, work}
-use Rattle.turns.specs.Follows.{Calls, started}
-use Rattle.turns.specs.Complete.{Complete, complete-exhausts, exhausts-complete}
+use Rattle.turns.specs.Machine.{drop-all}
+use Rattle.turns.specs.Calls.{work, Calls}
+use Rattle.turns.specs.Follows.{started}
+use Rattle.turns.specs.Complete.{complete-exhausts, exhausts-complete}
 
 drop-none : {A : Type 0} (n : ℕ) (l : List A) → drop n l ≡ [] → length l ≤ n
 drop-none n [] e = omega arith
@@ -55,7 +56,7 @@ module _ {A M : Type 0} {none : A} {r : Rows A} {run : A → M → M} {Fits : M 
       let f = started k bs m fits in
       ap (λ (a : After A M). a .said) (k .step-turn b counts memory (f .fits) (f .reachable) l) ∙ turn-said none (work r) run b counts memory
 
-  pub complete-finished : Complete r step bs m → (b : ℕ) → b < r .size → NextEnds b
+  pub complete-finished : Complete step (work r) bs m → (b : ℕ) → b < r .size → NextEnds b
   complete-finished all b l = next-said b l ∙ all-used-ends none (work r) (k .some-phase) counts used b l
     where
       used : (d : ℕ) → d < r .size → before (work r) (r .phases) d ≤ column counts d
@@ -63,7 +64,7 @@ module _ {A M : Type 0} {none : A} {r : Rows A} {run : A → M → M} {Fits : M 
           omega
           (arith, own-length (work r) d (r .phases), drop-none (column counts d) (whole r d) (sym (left-is d i) ∙ complete-exhausts k bs m fits all d))
 
-  pub finished-complete : ((b : ℕ) → b < r .size → NextEnds b) → Complete r step bs m
+  pub finished-complete : ((b : ℕ) → b < r .size → NextEnds b) → Complete step (work r) bs m
   finished-complete all = exhausts-complete k bs m fits (λ b. go b (decLt b (r .size)))
     where
       go : (b : ℕ) → Dec (b < r .size) → left (plan r) (final (plan r) bs start) b ≡ []

@@ -1,6 +1,6 @@
 -- A row of calls is a schedule of the machine with those lists: the same actions in the same order, the same counts, and the memory that
 -- those actions leave.
-use Prim.Native.Nat.{ℕ, _≤_, _<_}
+use Prim.Native.Nat.{ℕ, _<_}
 use native.Mathlib.Omega.{arith}
 use native.Mathlib.Decide.{decLt}
 use mathlib.Core.Path.{_≡_, refl, sym, ap, subst, _∙_, fun-ext}
@@ -11,19 +11,13 @@ use Rattle.order.specs.Reorder.{runAll, runAll-append}
 use Rattle.order.specs.Machine.{left, next, count, trace, final, start}
 use Rattle.order.specs.Rows.{Rows, plan}
 use Rattle.blocks.specs.Sums.{column}
-use Rattle.refusals.specs.Refusals.{met}
-use Rattle.turns.specs.Turn.{refuses, After, stays, turn}
-use Rattle.turns.specs.Row.{actionIn, actionsOf, noneDone, none-done, reports, countsAfter, memoryAfter}
-use Rattle.turns.specs.Reach.{Reachable, none-reachable, turn-reachable}
-use Rattle.turns.specs.Machine.{work, turn-next, turn-counts, turn-memory}
-
--- what a call has to do: from a memory that fits and counts that are reached it is a turn; a number past the processors is refused, by 10
-pub record Calls {A M : Type 0} (none : A) (r : Rows A) (run : A → M → M) (Fits : M → Type 0) (step : ℕ → List ℕ → M → After A M) : Type 0 where
-  pub some-phase : 0 < r .phases
-  pub few : r .size ≤ 64
-  pub keeps : (x : A) (m : M) → Fits m → Fits (run x m)
-  pub step-turn : (b : ℕ) (cs : List ℕ) (m : M) → Fits m → Reachable (work r) cs → b < r .size → step b cs m ≡ turn none (work r) run b cs m
-  pub step-past : (b : ℕ) (cs : List ℕ) (m : M) → r .size ≤ b → step b cs m ≡ stays cs m (refuses (met 10 0))
+use Rattle.turns.specs.Turn.{After, turn}
+use Rattle.turns.specs.Row.{actionIn, actionsOf, noneDone, reports, countsAfter, memoryAfter}
+use Rattle.turns.specs.RowLaws.{none-done}
+use Rattle.turns.specs.Reach.{none-reachable, turn-reachable}
+use Rattle.turns.specs.Reachable.{Reachable}
+use Rattle.turns.specs.Machine.{turn-next, turn-counts, turn-memory}
+use Rattle.turns.specs.Calls.{work, Calls}
 
 module _ {A M : Type 0} {none : A} {r : Rows A} {run : A → M → M} {Fits : M → Type 0} {step : ℕ → List ℕ → M → After A M}
     (k : Calls none r run Fits step) where

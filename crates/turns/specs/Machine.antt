@@ -15,8 +15,9 @@ use Rattle.order.specs.Machine.{Plan, left, rest, left-rest, Late, open?, next-
 use Rattle.order.specs.Machine.{next as goesOn}
 use Rattle.order.specs.Rows.{Rows, plan, whole}
 use Rattle.blocks.specs.Sums.{column}
-use Rattle.turns.specs.Turn.{Work, Said, refuses, performs, waits, ends, After, before, next, counted, after, turn}
+use Rattle.turns.specs.Turn.{Said, refuses, performs, waits, ends, After, before, next, counted, after, turn}
 use Rattle.turns.specs.Row.{actionIn}
+use Rattle.turns.specs.Calls.{work}
 use Rattle.turns.specs.Reach.{counted-same, counted-other, Come, Turn, does, halts, stops, turn-is}
 use Rattle.turns.specs.Meaning.{own-length, own-more, own-nth, turn-said}
 
@@ -60,10 +61,6 @@ module _ {A : Type 0} (p : Plan A) (c : ℕ → ℕ) where
       go : (w : Tested (Late p (p .phase x)) (rest p c)) → ⊎-elim (λ o. x ∷ []) (λ o. []) w ≡ []
       go (inl w) = absurd (omega (arith, w y m))
       go (inr w) = refl
-
--- what settles a run of these rows
-abbrev pub work : {A : Type 0} → Rows A → Work A
-work r = record { processors = r .size; phases = r .phases; list = r .work }
 
 module _ {A : Type 0} (none : A) (r : Rows A) (cs : List ℕ) where
   open Rows r using (size, phases, phase, known)

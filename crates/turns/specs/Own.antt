@@ -13,12 +13,14 @@ use Rattle.order.specs.Lists.{put-other}
 use Rattle.order.specs.Machine.{count}
 use Rattle.order.specs.Rows.{Rows, plan}
 use Rattle.blocks.specs.Sums.{column}
-use Rattle.turns.specs.Turn.{Said, After, before, next, after, turn}
-use Rattle.turns.specs.Row.{actionIn, actionsOf, noneDone, none-done, countsAfter, reportsTo}
-use Rattle.turns.specs.Reach.{Reachable, none-reachable, counted-same, Turn, does, halts, stops, turn-is}
-use Rattle.turns.specs.Meaning.{own, own-more, own-nth}
-use Rattle.turns.specs.Machine.{work}
-use Rattle.turns.specs.Follows.{Calls, called}
+use Rattle.turns.specs.Turn.{Said, After, own, before, next, after, turn}
+use Rattle.turns.specs.Row.{actionIn, actionsOf, noneDone, countsAfter, reportsTo}
+use Rattle.turns.specs.RowLaws.{none-done}
+use Rattle.turns.specs.Reach.{none-reachable, counted-same, Turn, does, halts, stops, turn-is}
+use Rattle.turns.specs.Reachable.{Reachable}
+use Rattle.turns.specs.Meaning.{own-more, own-nth}
+use Rattle.turns.specs.Calls.{work, Calls}
+use Rattle.turns.specs.Follows.{called}
 
 module _ {A M : Type 0} {none : A} {r : Rows A} {run : A → M → M} {Fits : M → Type 0} {step : ℕ → List ℕ → M → After A M}
     (k : Calls none r run Fits step) (d : ℕ) (proper : d < r .size) where
