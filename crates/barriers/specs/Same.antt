@@ -12,7 +12,8 @@ use Rattle.blocks.specs.Sums.{column, some, total-same, some-here, some-none, s
 use Rattle.turns.specs.Turn.{Work, Said, before, closed, comeTo, phaseOf, wrongCount, wrongState, next}
 use Rattle.turns.specs.TwoPhases.{closed-first}
 use Rattle.turns.specs.Row.{performing, listed}
-use Rattle.turns.specs.Reach.{Opened, before-up, closed-opened, opened-closed, Turn, does, halts, stops, turn-is}
+use Rattle.turns.specs.Reach.{before-up, closed-opened, opened-closed, Turn, does, halts, stops, turn-is}
+use Rattle.turns.specs.Reachable.{Opened}
 use Rattle.barriers.specs.Code.{beforeBy, comeBy, phaseBy, closedBy, openBy, lastOpenBy, beyondBy, wrongBy, readyBy, listedBy, EndsFit, Ended}
 
 or-right : (x y : Bool) → y ≡ true → (x || y) ≡ true

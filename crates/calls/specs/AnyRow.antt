@@ -10,7 +10,6 @@ use lib.ListN.{drop}
 use lib.Ieee.{Float}
 use Rattle.order.specs.Lists.{Before, NoDup}
 use Rattle.model.specs.declared.Iteration.{Iteration}
-use Rattle.model.specs.Table.{Inside}
 use Rattle.model.specs.References.{allRefs}
 use Rattle.model.specs.PlainRun.{plainRun}
 use Rattle.refusals.specs.Answers.{accepted}
@@ -20,9 +19,10 @@ use Rattle.blocks.specs.Sums.{column}
 use Rattle.lists.specs.Fusion.{Once, once as in-one-list, owner, phase}
 use Rattle.rows.specs.Theorem.{any-schedule}
 use Rattle.turns.specs.Turn.{Said, performs}
-use Rattle.turns.specs.Row.{noneDone, reports, countsAfter, memoryAfter, reportsTo}
-use Rattle.turns.specs.Reach.{Reachable}
-use Rattle.turns.specs.Follows.{performed, started}
+use Rattle.turns.specs.Row as rows
+use Rattle.turns.specs.Row.{actionsOf, noneDone, reports, countsAfter, memoryAfter, reportsTo}
+use Rattle.turns.specs.Reachable.{Reachable}
+use Rattle.turns.specs.Follows.{started}
 use Rattle.turns.specs.Complete as turns
 use Rattle.turns.specs.Own as own
 use Rattle.turns.specs.Reached as reach
@@ -32,11 +32,8 @@ use Rattle.plain.specs.Plain.{plainMemory, plain-memory}
 use Rattle.stepping.specs.declared.Report.the-variants.{Performed}
 use Rattle.stepping.specs.Step.{workOf, reportOf, fused, peeled, step}
 use Rattle.stepping.specs.Meaning.{said-performs}
-use Rattle.calls.specs.Calls.{Fits, fit, lists, calls}
-
--- the row has reported every iteration of every loop
-abbrev pub Complete : List ℕ → Settings → Planned → List ℕ → List Float → Type 0
-Complete s w q bs m = (x : Iteration) → Inside (q .table) x → Mem (Performed (x .number) (x .index)) (map reportOf (reports (step s w) bs noneDone m))
+use Rattle.calls.specs.Rows.{Fits, Complete, row}
+use Rattle.calls.specs.Calls.{fit, calls}
 
 -- a report names an iteration exactly if its call performed it
 reported-performs : (x : Iteration) (ss : List (Said Iteration)) → Mem (Performed (x .number) (x .index)) (map reportOf ss) → Mem (performs x) ss
@@ -52,14 +49,14 @@ performs-reported x (a ∷ ss) m =
 
 module _ (s : List ℕ) (w : Settings) (q : Planned) (planned-is : planned s w ≡ accepted q) where
   -- the iterations of the table are those of the lists
-  home : Once (q .table) (q .plan) (fit s w q planned-is .wide)
+  pub home : Once (q .table) (q .plan) (fit s w q planned-is .wide)
   home = in-one-list (q .table) (q .plan) (fit s w q planned-is .wide)
 
   module _ (bs : List ℕ) (m : List Float) where
-    listed : Complete s w q bs m → turns.Complete (lists s w q planned-is) (step s w) bs m
+    pub listed : Complete s w q bs m → rows.Complete (step s w) (workOf q) bs m
     listed all n b x l i h = reported-performs x (reports (step s w) bs noneDone m) (all x (home .alone n b x l i h .0))
 
-    pub unlisted : turns.Complete (lists s w q planned-is) (step s w) bs m → Complete s w q bs m
+    pub unlisted : rows.Complete (step s w) (workOf q) bs m → Complete s w q bs m
     unlisted all x i =
         let (l, j, h) = home .listed x i in
         performs-reported x (reports (step s w) bs noneDone m) (all (phase (q .table) (q .plan) x) (owner (q .table) (q .plan) x) x j l h)
@@ -73,28 +70,24 @@ module _ (s : List ℕ) (w : Settings) (q : Planned) (planned-is : planned s w �
         (listed bs m all)
         ∙ sym (plain-memory s (q .table) m (planned-accepts s w q planned-is .read) fits)
 
-    -- BESIDE IT, of every row, complete or not. What its calls perform, in order:
-    abbrev pub row : List Iteration
-    row = performed (reports (step s w) bs noneDone m)
-
-    -- no iteration is reported twice
-    pub once : NoDup row
+    -- BESIDE IT, of every row, complete or not: no iteration is reported twice
+    pub once : NoDup (row s w bs m)
     once = turns.once (calls s w q planned-is) bs m fits
 
     -- none of a later phase is reported before the last one of an earlier phase
     pub by-phase : (i j a b : ℕ) (x y : Iteration) → i < j → j < workOf q .phases → a < q .plan .processors → b < q .plan .processors
-        → Mem y (workOf q .list i a) → Mem x (workOf q .list j b) → Mem x row → Before y x row
+        → Mem y (workOf q .list i a) → Mem x (workOf q .list j b) → Mem x (row s w bs m) → Before y x (row s w bs m)
     by-phase = turns.barrier (calls s w q planned-is) bs m fits
 
     -- no peeled iteration is reported before the last fused one
     pub barrier : (a b : ℕ) (x y : Iteration) → a < q .plan .processors → b < q .plan .processors → Mem x (peeled q a) → Mem y (fused q b)
-        → Mem x row → Before y x row
+        → Mem x (row s w bs m) → Before y x (row s w bs m)
     barrier a b x y i j p f = by-phase 0 1 b a x y (omega arith) (omega arith) j i f p
 
     -- each processor keeps its own list's order: the calls that name it have performed the first of its fused list and then its peeled list,
     -- as many as its count says
     pub own-calls : (d : ℕ) → d < q .plan .processors
-        → performed (reportsTo (step s w) d bs noneDone m) ++ drop (column (countsAfter (step s w) bs noneDone m) d) (fused q d ++ peeled q d)
+        → actionsOf (reportsTo (step s w) d bs noneDone m) ++ drop (column (countsAfter (step s w) bs noneDone m) d) (fused q d ++ peeled q d)
         ≡ fused q d ++ peeled q d
     own-calls d l = own.own-calls (calls s w q planned-is) d l bs m fits
 

@@ -11,8 +11,9 @@ use Rattle.iterations.specs.Memory.{remembered, remembered-as-long}
 use Rattle.plain.specs.Plain.{plainMemory}
 use Rattle.stepping.specs.Step.{elements}
 use Rattle.stepping.specs.Run.{runRow, memoryOf, runMemory}
-use Rattle.calls.specs.Calls.{Fits, calls}
-use Rattle.calls.specs.AnyRow.{Complete, unlisted, any-row}
+use Rattle.calls.specs.Rows.{Fits, Complete}
+use Rattle.calls.specs.Calls.{calls}
+use Rattle.calls.specs.AnyRow.{unlisted, any-row}
 
 module _ (s : List ℕ) (w : Settings) (q : Planned) (planned-is : planned s w ≡ accepted q) (order : List ℕ) (m : List Float) (fits : Fits q m) where
   -- its row is complete

@@ -3,24 +3,19 @@ use Prim.Native.Nat.{ℕ}
 use native.Mathlib.Omega.{arith}
 use mathlib.Core.Path.{_≡_, _∙_}
 use mathlib.Core.List.{List}
-use lib.ListN.{length}
-use lib.Ieee.{Float}
 use Rattle.order.specs.Rows.{Rows}
 use Rattle.model.specs.declared.Iteration.{Iteration}
 use Rattle.model.specs.Table.{iteration}
 use Rattle.model.specs.Bodies.{run}
 use Rattle.refusals.specs.Answers.{accepted}
 use Rattle.lists.specs.Fusion.{rows}
-use Rattle.turns.specs.Follows.{Calls}
+use Rattle.turns.specs.Calls.{Calls}
 use Rattle.plans.specs.Plans.{Settings, Planned, planned}
 use Rattle.plans.specs.Accepted.{Fit, planned-accepts}
 use Rattle.iterations.specs.Memory.{run-length}
-use Rattle.stepping.specs.Step.{elements, step}
+use Rattle.stepping.specs.Step.{step}
 use Rattle.stepping.specs.Reach.{step-turn, step-past}
-
--- a memory of the table's length
-abbrev pub Fits : Planned → List Float → Type 0
-Fits q m = length m ≡ elements q
+use Rattle.calls.specs.Rows.{Fits}
 
 module _ (s : List ℕ) (w : Settings) (q : Planned) (planned-is : planned s w ≡ accepted q) where
   pub fit : Fit (q .table) (q .plan)
@@ -33,7 +28,7 @@ module _ (s : List ℕ) (w : Settings) (q : Planned) (planned-is : planned s w �
   calls = record {
     some-phase = omega arith;
     few = fit .few;
-    keeps = λ x m e. run-length (q .table) x m ∙ e;
+    keeps = λ x m e. run-length (q .table) _ m ∙ e;
     step-turn = step-turn s w q planned-is;
     step-past = step-past s w q planned-is;
   }

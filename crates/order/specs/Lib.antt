@@ -9,10 +9,10 @@ pub mod Reported
 -- every complete schedule leaves what the plain order leaves; and there is one
 pub mod Plain
 pub mod Exists
+-- every order is some schedule's
+pub mod EveryOrder
 -- the same where a turn is one step of an action
 pub mod Steps
 pub mod Fine
 -- plans told by numbers: phases, processors, keys
 pub mod Rows
--- which actions commute
-pub mod Memory

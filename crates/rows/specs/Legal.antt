@@ -2,14 +2,11 @@
 -- `Counts r q`, for a reference r of an earlier loop and q of a later one. Assumes nothing.
 use mathlib.Core.List.{List·Memᴰ as Mem}
 use Prim.Native.Nat.{ℕ, _+_, _≤_, _<_}
-use native.Mathlib.Omega.{arith}
 use Rattle.model.specs.declared.Iteration.{Iteration}
 use Rattle.model.specs.declared.Reference.{Reference}
 use Rattle.model.specs.Table.{Table, count, Inside}
-use Rattle.model.specs.References.{refs, Touch, Meet}
+use Rattle.model.specs.References.{refs, Meet}
 use Rattle.chains.specs.Dependence.{backward, forward}
-use Rattle.blocks.specs.Index.{Contained}
-use Rattle.blocks.specs.Index.{contained as contained-by}
 use Rattle.lists.specs.Fusion.{Fusion}
 
 module _ (Counts : Reference → Reference → Type 0) (t : Table) where
@@ -31,16 +28,3 @@ module _ (Counts : Reference → Reference → Type 0) (t : Table) where
   pub record Legal (c : Fusion) : Type 0 where
     pub shifted : (j k : ℕ) (r q : Reference) → Depends j k r q → c .shift j + backward r q ≤ c .shift k
     pub peeled : (j k : ℕ) (r q : Reference) → Depends j k r q → c .peel j + forward r q ≤ c .peel k
-
-  -- where two iterations meet at a dependence, the reach of the earlier lies inside that of the later
-  pub contained : (c : Fusion) → Legal c → (x y : Iteration) (r q : Reference) → Depends (x .number) (y .number) r q
-      → Meet (x .index) (y .index) r q
-      → Contained (c .shift (x .number)) (c .peel (x .number)) (x .index) (c .shift (y .number)) (c .peel (y .number)) (y .index)
-  contained c ok x y r q d m =
-      contained-by (c .shift (x .number)) (c .peel (x .number)) (x .index) (c .shift (y .number)) (c .peel (y .number)) (y .index)
-      (backward r q) (forward r q) (omega (arith, m .1)) (omega (arith, ok .shifted (x .number) (y .number) r q d))
-      (omega (arith, ok .peeled (x .number) (y .number) r q d))
-
--- two references to one array, at least one of them a destination, are enough
-pub touch-counts : (t : Table) → NoneMissed Touch t
-touch-counts t x y r q m n l g h e = e .0

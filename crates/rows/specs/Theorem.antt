@@ -10,7 +10,7 @@ use native.Mathlib.Omega.{arith}
 use lib.Ieee.{Float}
 use Rattle.order.specs.Lists.{Before, before-left, before-right}
 use Rattle.order.specs.Reorder.{runAll, Commute}
-use Rattle.order.specs.Machine.{Complete, trace, zeros}
+use Rattle.order.specs.Machine.{Exhausts, trace, start}
 use Rattle.order.specs.Rows.{Ordered, plan, any-schedule-by-keys}
 use Rattle.model.specs.declared.Iteration.{Iteration}
 use Rattle.model.specs.declared.Reference.{Reference}
@@ -23,7 +23,8 @@ use Rattle.blocks.specs.Index.{same-part}
 use Rattle.lists.specs.Order.{Less, less-key}
 use Rattle.lists.specs.Fusion.{Fusion, Wide, phases, work, owner, phase, key, rank, pastAll, index-below, rows, once}
 use Rattle.rows.specs.PlainOrder.{plain, plain-mem, plain-before, plain-once, plain-run}
-use Rattle.rows.specs.Legal.{Depends, NoneMissed, Legal, contained}
+use Rattle.rows.specs.Legal.{Depends, NoneMissed, Legal}
+use Rattle.rows.specs.Contained.{contained}
 
 -- two iterations clash, if the table has them
 abbrev pub Dependent : Table → Iteration → Iteration → Type 0
@@ -101,8 +102,8 @@ module _ (t : Table) (sound : Sound t) (Counts : Reference → Reference → Typ
       go (no m) n = absurd (free (λ i j. absurd (m i)))
 
   -- every complete schedule leaves the memory of the plain run, from the same start
-  pub any-schedule : (bs : List ℕ) → Complete (plan (rows t c wide)) bs → (m : List Float)
-      → runAll (run t) (trace (plan (rows t c wide)) bs zeros) m ≡ plainRun t m
+  pub any-schedule : (bs : List ℕ) → Exhausts (plan (rows t c wide)) bs → (m : List Float)
+      → runAll (run t) (trace (plan (rows t c wide)) bs start) m ≡ plainRun t m
   any-schedule bs whole m =
       any-schedule-by-keys (rows t c wide) (plain t) (plain-once t) (in-one-list t c wide) (Dependent t) ordered (run t) commute bs whole m
       ∙ sym (plain-run t m)

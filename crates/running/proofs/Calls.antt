@@ -17,8 +17,11 @@ use Rattle.model.specs.Bodies.{run}
 use Rattle.reader.specs.Store.{tableIn}
 use Rattle.iterations.specs.Memory.{total, run-length}
 use Rattle.turns.specs.Turn.{Work, Said, refuses, performs, waits, ends, After, after, next, turn}
-use Rattle.turns.specs.Row.{noneDone, reports, countsAfter, memoryAfter, performing, idle, lowest, canStep, closing, listed, rowOf, lowest-same, lowest-holds, memory-append, idle-append}
-use Rattle.turns.specs.Reach.{Reachable, none-reachable, turn-reachable}
+use Rattle.turns.specs.Row.{noneDone, reports, countsAfter, memoryAfter, performing, idle, lowest, canStep, closing, listed, rowOf}
+use Rattle.turns.specs.Lowest.{lowest-same, lowest-holds}
+use Rattle.turns.specs.RowLaws.{memory-append, idle-append}
+use Rattle.turns.specs.Reach.{none-reachable, turn-reachable}
+use Rattle.turns.specs.Reachable.{Reachable}
 use Rattle.turns.specs.Meaning.{turn-said}
 use Rattle.barriers.specs.Code.{readyBy, listedBy}
 use Rattle.barriers.specs.Same.{ready-is, listed-is}

@@ -17,7 +17,7 @@ use Rattle.model.specs.declared.Iteration.{Iteration}
 use Rattle.model.specs.Table.{iteration}
 use Rattle.model.specs.Bodies.{run}
 use Rattle.turns.specs.Turn.{Work, refuses, stays, turn}
-use Rattle.turns.specs.Reach.{Reachable}
+use Rattle.turns.specs.Reachable.{Reachable}
 use Rattle.barriers.specs.Code.{Ended}
 use Rattle.plans.specs.Plans.{Settings, Planned, planned}
 use Rattle.plans.specs.Code.{plannedIn, Laid}

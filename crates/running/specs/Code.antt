@@ -14,7 +14,7 @@ use Rattle.reader.specs.Store.{tableIn}
 use Rattle.iterations.specs.Memory.{total}
 use Rattle.turns.specs.Turn.{Work, Said, refuses, After, stays, turn}
 use Rattle.turns.specs.Row.{noneDone, reports, countsAfter, memoryAfter, performing, idle, listed, rowOf}
-use Rattle.turns.specs.Reach.{Reachable}
+use Rattle.turns.specs.Reachable.{Reachable}
 use Rattle.barriers.specs.Code.{Ended}
 use Rattle.stepping.specs.declared.Report.{Report}
 use Rattle.stepping.specs.Step.{reportOf}

@@ -17,8 +17,8 @@ use Rattle.refusals.specs.Answers.{AnswerOf, accepted, refused}
 use Rattle.grounds.specs.Accepted.{valid-last}
 use Rattle.blocks.specs.Sums.{column}
 use Rattle.lists.specs.Fusion.{once}
-use Rattle.turns.specs.Turn.{Said, refuses, performs, waits, ends, After, stays, wrongState, next, turn, stepped}
-use Rattle.turns.specs.Meaning.{own, turn-said, performs-says, waits-says, ends-says}
+use Rattle.turns.specs.Turn.{Said, refuses, performs, waits, ends, After, stays, wrongState, next, turn, stepped, own}
+use Rattle.turns.specs.Meaning.{turn-said, performs-says, waits-says, ends-says}
 use Rattle.plans.specs.Plans.{Settings, Planned, planned, plannedFor}
 use Rattle.plans.specs.Accepted.{planned-accepts, named-accepts}
 use Rattle.iterations.specs.Memory.{remembered, remembered-accepted}
@@ -39,7 +39,7 @@ said-waits (performs x) e = cc
 said-waits waits e = refl
 said-waits ends e = cc
 
-said-ends : (a : Said Iteration) → reportOf a ≡ Finished → a ≡ ends
+pub said-ends : (a : Said Iteration) → reportOf a ≡ Finished → a ≡ ends
 said-ends (refuses r) e = cc
 said-ends (performs x) e = cc
 said-ends waits e = cc

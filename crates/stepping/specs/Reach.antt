@@ -9,7 +9,8 @@ use Rattle.model.specs.Bodies.{run}
 use Rattle.refusals.specs.Refusals.{met}
 use Rattle.refusals.specs.Answers.{accepted}
 use Rattle.turns.specs.Turn.{refuses, stays, turn}
-use Rattle.turns.specs.Reach.{Reachable, stepped-turn}
+use Rattle.turns.specs.Reach.{stepped-turn}
+use Rattle.turns.specs.Reachable.{Reachable}
 use Rattle.plans.specs.Plans.{Settings, Planned, planned}
 use Rattle.plans.specs.Accepted.{named-below, named-past}
 use Rattle.iterations.specs.Memory.{remembered, remembered-as-long}

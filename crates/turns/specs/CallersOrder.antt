@@ -10,31 +10,32 @@ use lib.Dec.{ltb}
 use borrow.Author.Tests.{ltb-true, ltb-false}
 use lib.ListN.{length, length-append}
 use Rattle.order.specs.Lists.{if-yes, pick-length, perm-length}
-use Rattle.order.specs.Machine.{left, left-size, left-rest, left-next, rest, rest-next, next, bump, count, trace, final, zeros, runs, run-perm}
-use Rattle.order.specs.Exists.{Ready, some-ready, nothing}
+use Rattle.order.specs.Machine.{left, left-size, left-rest, left-next, rest, rest-next, next, next-open, bump, count, trace, final, start, runs, run-perm}
+use Rattle.order.specs.Exists.{Able, some-able, nothing}
 use Rattle.order.specs.Rows.{Rows, plan, whole}
 use Rattle.blocks.specs.Sums.{column, total-same}
 use Rattle.lists.specs.Joined.{length-joined}
 use Rattle.turns.specs.Turn.{Said, refuses, performs, waits, ends, After, before}
-use Rattle.turns.specs.Row.{noneDone, countsAfter, memoryAfter, performing, lowest, canStep, closing, listed, rowOf}
-use Rattle.turns.specs.Row.{lowest-holds, lowest-none, counts-append}
-use Rattle.turns.specs.Reach.{Reachable}
-use Rattle.turns.specs.Machine.{done, work, next-open}
-use Rattle.turns.specs.Follows.{Calls, called, started}
-use Rattle.turns.specs.Complete.{Complete, ends-complete}
+use Rattle.turns.specs.Row.{actionIn, noneDone, countsAfter, memoryAfter, performing, lowest, canStep, closing, listed, rowOf, Complete}
+use Rattle.turns.specs.Lowest.{lowest-holds, lowest-none}
+use Rattle.turns.specs.RowLaws.{counts-append}
+use Rattle.turns.specs.Reachable.{Reachable}
+use Rattle.turns.specs.Calls.{work, Calls}
+use Rattle.turns.specs.Follows.{called, started}
+use Rattle.turns.specs.Complete.{exhausts-complete}
 
 -- a call performs exactly if there is an action
-performing-done : {A : Type 0} (s : Said A) → performing s ≡ true → (x : A) × (done s ≡ x ∷ [])
-performing-done (refuses r) e = absurd (false≢true e)
-performing-done (performs x) e = (x, refl)
-performing-done waits e = absurd (false≢true e)
-performing-done ends e = absurd (false≢true e)
+performing-action : {A : Type 0} (s : Said A) → performing s ≡ true → (x : A) × (actionIn s ≡ x ∷ [])
+performing-action (refuses r) e = absurd (false≢true e)
+performing-action (performs x) e = (x, refl)
+performing-action waits e = absurd (false≢true e)
+performing-action ends e = absurd (false≢true e)
 
-done-performing : {A : Type 0} (s : Said A) (x : A) → done s ≡ x ∷ [] → performing s ≡ true
-done-performing (refuses r) x e = cc
-done-performing (performs y) x e = refl
-done-performing waits x e = cc
-done-performing ends x e = cc
+action-performing : {A : Type 0} (s : Said A) (x : A) → actionIn s ≡ x ∷ [] → performing s ≡ true
+action-performing (refuses r) x e = cc
+action-performing (performs y) x e = refl
+action-performing waits x e = cc
+action-performing ends x e = cc
 
 module _ {A M : Type 0} {none : A} {r : Rows A} {run : A → M → M} {Fits : M → Type 0} {step : ℕ → List ℕ → M → After A M}
     (k : Calls none r run Fits step) where
@@ -46,19 +47,19 @@ module _ {A M : Type 0} {none : A} {r : Rows A} {run : A → M → M} {Fits : M 
     -- where nobody can step, nothing is left
     stuck : ((b : ℕ) → b < r .size → canStep step cs m b ≡ false) → undone cs ≡ []
     unfolding canStep
-    stuck still = nothing (plan r) (undone cs) (λ x h. able (some-ready (plan r) (column cs) (suc (r .phase x)) x h (omega arith)))
+    stuck still = nothing (plan r) (undone cs) (λ x h. stays (some-able (plan r) (column cs) (suc (r .phase x)) x h (omega arith)))
       where
-        able : Ready (plan r) (column cs) → ⊥
-        able (b, x, l, e, o) =
+        stays : Able (plan r) (column cs) → ⊥
+        stays (b, x, l, e, o) =
             let proper : b < r .size = left-size (plan r) (column cs) b {x = x} (rw e (mhere refl)) in
             let q = called k b cs m fits t .same ∙ ap (next (plan r) (column cs)) e ∙ next-open (plan r) (column cs) x l o in
-            false≢true (sym (still b proper) ∙ done-performing (step b cs m .said) x q)
+            false≢true (sym (still b proper) ∙ action-performing (step b cs m .said) x q)
 
     -- a call that performs leaves one less
     fewer : (b : ℕ) → canStep step cs m b ≡ true → length (undone cs) ≡ suc (length (undone (step b cs m .counts)))
     unfolding canStep
     fewer b e =
-        let (x, d) = performing-done (step b cs m .said) e in
+        let (x, d) = performing-action (step b cs m .said) e in
         let c = called k b cs m fits t in
         taken x (left (plan r) (column cs) b) refl (sym (c .same) ∙ d) (column (step b cs m .counts)) (c .counts ∙ ap (count (plan r) (column cs) b) d)
       where
@@ -95,10 +96,10 @@ module _ {A M : Type 0} {none : A} {r : Rows A} {run : A → M → M} {Fits : M 
       go false e ih = stuck cs m fits t (λ d i. lowest-none (r .size) d (canStep step cs m) (ltb-false b (r .size) e) i)
 
   -- all lists together have as many actions as the machine has to do
-  all-listed : length (rest (plan r) zeros) ≡ listed (work r)
+  all-listed : length (rest (plan r) start) ≡ listed (work r)
   all-listed =
-      length-joined (left (plan r) zeros) (r .size)
-      ∙ total-same (r .size) (λ b. length (left (plan r) zeros b)) (before (work r) (r .phases))
+      length-joined (left (plan r) start) (r .size)
+      ∙ total-same (r .size) (λ b. length (left (plan r) start b)) (before (work r) (r .phases))
       (λ b l. ap length (if-yes (decLt b (r .size)) (whole r b) [] l) ∙ length-joined (λ n. r .work n b) (r .phases))
 
   module _ (order : List ℕ) (m : M) (fits : Fits m) where
@@ -107,9 +108,9 @@ module _ {A M : Type 0} {none : A} {r : Rows A} {run : A → M → M} {Fits : M 
 
     enough : length (undone counts) ≤ listed (work r)
     enough =
-        let p = perm-length (run-perm (plan r) (runs (plan r) order zeros)) in
+        let p = perm-length (run-perm (plan r) (runs (plan r) order start)) in
         let q = ap (λ (c : ℕ → ℕ). length (rest (plan r) c)) (started k order m fits .counts) in
-        omega (arith, p, q, all-listed, length-append (trace (plan r) order zeros) (rest (plan r) (final (plan r) order zeros)))
+        omega (arith, p, q, all-listed, length-append (trace (plan r) order start) (rest (plan r) (final (plan r) order start)))
 
     abbrev calls : List ℕ
     calls = rowOf step (r .size) (listed (work r)) order m
@@ -123,9 +124,9 @@ module _ {A M : Type 0} {none : A} {r : Rows A} {run : A → M → M} {Fits : M 
         ∙ closing-ends n counts (memoryAfter step order noneDone m) (f .fits) (f .reachable) enough
 
     -- its row is complete
-    pub row-complete : Complete r step (rowOf step (r .size) (listed (work r)) order m) m
+    pub row-complete : Complete step (work r) (rowOf step (r .size) (listed (work r)) order m) m
     row-complete =
-        ends-complete k calls m fits
+        exhausts-complete k calls m fits
         (λ b. subst (λ (c : ℕ → ℕ). left (plan r) c b ≡ []) (started k calls m fits .counts)
         (nothing (plan r) (left (plan r) (column (countsAfter step calls noneDone m)) b)
         (λ y h. List·Memᴰ·not-nil (rw nothing-left at (left-rest (plan r) (column (countsAfter step calls noneDone m)) b h)))))

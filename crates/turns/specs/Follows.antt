@@ -1,6 +1,6 @@
 -- A row of calls is a schedule of the machine with those lists: the same actions in the same order, the same counts, and the memory that
 -- those actions leave.
-use Prim.Native.Nat.{ℕ, _≤_, _<_}
+use Prim.Native.Nat.{ℕ, _<_}
 use native.Mathlib.Omega.{arith}
 use native.Mathlib.Decide.{decLt}
 use mathlib.Core.Path.{_≡_, refl, sym, ap, subst, _∙_, fun-ext}
@@ -8,35 +8,24 @@ use mathlib.Core.List.{List, [], _∷_, _++_}
 use lib.ListN.{drop}
 use lib.Seq.{drop-nil}
 use Rattle.order.specs.Reorder.{runAll, runAll-append}
-use Rattle.order.specs.Machine.{left, next, count, trace, final, zeros}
+use Rattle.order.specs.Machine.{left, next, count, trace, final, start}
 use Rattle.order.specs.Rows.{Rows, plan}
 use Rattle.blocks.specs.Sums.{column}
-use Rattle.refusals.specs.Refusals.{met}
-use Rattle.turns.specs.Turn.{Said, refuses, After, stays, turn}
-use Rattle.turns.specs.Row.{noneDone, none-done, reports, countsAfter, memoryAfter}
-use Rattle.turns.specs.Reach.{Reachable, none-reachable, turn-reachable}
-use Rattle.turns.specs.Machine.{done, work, turn-next, turn-counts, turn-memory}
-
--- what a call has to do: from a memory that fits and counts that are reached it is a turn; a number past the processors is refused, by 10
-pub record Calls {A M : Type 0} (none : A) (r : Rows A) (run : A → M → M) (Fits : M → Type 0) (step : ℕ → List ℕ → M → After A M) : Type 0 where
-  pub some-phase : 0 < r .phases
-  pub few : r .size ≤ 64
-  pub keeps : (x : A) (m : M) → Fits m → Fits (run x m)
-  pub step-turn : (b : ℕ) (cs : List ℕ) (m : M) → Fits m → Reachable (work r) cs → b < r .size → step b cs m ≡ turn none (work r) run b cs m
-  pub step-past : (b : ℕ) (cs : List ℕ) (m : M) → r .size ≤ b → step b cs m ≡ stays cs m (refuses (met 10 0))
-
--- the actions that are performed, in order
-abbrev pub performed : {A : Type 0} → List (Said A) → List A
-performed [] = []
-performed (s ∷ ss) = done s ++ performed ss
+use Rattle.turns.specs.Turn.{After, turn}
+use Rattle.turns.specs.Row.{actionIn, actionsOf, noneDone, reports, countsAfter, memoryAfter}
+use Rattle.turns.specs.RowLaws.{none-done}
+use Rattle.turns.specs.Reach.{none-reachable, turn-reachable}
+use Rattle.turns.specs.Reachable.{Reachable}
+use Rattle.turns.specs.Machine.{turn-next, turn-counts, turn-memory}
+use Rattle.turns.specs.Calls.{work, Calls}
 
 module _ {A M : Type 0} {none : A} {r : Rows A} {run : A → M → M} {Fits : M → Type 0} {step : ℕ → List ℕ → M → After A M}
     (k : Calls none r run Fits step) where
   -- a call: it performs what the machine's turn does, and leaves its counts
   pub record Called (b : ℕ) (cs : List ℕ) (m : M) (a : After A M) : Type 0 where
-    pub same : done (a .said) ≡ next (plan r) (column cs) (left (plan r) (column cs) b)
-    pub counts : column (a .counts) ≡ count (plan r) (column cs) b (done (a .said))
-    pub memory : a .memory ≡ runAll run (done (a .said)) m
+    pub same : actionIn (a .said) ≡ next (plan r) (column cs) (left (plan r) (column cs) b)
+    pub counts : column (a .counts) ≡ count (plan r) (column cs) b (actionIn (a .said))
+    pub memory : a .memory ≡ runAll run (actionIn (a .said)) m
     pub reachable : Reachable (work r) (a .counts)
     pub fits : Fits (a .memory)
 
@@ -56,7 +45,7 @@ module _ {A M : Type 0} {none : A} {r : Rows A} {run : A → M → M} {Fits : M 
             counts = turn-counts none r run b cs m (omega arith);
             memory = e;
             reachable = turn-reachable none (work r) (k .some-phase) run (k .few) cs t b l m;
-            fits = rw e (run-fits (done (turn none (work r) run b cs m .said)) m f);
+            fits = rw e (run-fits (actionIn (turn none (work r) run b cs m .said)) m f);
           })
       go (no l) =
           rw (k .step-past b cs m (omega arith))
@@ -72,7 +61,7 @@ module _ {A M : Type 0} {none : A} {r : Rows A} {run : A → M → M} {Fits : M 
 
   -- a row from the counts c
   pub record Follows (bs cs : List ℕ) (c : ℕ → ℕ) (m : M) : Type 0 where
-    pub actions : performed (reports step bs cs m) ≡ trace (plan r) bs c
+    pub actions : actionsOf (reports step bs cs m) ≡ trace (plan r) bs c
     pub counts : column (countsAfter step bs cs m) ≡ final (plan r) bs c
     pub memory : memoryAfter step bs cs m ≡ runAll run (trace (plan r) bs c) m
     pub reachable : Reachable (work r) (countsAfter step bs cs m)
@@ -85,12 +74,12 @@ module _ {A M : Type 0} {none : A} {r : Rows A} {run : A → M → M} {Fits : M 
       let a = step b cs m in
       let c = called b cs m f t in
       let g = follows bs (a .counts) (a .memory) (c .fits) (c .reachable) in
-      let (p, q) = turned (column (a .counts)) (done (a .said)) (c .same) (c .counts) in
+      let (p, q) = turned (column (a .counts)) (actionIn (a .said)) (c .same) (c .counts) in
       let u = trace (plan r) bs (column (a .counts)) in
       record {
-        actions = ap (λ (l : List A). done (a .said) ++ l) (g .actions) ∙ p;
+        actions = ap (λ (l : List A). actionIn (a .said) ++ l) (g .actions) ∙ p;
         counts = g .counts ∙ q;
-        memory = g .memory ∙ ap (runAll run u) (c .memory) ∙ sym (runAll-append run (done (a .said)) u m) ∙ ap (λ (l : List A). runAll run l m) p;
+        memory = g .memory ∙ ap (runAll run u) (c .memory) ∙ sym (runAll-append run (actionIn (a .said)) u m) ∙ ap (λ (l : List A). runAll run l m) p;
         reachable = g .reachable;
         fits = g .fits;
       }
@@ -101,5 +90,5 @@ module _ {A M : Type 0} {none : A} {r : Rows A} {run : A → M → M} {Fits : M 
       turned c d p q = rw (q, p) (refl, refl)
 
   -- a row from the first call's counts is a schedule from the machine's start
-  pub started : (bs : List ℕ) (m : M) → Fits m → Follows bs noneDone zeros m
+  pub started : (bs : List ℕ) (m : M) → Fits m → Follows bs noneDone start m
   started bs m f = subst (λ (c : ℕ → ℕ). Follows bs noneDone c m) (fun-ext none-done) (follows bs noneDone m f (none-reachable (work r)))

@@ -11,22 +11,17 @@ use lib.ListN.{length, getD, drop}
 use lib.Seq.{drop-cons, drop-append-add, drop-append-le}
 use Rattle.order.specs.Lists.{if-yes, put-same, put-other, joined, mem-joined, drop-mem, nth-mem, Tested}
 use Rattle.order.specs.Reorder.{runAll}
-use Rattle.order.specs.Machine.{Plan, left, rest, left-rest, Open, open?, bump, count}
+use Rattle.order.specs.Machine.{Plan, left, rest, left-rest, Late, open?, next-open, bump, count}
 use Rattle.order.specs.Machine.{next as goesOn}
 use Rattle.order.specs.Rows.{Rows, plan, whole}
 use Rattle.blocks.specs.Sums.{column}
-use Rattle.turns.specs.Turn.{Work, Said, refuses, performs, waits, ends, After, before, next, counted, after, turn}
+use Rattle.turns.specs.Turn.{Said, refuses, performs, waits, ends, After, before, next, counted, after, turn}
+use Rattle.turns.specs.Row.{actionIn}
+use Rattle.turns.specs.Calls.{work}
 use Rattle.turns.specs.Reach.{counted-same, counted-other, Come, Turn, does, halts, stops, turn-is}
 use Rattle.turns.specs.Meaning.{own-length, own-more, own-nth, turn-said}
 
--- the action that is performed
-abbrev pub done : {A : Type 0} → Said A → List A
-done (refuses r) = []
-done (performs x) = x ∷ []
-done waits = []
-done ends = []
-
-drop-all : {A : Type 0} (n : ℕ) (l : List A) → length l ≤ n → drop n l ≡ []
+pub drop-all : {A : Type 0} (n : ℕ) (l : List A) → length l ≤ n → drop n l ≡ []
 drop-all zero [] h = refl
 drop-all zero (x ∷ l) h = absurd (omega arith)
 drop-all (suc n) [] h = refl
@@ -58,25 +53,14 @@ module _ {A : Type 0} (f : ℕ → List A) (n N c : ℕ) (few : n ≤ N) where
   drop-early : (d : A) → c < length (joined n f) → Mem (getD (joined n f) c d) (drop c (joined N f))
   drop-early d h = rw (split, drop-append-le c (joined n f) others (omega arith), drop-cons (joined n f) c d h) (mhere refl)
 
--- THE MACHINE'S NEXT ACTION, where the barrier before it is open, and where it is not
+-- where the barrier before it is closed, the machine does not perform an action
 module _ {A : Type 0} (p : Plan A) (c : ℕ → ℕ) where
-  pub next-open : (x : A) (l : List A) → Open p c (p .phase x) → goesOn p c (x ∷ l) ≡ x ∷ []
-  next-open x l o = go (open? p c (p .phase x))
-    where
-      go : (w : Tested (λ y. p .phase x ≤ p .phase y) (rest p c)) → ⊎-elim (λ o. x ∷ []) (λ o. []) w ≡ x ∷ []
-      go (inl w) = refl
-      go (inr (y, m, n)) = absurd (n (o y m))
-
   next-closed : (x y : A) (l : List A) → Mem y (rest p c) → p .phase y < p .phase x → goesOn p c (x ∷ l) ≡ []
   next-closed x y l m e = go (open? p c (p .phase x))
     where
-      go : (w : Tested (λ y. p .phase x ≤ p .phase y) (rest p c)) → ⊎-elim (λ o. x ∷ []) (λ o. []) w ≡ []
+      go : (w : Tested (Late p (p .phase x)) (rest p c)) → ⊎-elim (λ o. x ∷ []) (λ o. []) w ≡ []
       go (inl w) = absurd (omega (arith, w y m))
       go (inr w) = refl
-
--- what settles a run of these rows
-abbrev pub work : {A : Type 0} → Rows A → Work A
-work r = record { processors = r .size; phases = r .phases; list = r .work }
 
 module _ {A : Type 0} (none : A) (r : Rows A) (cs : List ℕ) where
   open Rows r using (size, phases, phase, known)
@@ -103,7 +87,7 @@ module _ {A : Type 0} (none : A) (r : Rows A) (cs : List ℕ) where
 
   -- the same action
   module _ (some-phase : 0 < phases) (b : ℕ) (proper : b < size) where
-    next-is : done (next none (work r) b cs) ≡ goesOn (plan r) c (left (plan r) c b)
+    next-is : actionIn (next none (work r) b cs) ≡ goesOn (plan r) c (left (plan r) c b)
     next-is = go (next none (work r) b cs) (turn-is none (work r) some-phase b cs)
       where
         halted : (n : ℕ) → Come (work r) b cs n → (d : ℕ) × (d < size) × (c d < before (work r) n d) → (k : List A) → left (plan r) c b ≡ k
@@ -114,7 +98,7 @@ module _ {A : Type 0} (none : A) (r : Rows A) (cs : List ℕ) where
             let (y, m, p) = left-early d n i few h in
             sym (next-closed (plan r) c x y k (left-rest (plan r) c d m) (omega (arith, left-late b n x proper few (u .used) (rw e (mhere refl)))))
 
-        go : (s : Said A) → Turn none (work r) b cs s → done s ≡ goesOn (plan r) c (left (plan r) c b)
+        go : (s : Said A) → Turn none (work r) b cs s → actionIn s ≡ goesOn (plan r) c (left (plan r) c b)
         go s (does n u o h) =
             let x = getD (r .work n b) (c b - before (work r) n b) none in
             let l = drop (suc (c b)) (whole r b) in
@@ -135,11 +119,11 @@ module _ {A M : Type 0} (none : A) (r : Rows A) (run : A → M → M) (b : ℕ) 
   abbrev left-by : After A M
   left-by = turn none (work r) run b cs m
 
-  pub turn-next : 0 < r .phases → b < r .size → done (left-by .said) ≡ goesOn (plan r) (column cs) (left (plan r) (column cs) b)
+  pub turn-next : 0 < r .phases → b < r .size → actionIn (left-by .said) ≡ goesOn (plan r) (column cs) (left (plan r) (column cs) b)
   turn-next some-phase proper = rw (turn-said none (work r) run b cs m) (next-is none r cs some-phase b proper)
 
   -- the same counts
-  pub turn-counts : b < length cs → column (left-by .counts) ≡ count (plan r) (column cs) b (done (left-by .said))
+  pub turn-counts : b < length cs → column (left-by .counts) ≡ count (plan r) (column cs) b (actionIn (left-by .said))
   unfolding turn
   turn-counts proper = go (next none (work r) b cs)
     where
@@ -147,18 +131,18 @@ module _ {A M : Type 0} (none : A) (r : Rows A) (run : A → M → M) (b : ℕ) 
       at k (yes e) = rw e (counted-same cs b proper ∙ sym (put-same (column cs) b (suc (column cs b))))
       at k (no n) = counted-other cs b k n ∙ sym (put-other (column cs) b k (suc (column cs b)) n)
 
-      go : (s : Said A) → column (after run b cs m s .counts) ≡ count (plan r) (column cs) b (done (after run b cs m s .said))
+      go : (s : Said A) → column (after run b cs m s .counts) ≡ count (plan r) (column cs) b (actionIn (after run b cs m s .said))
       go (refuses r) = refl
       go (performs x) = fun-ext λ k. at k (ℕ-discrete k b)
       go waits = refl
       go ends = refl
 
   -- and the action's effect
-  pub turn-memory : left-by .memory ≡ runAll run (done (left-by .said)) m
+  pub turn-memory : left-by .memory ≡ runAll run (actionIn (left-by .said)) m
   unfolding turn
   turn-memory = go (next none (work r) b cs)
     where
-      go : (s : Said A) → after run b cs m s .memory ≡ runAll run (done (after run b cs m s .said)) m
+      go : (s : Said A) → after run b cs m s .memory ≡ runAll run (actionIn (after run b cs m s .said)) m
       go (refuses r) = refl
       go (performs x) = refl
       go waits = refl

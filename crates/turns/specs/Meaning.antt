@@ -7,12 +7,9 @@ use lib.ListN.{length, getD}
 use Rattle.order.specs.Lists.{joined}
 use Rattle.blocks.specs.Sums.{column}
 use Rattle.lists.specs.Joined.{length-joined, walk-here}
-use Rattle.turns.specs.Turn.{Work, Said, refuses, performs, waits, ends, before, next, after, turn}
-use Rattle.turns.specs.Reach.{Opened, before-up, Come, Turn, does, halts, stops, turn-is}
-
--- the lists of a processor, one after the other
-abbrev pub own : {A : Type 0} → Work A → ℕ → List A
-own w b = joined (w .phases) (λ n. w .list n b)
+use Rattle.turns.specs.Turn.{Work, Said, refuses, performs, waits, ends, own, before, next, after, turn}
+use Rattle.turns.specs.Reach.{before-up, Come, Turn, does, halts, stops, turn-is}
+use Rattle.turns.specs.Reachable.{Opened}
 
 pub own-length : {A : Type 0} (w : Work A) (b n : ℕ) → length (joined n (λ n. w .list n b)) ≡ before w n b
 own-length w b n = length-joined (λ n. w .list n b) n

@@ -1,4 +1,4 @@
--- The counts that rows of calls reach: those that ground 15 does not refuse. A turn from such counts leaves such counts.
+-- The counts that rows of calls reach are those that ground 15 does not refuse, and a turn from such counts leaves such counts. What a turn is.
 use Prim.Native.Nat.{ℕ, zero, suc, _-_, _≤_, _<_}
 use native.Mathlib.Omega.{arith}
 use native.Mathlib.Decide.{ℕ-discrete, decLt, decLe}
@@ -13,28 +13,20 @@ use lib.Seq.{getD-set-same, getD-set-other}
 use Rattle.blocks.specs.Sums.{column, some, neither, total-up, some-none, some-which, some-each}
 use Rattle.turns.specs.Turn.{Work, Said, performs, waits, ends, before, closed, comeTo, phaseOf, wrongCount, wrongState}
 use Rattle.turns.specs.Turn.{next, counted, after, turn, stepped}
-use Rattle.turns.specs.Row.{noneDone, none-done}
+use Rattle.turns.specs.Row.{noneDone}
+use Rattle.turns.specs.RowLaws.{none-done}
+use Rattle.turns.specs.Reachable.{Opened, Reachable}
 
 -- one more of processor b, and of no other
 module _ (cs : List ℕ) (b : ℕ) where
   pub counted-same : b < length cs → column (counted cs b) b ≡ suc (column cs b)
-  counted-same l = getD-set-same cs b (suc (column cs b)) 0 l
+  counted-same l = getD-set-same cs b _ 0 l
 
   pub counted-other : (k : ℕ) → k ≢ b → column (counted cs b) k ≡ column cs k
-  counted-other k n = getD-set-other cs b k (suc (column cs b)) 0 n
+  counted-other k n = getD-set-other cs b k _ 0 n
 
 module _ {A : Type 0} (w : Work A) where
   open Work w using (processors, phases, list)
-
-  -- the barrier before phase n is open: every list of an earlier phase is used up
-  abbrev pub Opened : List ℕ → ℕ → Type 0
-  Opened cs n = (b : ℕ) → b < processors → before w n b ≤ column cs b
-
-  pub record Reachable (cs : List ℕ) : Type 0 where
-    pub size : length cs ≡ 64
-    pub below : (b : ℕ) → b < processors → column cs b ≤ before w phases b
-    pub barrier : (n : ℕ) → n < phases → (b : ℕ) → b < processors → before w n b < column cs b → Opened cs n
-    pub beyond : (b : ℕ) → b < 64 → processors ≤ b → column cs b ≡ 0
 
   -- later phases have more before them
   pub before-up : (m n b : ℕ) → m ≤ n → before w m b ≤ before w n b
@@ -49,11 +41,11 @@ module _ {A : Type 0} (w : Work A) where
       go (no l) = absurd (omega (arith, before-up (suc n) k b (omega arith)))
 
   module _ (cs : List ℕ) where
-    pub closed-opened : (n : ℕ) → closed w cs n ≡ false → Opened cs n
+    pub closed-opened : (n : ℕ) → closed w cs n ≡ false → Opened w cs n
     unfolding closed
     closed-opened n e b l = ltb-false _ _ (some-each processors b (λ k. ltb (column cs k) (before w n k)) e l)
 
-    pub opened-closed : (n : ℕ) → Opened cs n → closed w cs n ≡ false
+    pub opened-closed : (n : ℕ) → Opened w cs n → closed w cs n ≡ false
     unfolding closed
     opened-closed n o = some-none processors (λ b. ltb (column cs b) (before w n b)) (λ b l. le-ltb _ _ (o b l))
 
@@ -62,7 +54,7 @@ module _ {A : Type 0} (w : Work A) where
     closed-which n e = let (d, l, h) = some-which processors (λ k. ltb (column cs k) (before w n k)) e in (d, l, ltb-true _ _ h)
 
     -- GROUND 15 refuses all others
-    pub reachable-right : Reachable cs → wrongState w cs ≡ false
+    pub reachable-right : Reachable w cs → wrongState w cs ≡ false
     unfolding wrongState wrongCount
     reachable-right r = some-none 64 (wrongCount w cs) (λ b l. go b l (decLt b processors))
       where
@@ -72,11 +64,11 @@ module _ {A : Type 0} (w : Work A) where
 
         go : (b : ℕ) → b < 64 → Dec (b < processors) → wrongCount w cs b ≡ false
         go b l (yes i) =
-            rw (lt-ltb b processors i, le-ltb (before w phases b) (column cs b) (r .below b i))
+            rw (lt-ltb b processors i, le-ltb (before w phases b) (column cs b) (omega (arith, r .below b i)))
             (some-none phases (λ n. ltb (before w n b) (column cs b) && closed w cs n) (λ n k. early n b k i (decLt (before w n b) (column cs b))))
         go b l (no i) = rw (le-ltb b processors (omega arith)) (le-ltb 0 (column cs b) (omega (arith, r .beyond b l (omega arith))))
 
-    pub right-reachable : length cs ≡ 64 → processors ≤ 64 → wrongState w cs ≡ false → Reachable cs
+    pub right-reachable : length cs ≡ 64 → processors ≤ 64 → wrongState w cs ≡ false → Reachable w cs
     unfolding wrongState wrongCount
     right-reachable size few e = record {
       size = size;
@@ -97,7 +89,7 @@ module _ {A : Type 0} (w : Work A) where
             (rw (lt-ltb b processors l) at (each b (omega arith)))
 
   -- the first call's counts
-  pub none-reachable : Reachable noneDone
+  pub none-reachable : Reachable w noneDone
   none-reachable = record {
     size = refl;
     below = λ b l. omega (arith, none-done b);
@@ -106,8 +98,8 @@ module _ {A : Type 0} (w : Work A) where
   }
 
   -- one more of processor b, who has one more, and is past the barriers before it
-  pub counted-reachable : processors ≤ 64 → (cs : List ℕ) → Reachable cs → (b : ℕ) → b < processors → column cs b < before w phases b
-      → ((n : ℕ) → before w n b ≤ column cs b → Opened cs n) → Reachable (counted cs b)
+  pub counted-reachable : processors ≤ 64 → (cs : List ℕ) → Reachable w cs → (b : ℕ) → b < processors → column cs b < before w phases b
+      → ((n : ℕ) → before w n b ≤ column cs b → Opened w cs n) → Reachable w (counted cs b)
   counted-reachable few cs r b proper more over = record {
     size = length-set cs b (suc (column cs b)) ∙ r .size;
     below = λ k l. below k l (ℕ-discrete k b);
@@ -126,7 +118,7 @@ module _ {A : Type 0} (w : Work A) where
       below k l (yes e) = rw e (omega (arith, same))
       below k l (no n) = omega (arith, counted-other cs b k n, r .below k l)
 
-      opened : (n : ℕ) → n < phases → (k : ℕ) → k < processors → before w n k < column (counted cs b) k → Dec (k ≡ b) → Opened cs n
+      opened : (n : ℕ) → n < phases → (k : ℕ) → k < processors → before w n k < column (counted cs b) k → Dec (k ≡ b) → Opened w cs n
       opened n j k l h (yes e) = over n (omega (arith, same, subst (λ (i : ℕ). before w n i < column (counted cs b) i) e h))
       opened n j k l h (no z) = r .barrier n j k l (omega (arith, counted-other cs b k z))
 

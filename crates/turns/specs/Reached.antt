@@ -13,10 +13,12 @@ use lib.Seq.{getD-set-same, getD-set-other, set-set, set-getD, ext-getD}
 use Rattle.order.specs.Rows.{Rows}
 use Rattle.blocks.specs.Sums.{column, total, total-less, some, some-which, some-each}
 use Rattle.turns.specs.Turn.{Work, Said, After, before, next, after, turn}
-use Rattle.turns.specs.Row.{noneDone, none-done, countsAfter, memoryAfter, counts-append}
-use Rattle.turns.specs.Reach.{Opened, Reachable, before-up, used-first, Turn, does, halts, stops, turn-is}
-use Rattle.turns.specs.Machine.{work}
-use Rattle.turns.specs.Follows.{Calls, started}
+use Rattle.turns.specs.Row.{noneDone, countsAfter, memoryAfter}
+use Rattle.turns.specs.RowLaws.{none-done, counts-append}
+use Rattle.turns.specs.Reach.{before-up, used-first, Turn, does, halts, stops, turn-is}
+use Rattle.turns.specs.Reachable.{Opened, Reachable}
+use Rattle.turns.specs.Calls.{work, Calls}
+use Rattle.turns.specs.Follows.{started}
 
 -- one less of processor b
 abbrev previous : List ℕ → ℕ → List ℕ

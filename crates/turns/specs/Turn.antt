@@ -6,6 +6,7 @@ use lib.Dec.{ltb, leb}
 use lib.ListN.{length, getD, set}
 use Rattle.refusals.specs.declared.Refusal.{Refusal}
 use Rattle.refusals.specs.Refusals.{met}
+use Rattle.order.specs.Lists.{joined}
 use Rattle.blocks.specs.Sums.{column, some, total}
 
 -- what settles a run: so many processors and phases, and for each phase and processor a list
@@ -33,6 +34,10 @@ stays counts m s = record { counts = counts; memory = m; said = s }
 
 module _ {A : Type 0} (w : Work A) where
   open Work w using (processors, phases, list)
+
+  -- the lists of processor b, one after the other
+  abbrev pub own : ℕ → List A
+  own b = joined phases (λ n. list n b)
 
   -- how many actions processor b has in the phases before phase n
   abbrev pub before : ℕ → ℕ → ℕ

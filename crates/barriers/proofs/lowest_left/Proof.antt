@@ -5,7 +5,7 @@ use mathlib.Core.Path.{_≡_, sym}
 use mathlib.Core.Bool.{false}
 use borrow.Author.Needs.{needs}
 use borrow.Author.Count.{below-none, below-more}
-use Rattle.turns.specs.Row.{lowest-is}
+use Rattle.turns.specs.Lowest.{lowest-is}
 use Rattle.barriers.specs.Code.{beforeBy, leftBy}
 use Rattle.barriers.proofs.Laws.{below-true, below-false}
 use Rattle.barriers.proofs.lowest_left.Statement.{statement}
