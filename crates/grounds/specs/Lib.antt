@@ -2,6 +2,8 @@
 pub mod Places
 -- each of the grounds 1 to 8 by itself
 pub mod Statements
+-- the tests of a record, in the paper's order
+pub mod Tests
 -- the summary that the tests look at, in the words of the statements
 pub mod Counted
 -- how a reading goes
@@ -10,6 +12,8 @@ pub mod Trace
 pub mod Found
 -- a refusal is given only where its ground holds; an accepted table meets none
 pub mod Theorems
+-- the order inside one record: the first test that holds gives the number
+pub mod FirstTest
 -- what an accepted table is
 pub mod Accepted
 -- how many bytes the records of a table take

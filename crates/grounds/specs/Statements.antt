@@ -85,13 +85,25 @@ Misplaced (Operation o) rs = loops rs ≡ 0
 Misplaced End rs = (arrays rs ≡ 0) ⊎ (loops rs ≡ 0)
 
 -- 3: a field outside its range, or first above last. (An offset is kept with 255 added.)
+abbrev pub BadLength : ℕ → Type 0
+BadLength n = (n < 1) ⊎ (65536 < n)
+
+abbrev pub BadLast : ℕ → Type 0
+BadLast l = 131071 < l
+
+abbrev pub BadOffset : ℕ → Type 0
+BadOffset o = 510 < o
+
+abbrev pub BadOperation : ℕ → Type 0
+BadOperation o = (o < 1) ⊎ (5 < o)
+
 abbrev pub OutOfRange : Record → List Record → Type 0
 OutOfRange Unknown rs = ⊥
-OutOfRange (Array n) rs = (n < 1) ⊎ (65536 < n)
-OutOfRange (Loop f l q o) rs = (131071 < l) ⊎ ((l < f) ⊎ (510 < o))
-OutOfRange (Read q o) rs = 510 < o
+OutOfRange (Array n) rs = BadLength n
+OutOfRange (Loop f l q o) rs = BadLast l ⊎ ((l < f) ⊎ BadOffset o)
+OutOfRange (Read q o) rs = BadOffset o
 OutOfRange (Constant n) rs = ⊥
-OutOfRange (Operation o) rs = (o < 1) ⊎ (5 < o)
+OutOfRange (Operation o) rs = BadOperation o
 OutOfRange End rs = ⊥
 
 -- 4: one array, loop or item too many
@@ -115,11 +127,14 @@ ManyElements (Operation o) rs = ⊥
 ManyElements End rs = ⊥
 
 -- 5: no array of that number. (Arrays are numbered from 0.)
+abbrev pub NoneNumbered : ℕ → List Record → Type 0
+NoneNumbered q rs = arrays rs ≤ q
+
 abbrev pub Unnumbered : Record → List Record → Type 0
 Unnumbered Unknown rs = ⊥
 Unnumbered (Array n) rs = ⊥
-Unnumbered (Loop f l q o) rs = arrays rs ≤ q
-Unnumbered (Read q o) rs = arrays rs ≤ q
+Unnumbered (Loop f l q o) rs = NoneNumbered q rs
+Unnumbered (Read q o) rs = NoneNumbered q rs
 Unnumbered (Constant n) rs = ⊥
 Unnumbered (Operation o) rs = ⊥
 Unnumbered End rs = ⊥
