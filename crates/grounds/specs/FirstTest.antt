@@ -1,6 +1,6 @@
 -- The order inside one record: a refusal with 1 to 7 carries the number of the first test, in the paper's order, that holds at its place;
 -- and the other way, that number is what an input is refused with.
-use Prim.Native.Nat.{ℕ, _≤_, _<_}
+use Prim.Native.Nat.{ℕ, _≤_}
 use native.Mathlib.Omega.{arith}
 use mathlib.Core.Path.{_≡_, refl, sym, ap, subst, _∙_}
 use mathlib.Core.Logic.{_⊎_, inl, inr, ⊎-elim, _≢_}

@@ -16,8 +16,8 @@ use Rattle.records.specs.Bytes.{byte, four, offset, kindOf, recordOf, recordAt}
 use Rattle.records.specs.History.{summary, lengths, operands}
 use Rattle.records.specs.Grounds.{_if_else_, early, edge, fields, orElse, ground}
 use Rattle.grounds.specs.Places.{after, Records, records-within}
-use Rattle.grounds.specs.Statements.{arrays, elements, loops, latest, items, waiting, Misplaced, OutOfRange, OneTooMany, ManyElements}
-use Rattle.grounds.specs.Statements.{Unnumbered, NotOneLeft, NinthOrTooFew, Outside, OutsideArray, AtKind, AtWhole, Ground}
+use Rattle.grounds.specs.Statements.{arrays, elements, loops, latest, items, waiting, OutOfRange, ManyElements}
+use Rattle.grounds.specs.Statements.{Unnumbered, NinthOrTooFew, Outside, OutsideArray, AtWhole, Ground}
 use Rattle.grounds.specs.Tests.{Test, test, kindTests, fieldTests, lastTests, tests, First}
 use Rattle.grounds.specs.Counted.{arrays-counted, elements-counted, loops-counted, Body, body-counted, Clears, loop-array, first-last, no-loop}
 

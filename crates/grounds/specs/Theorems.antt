@@ -11,13 +11,13 @@ use Rattle.records.specs.declared.Record.{Record}
 use Rattle.records.specs.declared.Record.the-variants.{Unknown, Array, Loop, Read, Constant, Operation, End}
 use Rattle.records.specs.Bytes.{recordAt}
 use Rattle.records.specs.History.{summary, lengths}
-use Rattle.records.specs.Clear.{Clear, Within}
+use Rattle.records.specs.Clear.{Clear}
 use Rattle.refusals.specs.Answers.{accepted, refused}
 use Rattle.reader.specs.Reading.{Answer, reading}
 use Rattle.model.specs.Table.{Table}
 use Rattle.grounds.specs.Places.{Records, end-length}
 use Rattle.grounds.specs.Statements.{loops, Misplaced, OutOfRange, OneTooMany, ManyElements, Unnumbered, NotOneLeft, NinthOrTooFew}
-use Rattle.grounds.specs.Statements.{Outside, OutsideArray, Torn, Tail, Ground, by-number, ground-number, ground-place}
+use Rattle.grounds.specs.Statements.{OutsideArray, Torn, Tail, Ground, by-number, ground-number, ground-place}
 use Rattle.grounds.specs.Tests.{tests, First}
 use Rattle.grounds.specs.Counted.{arrays-counted, elements-counted, loops-counted, body-counted, Clears, loop-array}
 use Rattle.grounds.specs.Trace.{Clean, Last, stop, tail, done, Run, last, pass, run-reading, reading-ends, Earlier, visited}
