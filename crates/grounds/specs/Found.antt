@@ -96,7 +96,8 @@ not-outside f l o n low high (i, up, down, out) = ⊎-elim (λ e. omega arith) (
 edge-first : {A : Type 0} (f l o n : ℕ) → f ≤ l → (Outside f l o n → A) → (A → Outside f l o n) → Finds (test 7 A ∷ []) (edge f l o n)
 unfolding edge
 edge-first f l o n h to from =
-    said (⊎-elim (λ e. to (f, omega arith, h, inl e)) (λ e. to (l, h, omega arith, inr e))) (λ a. inside (from a))
+    said {A = (f + o < 255) ⊎ (n + 255 ≤ l + o)} (⊎-elim (λ e. to (f, omega arith, h, inl (omega arith))) (λ e. to (l, h, omega arith, inr (omega arith))))
+    (λ a. inside (from a))
     (both (asked-lt 7 (omega arith) (f + o) 255 _ (λ e. e) (λ e x. omega arith) λ _.
     asked-le 7 (omega arith) (n + 255) (l + o) 0 (λ e. e) (λ e x. omega arith) λ _. none))
   where
@@ -262,4 +263,4 @@ module _ (s : List ℕ) (p g : ℕ) where
         by f (λ h. (rs, before, here, h)) λ _ f.
         by f (λ h. inl (rs, before, here, h)) λ _ f.
         by f (λ h. inl (rs, before, here, h)) λ _ f.
-        by f (λ h. (rs, before, inr (here, h))) λ fits f. later-ground (recordAt s p) refl (omega arith) f
+        by f (λ h. (rs, before, inr (here, omega arith))) λ fits f. later-ground (recordAt s p) refl (omega arith) f

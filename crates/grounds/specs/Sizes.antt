@@ -125,7 +125,11 @@ last-near s p rs a before c (done w l) =
     omega (arith, w .next, end-length s p (w .is), end-near s p rs before c (w .clear .1))
 
 pub accepted-length : (s : List ℕ) (t : Table) → reading s ≡ accepted t → length s ≤ 2065
-accepted-length s t e = let h = reading-ends s (accepted t) e in last-near s (h .place) (h .rs) (accepted t) (h .before) (h .clears) (h .last)
+accepted-length s t e =
+    let h = reading-ends s (accepted t) e in
+    omega (arith, last-near s (h .place) (h .rs) (accepted t) (h .before) (h .clears) (h .last))
 
 pub refused-near : (s : List ℕ) (r : Refusal) → reading s ≡ refused r → r .place ≤ 2076
-refused-near s r e = let h = reading-ends s (refused r) e in last-near s (h .place) (h .rs) (refused r) (h .before) (h .clears) (h .last)
+refused-near s r e =
+    let h = reading-ends s (refused r) e in
+    omega (arith, last-near s (h .place) (h .rs) (refused r) (h .before) (h .clears) (h .last))

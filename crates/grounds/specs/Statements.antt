@@ -107,13 +107,16 @@ OutOfRange (Operation o) rs = BadOperation o
 OutOfRange End rs = ⊥
 
 -- 4: one array, loop or item too many
+abbrev pub ItemTooMany : List Record → Type 0
+ItemTooMany rs = (0 < loops rs) × (32 < items rs + 1)
+
 abbrev pub OneTooMany : Record → List Record → Type 0
 OneTooMany Unknown rs = ⊥
 OneTooMany (Array n) rs = 16 < arrays rs + 1
 OneTooMany (Loop f l q o) rs = 16 < loops rs + 1
-OneTooMany (Read q o) rs = (0 < loops rs) × (32 < items rs + 1)
-OneTooMany (Constant n) rs = (0 < loops rs) × (32 < items rs + 1)
-OneTooMany (Operation o) rs = (0 < loops rs) × (32 < items rs + 1)
+OneTooMany (Read q o) rs = ItemTooMany rs
+OneTooMany (Constant n) rs = ItemTooMany rs
+OneTooMany (Operation o) rs = ItemTooMany rs
 OneTooMany End rs = ⊥
 
 -- 4: an element too many
