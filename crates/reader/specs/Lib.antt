@@ -10,3 +10,7 @@ pub mod Held
 pub mod ReadInto
 -- how a reading that accepts goes
 pub mod Accepting
+-- the bytes of the longest table, and of an input that is refused furthest
+pub mod Longest
+-- the bounds on bytes are attained
+pub mod Attained
