@@ -14,17 +14,14 @@ use Rattle.records.specs.declared.Record.{Record}
 use Rattle.records.specs.declared.Record.the-variants.{Unknown, Array, Loop, Read, Constant, Operation, End}
 use Rattle.records.specs.Bytes.{byte, four, offset, kindOf, recordOf, recordAt}
 use Rattle.records.specs.History.{summary, lengths, operands}
+use Rattle.records.specs.ClearLaws.{nothing}
 use Rattle.records.specs.Grounds.{_if_else_, early, edge, fields, orElse, ground}
-use Rattle.grounds.specs.Places.{after, Records, records-within}
+use Rattle.grounds.specs.Places.{after, Records}
+use Rattle.grounds.specs.PlaceLaws.{records-within}
 use Rattle.grounds.specs.Statements.{arrays, elements, loops, latest, items, waiting, OutOfRange, ManyElements}
 use Rattle.grounds.specs.Statements.{Unnumbered, NinthOrTooFew, Outside, OutsideArray, AtWhole, Ground}
 use Rattle.grounds.specs.Tests.{Test, test, kindTests, fieldTests, lastTests, tests, First}
 use Rattle.grounds.specs.Counted.{arrays-counted, elements-counted, loops-counted, Body, body-counted, Clears, loop-array, first-last, no-loop}
-
--- where a row of tests finds nothing, its first test failed
-pub nothing : (g : ℕ) (b : Bool) (r : ℕ) → (suc g if b else r) ≡ 0 → (b ≡ false) × (r ≡ 0)
-nothing g true r e = absurd (omega (arith, e))
-nothing g false r e = (refl, e)
 
 -- THE FIRST TEST THAT HOLDS
 

@@ -1,7 +1,11 @@
 -- the records before a place
 pub mod Places
+-- a place is in the input; an end record has no body
+pub mod PlaceLaws
 -- each of the grounds 1 to 8 by itself
 pub mod Statements
+-- a ground by its number, and its place
+pub mod StatementLaws
 -- the tests of a record, in the paper's order
 pub mod Tests
 -- the summary that the tests look at, in the words of the statements

@@ -16,13 +16,14 @@ use Rattle.records.specs.declared.Summary.{Summary}
 use Rattle.records.specs.Bytes.{byte, kindOf, recordOf, recordAt}
 use Rattle.records.specs.History.{summary, lengths, advanced, blank, withArray, withLoop, withItem, operands}
 use Rattle.records.specs.Grounds.{_if_else_, early}
-use Rattle.records.specs.Clear.{Clear, spanOf, span-kind}
+use Rattle.records.specs.Clear.{Clear, spanOf}
+use Rattle.records.specs.ClearLaws.{span-kind, nothing}
 use Rattle.model.specs.Table.{Table}
 use Rattle.refusals.specs.Answers.{accepted, refused}
 use Rattle.reader.specs.Reading.{Answer, reading}
-use Rattle.grounds.specs.Places.{after, Records, start, next, end-length}
+use Rattle.grounds.specs.Places.{after, Records, start, next}
+use Rattle.grounds.specs.PlaceLaws.{end-length}
 use Rattle.grounds.specs.Counted.{Clears, Few, few}
-use Rattle.grounds.specs.Found.{nothing}
 use Rattle.grounds.specs.Trace.{Last, stop, tail, done, reading-ends}
 
 -- A read or a constant is at most 5 bytes and adds a waiting number; an operation is 2 bytes, and takes away one number (binary) or none

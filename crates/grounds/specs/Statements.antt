@@ -1,8 +1,7 @@
 -- The grounds 1 to 8, each by itself: what it says of the record at a place and of the records before that place.
-use Prim.Native.Nat.{ℕ, zero, suc, _+_, _-_, _≤_, _<_}
-use native.Mathlib.Omega.{arith}
+use Prim.Native.Nat.{ℕ, suc, _+_, _-_, _≤_, _<_}
 use mathlib.Core.Path.{_≡_}
-use mathlib.Core.Logic.{_⊎_, ⊎-elim, _≢_}
+use mathlib.Core.Logic.{_⊎_, _≢_}
 use mathlib.Core.List.{List, [], _∷_}
 use lib.ListN.{length, getD}
 use Rattle.records.specs.declared.Record.{Record}
@@ -10,7 +9,7 @@ use Rattle.records.specs.declared.Record.the-variants.{Unknown, Array, Loop, Re
 use Rattle.records.specs.Bytes.{recordAt}
 use Rattle.records.specs.History.{lengths, operands}
 use Rattle.model.specs.Table.{Item, read, constant, operation}
-use Rattle.grounds.specs.Places.{after, Records, records-within}
+use Rattle.grounds.specs.Places.{after, Records}
 
 -- WHAT THE RECORDS rs SAY, the latest first
 
@@ -223,49 +222,3 @@ statements s p = ⊥ ∷ Torn s p ∷ BadKind s p ∷ BadField s p ∷ Crowd s p
 
 abbrev pub Ground : ℕ → List ℕ → ℕ → Type 0
 Ground n s p = getD (statements s p) n ⊥
-
-listed : (l : List (Type 0)) (n : ℕ) → getD l n ⊥ → n < length l
-listed [] n g = absurd g
-listed (A ∷ l) zero g = omega arith
-listed (A ∷ l) (suc n) g = omega (arith, listed l n g)
-
-pub ground-number : (s : List ℕ) (n p : ℕ) → Ground n s p → (1 ≤ n) × (n ≤ 8)
-ground-number s zero p g = absurd g
-ground-number s (suc n) p g = (omega arith, omega (arith, listed (statements s p) (suc n) g))
-
--- what follows from each of the statements
-pub record Cases (s : List ℕ) (p : ℕ) (B : Type 0) : Type 0 where
-  pub torn : Torn s p → B
-  pub kind : BadKind s p → B
-  pub field : BadField s p → B
-  pub crowd : Crowd s p → B
-  pub array : NoArray s p → B
-  pub body : BadBody s p → B
-  pub edge : Edge s p → B
-  pub tail : Tail s p → B
-
-pub by-number : (s : List ℕ) (p : ℕ) (B : Type 0) → Cases s p B → (n : ℕ) → Ground n s p → B
-by-number s p B c zero g = absurd g
-by-number s p B c (suc zero) g = c .torn g
-by-number s p B c (suc (suc zero)) g = c .kind g
-by-number s p B c (suc (suc (suc zero))) g = c .field g
-by-number s p B c (suc (suc (suc (suc zero)))) g = c .crowd g
-by-number s p B c (suc (suc (suc (suc (suc zero))))) g = c .array g
-by-number s p B c (suc (suc (suc (suc (suc (suc zero)))))) g = c .body g
-by-number s p B c (suc (suc (suc (suc (suc (suc (suc zero))))))) g = c .edge g
-by-number s p B c (suc (suc (suc (suc (suc (suc (suc (suc zero)))))))) g = c .tail g
-by-number s p B c (suc (suc (suc (suc (suc (suc (suc (suc (suc n))))))))) g = absurd g
-
--- a place is in the input, or just past it
-pub ground-place : (s : List ℕ) (n p : ℕ) → Ground n s p → p ≤ length s
-ground-place s n p g =
-    by-number s p (p ≤ length s) (record {
-      torn = λ h. records-within s p (h .0) (h .1);
-      kind = λ h. records-within s p (h .0) (h .1);
-      field = λ h. records-within s p (h .0) (h .1);
-      crowd = ⊎-elim (λ h. records-within s p (h .0) (h .1)) (λ h. records-within s p (h .0) (h .1));
-      array = λ h. records-within s p (h .0) (h .1);
-      body = ⊎-elim (λ h. records-within s p (h .0) (h .1)) (λ h. records-within s p (h .0) (h .1));
-      edge = λ h. records-within s p (h .0) (h .1);
-      tail = λ h. omega (arith, h .6);
-    }) n g

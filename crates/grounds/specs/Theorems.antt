@@ -15,9 +15,11 @@ use Rattle.records.specs.Clear.{Clear}
 use Rattle.refusals.specs.Answers.{accepted, refused}
 use Rattle.reader.specs.Reading.{Answer, reading}
 use Rattle.model.specs.Table.{Table}
-use Rattle.grounds.specs.Places.{Records, end-length}
+use Rattle.grounds.specs.Places.{Records}
+use Rattle.grounds.specs.PlaceLaws.{end-length}
 use Rattle.grounds.specs.Statements.{loops, Misplaced, OutOfRange, OneTooMany, ManyElements, Unnumbered, NotOneLeft, NinthOrTooFew}
-use Rattle.grounds.specs.Statements.{OutsideArray, Torn, Tail, Ground, by-number, ground-number, ground-place}
+use Rattle.grounds.specs.Statements.{OutsideArray, Torn, Tail, Ground}
+use Rattle.grounds.specs.StatementLaws.{by-number, ground-number, ground-place}
 use Rattle.grounds.specs.Tests.{tests, First}
 use Rattle.grounds.specs.Counted.{arrays-counted, elements-counted, loops-counted, body-counted, Clears, loop-array}
 use Rattle.grounds.specs.Trace.{Clean, Last, stop, tail, done, Run, last, pass, run-reading, reading-ends, Earlier, visited}

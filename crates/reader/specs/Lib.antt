@@ -2,8 +2,12 @@
 pub mod Reading
 -- a table as it is kept in a store
 pub mod Store
--- the store holds what was read
+-- what is read off a store, and what is put there
+pub mod StoreLaws
+-- what it is that a store holds a table
 pub mod Stored
+-- the store holds what was read
+pub mod StoredLaws
 -- what is known of a store that holds a table, field by field
 pub mod Held
 -- what code tells of a reading, and what it leaves in the store

@@ -6,6 +6,8 @@ pub mod History
 pub mod Grounds
 -- what is known of a record that meets no ground
 pub mod Clear
+-- a record in which the tests find no ground is clear
+pub mod ClearLaws
 -- the three ways that the tests of a record end
 pub mod Outcome
 -- the kinds that there are, and the ways that the tests go
