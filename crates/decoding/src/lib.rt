@@ -75,12 +75,12 @@ fn kind_of(b: u32) -> Kind
 }
 
 // The body lengths, by kind.
-const LENGTHS: [usize; 7] = [0, 4, 11, 3, 4, 1, 0];
+const BODY_LENGTHS: [usize; 7] = [0, 4, 11, 3, 4, 1, 0];
 
 fn body_length(b: u32) -> usize
     ensures { λ r. ⌜ r ≡ bodyLength b ⌝ }
 {
-    if b < 7 { LENGTHS[wide(b)] } else { 0 }
+    if b < 7 { BODY_LENGTHS[wide(b)] } else { 0 }
 }
 
 // The grounds that need no body: 2, 6 for a body left unfinished, and 4.
@@ -265,12 +265,12 @@ fn fields_ground(r: Record, t: Summary, lens: &Store) -> u32
     }
 }
 
-// A record that meets no ground, and the place after it.
+// A record that meets no ground, and the place after it. (One of unknown kind is refused, and never comes here.)
 fn passing(r: Record, n: usize) -> Tested
     ensures { λ x. ⌜ x ≡ passed r n ⌝ }
 {
     match r {
-        Record::Unknown => Tested::Ended(n),
+        Record::Unknown => Tested::Passed(r, n),
         Record::Array(_) => Tested::Passed(r, n),
         Record::Loop {
             first: _,

@@ -1,7 +1,13 @@
 -- the records before a place
 pub mod Places
+-- a place is in the input; an end record has no body
+pub mod PlaceLaws
 -- each of the grounds 1 to 8 by itself
 pub mod Statements
+-- a ground by its number, and its place
+pub mod StatementLaws
+-- the tests of a record, in the paper's order
+pub mod Tests
 -- the summary that the tests look at, in the words of the statements
 pub mod Counted
 -- how a reading goes
@@ -10,6 +16,8 @@ pub mod Trace
 pub mod Found
 -- a refusal is given only where its ground holds; an accepted table meets none
 pub mod Theorems
+-- the order inside one record: the first test that holds gives the number
+pub mod FirstTest
 -- what an accepted table is
 pub mod Accepted
 -- how many bytes the records of a table take

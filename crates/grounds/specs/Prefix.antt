@@ -18,11 +18,13 @@ use Rattle.records.specs.declared.Tested.the-variants.{Refused, Passed, Ended}
 use Rattle.records.specs.Bytes.{byte, two, four, offset, kindOf, recordOf, recordAt}
 use Rattle.records.specs.History.{summary, lengths}
 use Rattle.records.specs.Grounds.{early, fields, ground, passed, pick, tested}
-use Rattle.records.specs.Clear.{spanOf, span-kind}
+use Rattle.records.specs.Clear.{spanOf}
+use Rattle.records.specs.ClearLaws.{span-kind}
 use Rattle.records.specs.Outcome.{passed-whole, ended-whole}
 use Rattle.refusals.specs.Answers.{accepted, refused, _if_else_}
 use Rattle.reader.specs.Reading.{tableOf, follow, readFrom, reading}
-use Rattle.grounds.specs.Places.{after, Records, start, end-length}
+use Rattle.grounds.specs.Places.{after, Records, start}
+use Rattle.grounds.specs.PlaceLaws.{end-length}
 use Rattle.grounds.specs.Counted.{Clears}
 use Rattle.grounds.specs.Trace.{clean-next}
 use Rattle.grounds.specs.Sizes.{near, kind-near, end-near}

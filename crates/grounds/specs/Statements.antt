@@ -1,8 +1,7 @@
 -- The grounds 1 to 8, each by itself: what it says of the record at a place and of the records before that place.
-use Prim.Native.Nat.{ℕ, zero, suc, _+_, _-_, _≤_, _<_}
-use native.Mathlib.Omega.{arith}
+use Prim.Native.Nat.{ℕ, suc, _+_, _-_, _≤_, _<_}
 use mathlib.Core.Path.{_≡_}
-use mathlib.Core.Logic.{_⊎_, ⊎-elim, _≢_}
+use mathlib.Core.Logic.{_⊎_, _≢_}
 use mathlib.Core.List.{List, [], _∷_}
 use lib.ListN.{length, getD}
 use Rattle.records.specs.declared.Record.{Record}
@@ -10,7 +9,7 @@ use Rattle.records.specs.declared.Record.the-variants.{Unknown, Array, Loop, Re
 use Rattle.records.specs.Bytes.{recordAt}
 use Rattle.records.specs.History.{lengths, operands}
 use Rattle.model.specs.Table.{Item, read, constant, operation}
-use Rattle.grounds.specs.Places.{after, Records, records-within}
+use Rattle.grounds.specs.Places.{after, Records}
 
 -- WHAT THE RECORDS rs SAY, the latest first
 
@@ -85,23 +84,38 @@ Misplaced (Operation o) rs = loops rs ≡ 0
 Misplaced End rs = (arrays rs ≡ 0) ⊎ (loops rs ≡ 0)
 
 -- 3: a field outside its range, or first above last. (An offset is kept with 255 added.)
+abbrev pub BadLength : ℕ → Type 0
+BadLength n = (n < 1) ⊎ (65536 < n)
+
+abbrev pub BadLast : ℕ → Type 0
+BadLast l = 131071 < l
+
+abbrev pub BadOffset : ℕ → Type 0
+BadOffset o = 510 < o
+
+abbrev pub BadOperation : ℕ → Type 0
+BadOperation o = (o < 1) ⊎ (5 < o)
+
 abbrev pub OutOfRange : Record → List Record → Type 0
 OutOfRange Unknown rs = ⊥
-OutOfRange (Array n) rs = (n < 1) ⊎ (65536 < n)
-OutOfRange (Loop f l q o) rs = (131071 < l) ⊎ ((l < f) ⊎ (510 < o))
-OutOfRange (Read q o) rs = 510 < o
+OutOfRange (Array n) rs = BadLength n
+OutOfRange (Loop f l q o) rs = BadLast l ⊎ ((l < f) ⊎ BadOffset o)
+OutOfRange (Read q o) rs = BadOffset o
 OutOfRange (Constant n) rs = ⊥
-OutOfRange (Operation o) rs = (o < 1) ⊎ (5 < o)
+OutOfRange (Operation o) rs = BadOperation o
 OutOfRange End rs = ⊥
 
 -- 4: one array, loop or item too many
+abbrev pub ItemTooMany : List Record → Type 0
+ItemTooMany rs = (0 < loops rs) × (32 < items rs + 1)
+
 abbrev pub OneTooMany : Record → List Record → Type 0
 OneTooMany Unknown rs = ⊥
 OneTooMany (Array n) rs = 16 < arrays rs + 1
 OneTooMany (Loop f l q o) rs = 16 < loops rs + 1
-OneTooMany (Read q o) rs = (0 < loops rs) × (32 < items rs + 1)
-OneTooMany (Constant n) rs = (0 < loops rs) × (32 < items rs + 1)
-OneTooMany (Operation o) rs = (0 < loops rs) × (32 < items rs + 1)
+OneTooMany (Read q o) rs = ItemTooMany rs
+OneTooMany (Constant n) rs = ItemTooMany rs
+OneTooMany (Operation o) rs = ItemTooMany rs
 OneTooMany End rs = ⊥
 
 -- 4: an element too many
@@ -115,11 +129,14 @@ ManyElements (Operation o) rs = ⊥
 ManyElements End rs = ⊥
 
 -- 5: no array of that number. (Arrays are numbered from 0.)
+abbrev pub NoneNumbered : ℕ → List Record → Type 0
+NoneNumbered q rs = arrays rs ≤ q
+
 abbrev pub Unnumbered : Record → List Record → Type 0
 Unnumbered Unknown rs = ⊥
 Unnumbered (Array n) rs = ⊥
-Unnumbered (Loop f l q o) rs = arrays rs ≤ q
-Unnumbered (Read q o) rs = arrays rs ≤ q
+Unnumbered (Loop f l q o) rs = NoneNumbered q rs
+Unnumbered (Read q o) rs = NoneNumbered q rs
 Unnumbered (Constant n) rs = ⊥
 Unnumbered (Operation o) rs = ⊥
 Unnumbered End rs = ⊥
@@ -205,49 +222,3 @@ statements s p = ⊥ ∷ Torn s p ∷ BadKind s p ∷ BadField s p ∷ Crowd s p
 
 abbrev pub Ground : ℕ → List ℕ → ℕ → Type 0
 Ground n s p = getD (statements s p) n ⊥
-
-listed : (l : List (Type 0)) (n : ℕ) → getD l n ⊥ → n < length l
-listed [] n g = absurd g
-listed (A ∷ l) zero g = omega arith
-listed (A ∷ l) (suc n) g = omega (arith, listed l n g)
-
-pub ground-number : (s : List ℕ) (n p : ℕ) → Ground n s p → (1 ≤ n) × (n ≤ 8)
-ground-number s zero p g = absurd g
-ground-number s (suc n) p g = (omega arith, omega (arith, listed (statements s p) (suc n) g))
-
--- what follows from each of the statements
-pub record Cases (s : List ℕ) (p : ℕ) (B : Type 0) : Type 0 where
-  pub torn : Torn s p → B
-  pub kind : BadKind s p → B
-  pub field : BadField s p → B
-  pub crowd : Crowd s p → B
-  pub array : NoArray s p → B
-  pub body : BadBody s p → B
-  pub edge : Edge s p → B
-  pub tail : Tail s p → B
-
-pub by-number : (s : List ℕ) (p : ℕ) (B : Type 0) → Cases s p B → (n : ℕ) → Ground n s p → B
-by-number s p B c zero g = absurd g
-by-number s p B c (suc zero) g = c .torn g
-by-number s p B c (suc (suc zero)) g = c .kind g
-by-number s p B c (suc (suc (suc zero))) g = c .field g
-by-number s p B c (suc (suc (suc (suc zero)))) g = c .crowd g
-by-number s p B c (suc (suc (suc (suc (suc zero))))) g = c .array g
-by-number s p B c (suc (suc (suc (suc (suc (suc zero)))))) g = c .body g
-by-number s p B c (suc (suc (suc (suc (suc (suc (suc zero))))))) g = c .edge g
-by-number s p B c (suc (suc (suc (suc (suc (suc (suc (suc zero)))))))) g = c .tail g
-by-number s p B c (suc (suc (suc (suc (suc (suc (suc (suc (suc n))))))))) g = absurd g
-
--- a place is in the input, or just past it
-pub ground-place : (s : List ℕ) (n p : ℕ) → Ground n s p → p ≤ length s
-ground-place s n p g =
-    by-number s p (p ≤ length s) (record {
-      torn = λ h. records-within s p (h .0) (h .1);
-      kind = λ h. records-within s p (h .0) (h .1);
-      field = λ h. records-within s p (h .0) (h .1);
-      crowd = ⊎-elim (λ h. records-within s p (h .0) (h .1)) (λ h. records-within s p (h .0) (h .1));
-      array = λ h. records-within s p (h .0) (h .1);
-      body = ⊎-elim (λ h. records-within s p (h .0) (h .1)) (λ h. records-within s p (h .0) (h .1));
-      edge = λ h. records-within s p (h .0) (h .1);
-      tail = λ h. omega (arith, h .6);
-    }) n g

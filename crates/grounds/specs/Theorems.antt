@@ -11,16 +11,19 @@ use Rattle.records.specs.declared.Record.{Record}
 use Rattle.records.specs.declared.Record.the-variants.{Unknown, Array, Loop, Read, Constant, Operation, End}
 use Rattle.records.specs.Bytes.{recordAt}
 use Rattle.records.specs.History.{summary, lengths}
-use Rattle.records.specs.Clear.{Clear, Within}
+use Rattle.records.specs.Clear.{Clear}
 use Rattle.refusals.specs.Answers.{accepted, refused}
 use Rattle.reader.specs.Reading.{Answer, reading}
 use Rattle.model.specs.Table.{Table}
-use Rattle.grounds.specs.Places.{Records, end-length}
+use Rattle.grounds.specs.Places.{Records}
+use Rattle.grounds.specs.PlaceLaws.{end-length}
 use Rattle.grounds.specs.Statements.{loops, Misplaced, OutOfRange, OneTooMany, ManyElements, Unnumbered, NotOneLeft, NinthOrTooFew}
-use Rattle.grounds.specs.Statements.{Outside, OutsideArray, Torn, Tail, Ground, by-number, ground-number, ground-place}
+use Rattle.grounds.specs.Statements.{OutsideArray, Torn, Tail, Ground}
+use Rattle.grounds.specs.StatementLaws.{by-number, ground-number, ground-place}
+use Rattle.grounds.specs.Tests.{tests, First}
 use Rattle.grounds.specs.Counted.{arrays-counted, elements-counted, loops-counted, body-counted, Clears, loop-array}
 use Rattle.grounds.specs.Trace.{Clean, Last, stop, tail, done, Run, last, pass, run-reading, reading-ends, Earlier, visited}
-use Rattle.grounds.specs.Found.{Found, ground-found, found-ground}
+use Rattle.grounds.specs.Found.{not-outside, ground-first, first-ground}
 
 -- WHERE A READING ENDS, ITS GROUND HOLDS
 abbrev Meaning : List ℕ → Answer → Type 0
@@ -28,7 +31,8 @@ Meaning s (accepted t) = Unit {0}
 Meaning s (refused r) = Ground (r .ground) s (r .place) × (r ≡ met (r .ground) (r .place))
 
 meaning : (s : List ℕ) (p : ℕ) (rs : List Record) (a : Answer) → Records s p rs → Clears rs → Last s p rs a → Meaning s a
-meaning s p rs a before c (stop {g} e z) = (found-ground s p g (subst (Found s p) e (ground-found s p rs before c)) z, refl)
+meaning s p rs a before c (stop {g} e z) =
+    (first-ground s p g rs before z (subst (First (tests s p rs)) e (ground-first rs c s p)), refl)
 meaning s p rs a before c (tail {n} w l) =
     ((p, rs, before, w .there, w .is, omega (arith, w .next, end-length s p (w .is)), l), refl)
 meaning s p rs a before c (done w l) = tt
@@ -47,9 +51,6 @@ refused-unnamed s r e = refused-meaning s r e .1
 -- A RECORD THAT MET NO GROUND IS NO GROUND FOR ANY REFUSAL
 abbrev Refuted : (Record → List Record → Type 0) → List Record → Type 0
 Refuted G rs = (r : Record) → Clear r (summary rs) (lengths rs) → G r rs → ⊥
-
-not-outside : (f l o n : ℕ) → Within f l o n → Outside f l o n → ⊥
-not-outside f l o n w (i, up, down, out) = ⊎-elim (λ e. omega arith) (λ e. omega arith) out
 
 module _ (rs : List Record) (clears : Clears rs) where
   not-misplaced : Refuted Misplaced rs
@@ -121,10 +122,10 @@ module _ (rs : List Record) (clears : Clears rs) where
   not-outside-array : Refuted OutsideArray rs
   not-outside-array Unknown c g = g
   not-outside-array (Array n) c g = g
-  not-outside-array (Loop f l q o) c g = not-outside f l o (getD (lengths rs) q 0) (c .6) (g .1)
+  not-outside-array (Loop f l q o) c g = not-outside f l o (getD (lengths rs) q 0) (c .6 .0) (c .6 .1) (g .1)
   not-outside-array (Read q o) c g =
       let b = body-counted rs (g .0) in
-      not-outside (summary rs .first) (summary rs .last) o (getD (lengths rs) q 0) (c .5) (rw (b .first, b .last) (g .2))
+      not-outside (summary rs .first) (summary rs .last) o (getD (lengths rs) q 0) (c .5 .0) (c .5 .1) (rw (b .first, b .last) (g .2))
   not-outside-array (Constant n) c g = g
   not-outside-array (Operation o) c g = g
   not-outside-array End c g = g

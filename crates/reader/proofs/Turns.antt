@@ -13,7 +13,8 @@ use Rattle.records.specs.declared.Tested.{Tested}
 use Rattle.records.specs.declared.Tested.the-variants as found
 use Rattle.records.specs.History.{summary, lengths, advanced, blank}
 use Rattle.records.specs.Grounds.{tested}
-use Rattle.records.specs.Clear.{Room, clear-room}
+use Rattle.records.specs.Clear.{Room}
+use Rattle.records.specs.ClearLaws.{clear-room}
 use Rattle.records.specs.Outcome.{Whole, refused-ground, passed-whole, tested-same}
 use Rattle.refusals.specs.declared.Refusal.{Refusal}
 use Rattle.refusals.specs.Refusals.{met, none}
@@ -21,7 +22,8 @@ use Rattle.refusals.specs.Answers.{accepted}
 use Rattle.reader.specs.Reading.{follow, readFrom, reading, tableOf}
 use Rattle.reader.specs.Store.{Sized, startAt, kept, rowsAfter, tableAt, withCounts, Places, ArrayFits}
 use Rattle.reader.specs.ReadInto.{ReadInto, into-refused, into-accepted}
-use Rattle.reader.specs.Stored.{Stored, InPlace, stored-all, stored-start, kept-small, kept-stored, counted-table, counted-holds}
+use Rattle.reader.specs.Stored.{Stored, InPlace}
+use Rattle.reader.specs.StoredLaws.{stored-all, stored-start, kept-small, kept-stored, counted-table, counted-holds}
 
 -- the records before `at` have been read, and the rest from there gives the whole reading
 pub record Inv (s : List ℕ) (c : List ℕ) (t : Summary) (at rows : ℕ) : Type 0 where

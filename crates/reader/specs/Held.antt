@@ -6,8 +6,10 @@ use mathlib.Core.List.{List}
 use lib.ListN.{length, take}
 use lib.Seq.{length-take-le}
 use Rattle.model.specs.Table.{Loop, Table, count, loop, first, last}
-use Rattle.reader.specs.Store.{firstAt, lastAt, startAt, kindAt, arraysIn, loopsIn, loopAt, tableIn, count-table, loop-table}
-use Rattle.reader.specs.Stored.{Row, Holds, starts-up}
+use Rattle.reader.specs.Store.{firstAt, lastAt, startAt, kindAt, arraysIn, loopsIn, loopAt, tableIn}
+use Rattle.reader.specs.StoreLaws.{count-table, loop-table}
+use Rattle.reader.specs.Stored.{Row, Holds}
+use Rattle.reader.specs.StoredLaws.{starts-up}
 
 -- the table that a store holds, if its rows are in order
 abbrev pub Held : List ℕ → Type 0

@@ -2,11 +2,19 @@
 pub mod Reading
 -- a table as it is kept in a store
 pub mod Store
--- the store holds what was read
+-- what is read off a store, and what is put there
+pub mod StoreLaws
+-- what it is that a store holds a table
 pub mod Stored
+-- the store holds what was read
+pub mod StoredLaws
 -- what is known of a store that holds a table, field by field
 pub mod Held
 -- what code tells of a reading, and what it leaves in the store
 pub mod ReadInto
 -- how a reading that accepts goes
 pub mod Accepting
+-- the bytes of the longest table, and of an input that is refused furthest
+pub mod Longest
+-- the bounds on bytes are attained
+pub mod Attained

@@ -28,11 +28,11 @@ unfoldable pub kindOf : ℕ → Kind
 kindOf b = getD kinds b kind.Unknown
 
 -- the body lengths stand in a table indexed by kind
-abbrev pub lengths : List ℕ
-lengths = 0 ∷ 4 ∷ 11 ∷ 3 ∷ 4 ∷ 1 ∷ 0 ∷ []
+abbrev pub bodyLengths : List ℕ
+bodyLengths = 0 ∷ 4 ∷ 11 ∷ 3 ∷ 4 ∷ 1 ∷ 0 ∷ []
 
 unfoldable pub bodyLength : ℕ → ℕ
-bodyLength b = getD lengths b 0
+bodyLength b = getD bodyLengths b 0
 
 -- the fields of the body that starts at b
 unfoldable pub recordOf : Kind → List ℕ → ℕ → Record

@@ -57,9 +57,9 @@ ground s at t ns =
     orElse (early (kindOf (byte s at)) t)
     (1 if ltb (length s) (at + 1 + bodyLength (byte s at)) else fields (recordAt s at) t ns)
 
--- a record that meets none, and the place after it
+-- a record that meets none, and the place after it: the end record ends the table. (A record of unknown kind is 2, and never comes here.)
 unfoldable pub passed : Record → ℕ → Tested
-passed Unknown n = Ended n
+passed Unknown n = Passed Unknown n
 passed (Array m) n = Passed (Array m) n
 passed (Loop f l q o) n = Passed (Loop f l q o) n
 passed (Read q o) n = Passed (Read q o) n

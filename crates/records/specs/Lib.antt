@@ -6,6 +6,8 @@ pub mod History
 pub mod Grounds
 -- what is known of a record that meets no ground
 pub mod Clear
+-- a record in which the tests find no ground is clear
+pub mod ClearLaws
 -- the three ways that the tests of a record end
 pub mod Outcome
 -- the kinds that there are, and the ways that the tests go
@@ -14,3 +16,7 @@ pub mod Ways
 pub mod Passing
 -- a record is told by its own bytes alone
 pub mod Same
+-- a record in bytes, as the paper's table lays it out
+pub mod Layout
+-- the record at a place is the one that the table says
+pub mod LaidOut

@@ -16,7 +16,8 @@ use Rattle.records.specs.declared.Tested.{Tested}
 use Rattle.records.specs.declared.Tested.the-variants.{Refused, Passed, Ended}
 use Rattle.records.specs.Bytes.{byte, kindOf, bodyLength, recordAt}
 use Rattle.records.specs.Grounds.{_if_else_, orElse, early, edge, fields, ground, passed, pick, tested}
-use Rattle.records.specs.Clear.{Clear, clear-of}
+use Rattle.records.specs.Clear.{Clear}
+use Rattle.records.specs.ClearLaws.{clear-of}
 
 -- a whole record that meets no ground
 pub record Whole (s : List ℕ) (at : ℕ) (t : Summary) (ns : List ℕ) (r : Record) (n : ℕ) : Type 0 where

@@ -53,7 +53,7 @@ module _ (t : Summary) (ns : List ℕ) where
     clear-here : Clear (recordAt s at) t ns
     clear-here = subst (λ (x : Record). Clear x t ns) (sym (w .is)) (w .clear)
 
-    whole-ground : ground s at t ns ≡ 0
+    pub whole-ground : ground s at t ns ≡ 0
     unfolding ground recordAt
     whole-ground =
         let fits : at + 1 + bodyLength (byte s at) ≤ length s = omega (arith, w .next, w .fits) in

@@ -10,7 +10,8 @@ use Rattle.records.specs.declared.Record.{Record}
 use Rattle.records.specs.declared.Record.the-variants.{Unknown, Array, Loop, Read, Constant, Operation, End}
 use Rattle.records.specs.declared.Summary.{Summary}
 use Rattle.records.specs.Bytes.{byte, two, four, offset, kindOf, bodyLength, recordOf, recordAt}
-use Rattle.records.specs.Clear.{Clear, spanOf, span-kind}
+use Rattle.records.specs.Clear.{Clear, spanOf}
+use Rattle.records.specs.ClearLaws.{span-kind}
 use Rattle.records.specs.Outcome.{Whole}
 
 -- the kind of a record, and by it the length of the body

@@ -22,7 +22,8 @@ use Rattle.serial.specs.declared.Collision.the-variants.{Nothing, Read}
 use Rattle.serial.specs.Serial.{loopHit, afterLoop, serialFrom, through, table}
 use Rattle.serial.specs.Meeting.{Serial, Collides, FirstMeeting, allReads, hit-collides, lower-apart, none-parallel}
 use Rattle.serial.specs.Parallel.{accepted-parallel}
-use Rattle.grounds.specs.Statements.{Ground, ground-number}
+use Rattle.grounds.specs.Statements.{Ground}
+use Rattle.grounds.specs.StatementLaws.{ground-number}
 use Rattle.grounds.specs.Theorems.{refused-ground, refused-unnamed, accepted-none}
 use Rattle.grounds.specs.Accepted.{accepted-valid, valid-known, valid-within}
 

@@ -4,7 +4,8 @@ use Prim.Native.Nat.{_+_, _<_, _≤_}
 use lib.ListN.{length}
 use Rattle.records.specs.Bytes.{byte, kindOf, bodyLength, recordAt}
 use Rattle.records.specs.Grounds.{early, fields}
-use Rattle.records.specs.Clear.{spanOf, span-kind, length-max}
+use Rattle.records.specs.Clear.{spanOf}
+use Rattle.records.specs.ClearLaws.{span-kind, length-max}
 use mathlib.Core.Path.{_≡_, sym, ap, _∙_}
 use native.Mathlib.Omega.{arith}
 use borrow.Author.Needs.{needs}

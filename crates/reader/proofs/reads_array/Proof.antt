@@ -1,5 +1,5 @@
 use borrow.Author.Needs.{needs}
-use Rattle.reader.specs.Store.{head-read}
+use Rattle.reader.specs.StoreLaws.{head-read}
 use Rattle.reader.proofs.reads_array.Statement.{statement}
 use Rattle.reader.proofs.reads_array.Tie as tie
 
