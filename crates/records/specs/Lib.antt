@@ -14,3 +14,7 @@ pub mod Ways
 pub mod Passing
 -- a record is told by its own bytes alone
 pub mod Same
+-- a record as bytes
+pub mod Encoding
+-- the encoding of a record is read as that record, and the bytes of a record are its encoding
+pub mod EncodingLaws
