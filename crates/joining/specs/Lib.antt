@@ -1,5 +1,9 @@
+-- a table as a row of records
+pub mod Records
 -- two tables joined: the answer, and what the lent output then holds
 pub mod Joining
+-- a table has one encoding
+pub mod Canonical
 -- a table's loops behind those of another: the two readings side by side
 pub mod Beside
 -- what is written is read back as one table
