@@ -76,8 +76,10 @@ returns-4 c =
     let a = b .args in
     let r = d .read-through in
     let h = r .ensures .held (g .before .before .if1 .left) in
+    let known = d .before .before .before in
     joined (now (a .left)) (now (a .right)) (now (a .out)) (now (a .ours)) (b .pre .0) (b .pre .1) (r .last .1 .0) (h .0) (h .1)
-    (sym (not-false _ (w .before .before .before .before .if2 .left)) ∙ g .same-lengths .ensures) (w .write .result) (w .write .last .1 .1 .1 .0)
+    (sym (not-false _ (w .before .before .before .before .if2 .left)) ∙ g .same-lengths .ensures)
+    (λ k. omega (arith, known .before .shared-slice-known .given k)) (λ k. omega (arith, known .shared-slice-known2 .given k)) (w .write .result) (w .write .last .1 .1 .1 .0)
     (omega (arith, w .before .before .before .if3 .left, w .before .before .before .before .before .before .before .loops-in .ensures, w .before .before .before .before .before .loops-in2 .ensures))
     (rw (w .before .before .arrays-in .ensures) at (w .write .ensures))
 
