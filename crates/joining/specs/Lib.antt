@@ -2,6 +2,8 @@
 pub mod Records
 -- two tables joined: the answer, and what the lent output then holds
 pub mod Joining
+-- small tables joined, by computation
+pub mod Example
 -- a table has one encoding
 pub mod Canonical
 -- what is known where two tables are joined

@@ -66,12 +66,14 @@ module _ (left right : List ℕ) (room : ℕ) where
         fitted room (encodeAll (joinedRecords t u)))
     unfolding fitted
     tests-only =
+        let bs = encodeAll (joinedRecords t u) in
+        let loops = count t + count u in
         if-known Allowed (met 14 0) (not (alike (t .lengths) (u .lengths))) _
         (λ d. unlike both (unlike-differ (t .lengths) (u .lengths) (not-true _ d))) λ s.
         let same = alike-same (t .lengths) (u .lengths) (not-false _ s) in
-        if-known Allowed (met 4 0) (ltb 16 (count t + count u)) _ (λ m. crowd both same (ltb-true _ _ m)) λ few.
-        if-known Allowed (met 13 0) (ltb room (length (encodeAll (joinedRecords t u)))) _
-        (λ l. buffer both same (ltb-false _ _ few) (ltb-true _ _ l)) λ f. accepted-only Allowed (encodeAll (joinedRecords t u))
+        if-known Allowed (met 4 0) (ltb 16 loops) _ (λ m. crowd both same (omega (arith, ltb-true 16 loops m))) λ few.
+        if-known Allowed (met 13 0) (ltb room (length bs)) _
+        (λ l. buffer both same (omega (arith, ltb-false 16 loops few)) (omega (arith, ltb-true room (length bs) l))) λ f. accepted-only Allowed bs
 
     -- AND WHEREVER: 14, 4, 13, or what is written
     pub unlike-where : t .lengths ≢ u .lengths → joining left right room ≡ refused (met 14 0)
