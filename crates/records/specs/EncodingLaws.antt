@@ -15,24 +15,30 @@ use Rattle.records.specs.Outcome.{Whole}
 use Rattle.records.specs.Same.{kindIn, record-same, record-length}
 use Rattle.records.specs.Encoding.{inTwo, inFour, signed, encode, encodeAll, Bytes, OffsetFits, FieldsFit}
 
--- NUMBERS
-two-halves : (n : ℕ) → n % 256 + 256 * (n / 256) ≡ n
-two-halves n = omega arith
+-- NUMBERS are read as they are written
+two-read : (n : ℕ) (b : List ℕ) → two (inTwo n ++ b) 0 ≡ n
+unfolding two inTwo
+two-read n b = omega arith
 
-four-halves : (n : ℕ) → n % 65536 % 256 + 256 * (n % 65536 / 256) + 65536 * (n / 65536 % 256 + 256 * (n / 65536 / 256)) ≡ n
-four-halves n = omega arith
+four-read : (n : ℕ) (b : List ℕ) → four (inFour n ++ b) 0 ≡ n
+unfolding four inFour two inTwo
+four-read n b = omega arith
 
-signed-halves : (o : ℕ) → o < 65536 → ((o + 65281) % 65536 % 256 + 256 * ((o + 65281) % 65536 / 256) + 255) % 65536 ≡ o
-signed-halves o h = omega arith
+signed-read : (o : ℕ) (b : List ℕ) → o < 65536 → offset (signed o ++ b) 0 ≡ o
+unfolding offset signed two inTwo
+signed-read o b h = omega arith
 
 -- THE ENCODING IS READ AS THE RECORD
+same-loop : {f g l m o p : ℕ} (q : ℕ) → f ≡ g → l ≡ m → o ≡ p → Loop f l q o ≡ Loop g m q p
+same-loop q e h k = cc
+
 encode-first : (r : Record) (b : List ℕ) → OffsetFits r → recordAt (encode r ++ b) 0 ≡ r
 unfolding recordAt recordOf kindOf encode inFour inTwo signed two four offset
 encode-first Unknown b h = refl
-encode-first (Array n) b h = ap Array (four-halves n)
-encode-first (Loop f l q o) b h = rw (four-halves f, four-halves l, signed-halves o h)
-encode-first (Read q o) b h = ap (Read q) (signed-halves o h)
-encode-first (Constant n) b h = ap Constant (four-halves n)
+encode-first (Array n) b h = ap Array (four-read n b)
+encode-first (Loop f l q o) b h = same-loop q (four-read f b) (four-read l b) (signed-read o b h)
+encode-first (Read q o) b h = ap (Read q) (signed-read o b h)
+encode-first (Constant n) b h = ap Constant (four-read n b)
 encode-first (Operation o) b h = refl
 encode-first End b h = refl
 
