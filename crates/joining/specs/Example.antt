@@ -17,23 +17,23 @@ use Rattle.joining.specs.Records.{arrayRecords, itemRecords, loopRecords
 use Rattle.joining.specs.Joining.{alike, joinedRecords, joining, together}
 
 -- an array of n elements; loops from 0 to 2 and from 1 to 3, A0[i] = 1 and A0[i−1] = 2; a loop from 0 to 1, A0[i] = A0[i] + A0[i+1]
-abbrev array : ℕ → List ℕ
+abbrev pub array : ℕ → List ℕ
 array n = 1 ∷ n ∷ 0 ∷ 0 ∷ 0 ∷ []
 
-abbrev ones : List ℕ
+abbrev pub ones : List ℕ
 ones = 2 ∷ 0 ∷ 0 ∷ 0 ∷ 0 ∷ 2 ∷ 0 ∷ 0 ∷ 0 ∷ 0 ∷ 0 ∷ 0 ∷ 4 ∷ 1 ∷ 0 ∷ 0 ∷ 0 ∷ []
 
-abbrev twos : List ℕ
+abbrev pub twos : List ℕ
 twos = 2 ∷ 1 ∷ 0 ∷ 0 ∷ 0 ∷ 3 ∷ 0 ∷ 0 ∷ 0 ∷ 0 ∷ 255 ∷ 255 ∷ 4 ∷ 2 ∷ 0 ∷ 0 ∷ 0 ∷ []
 
 abbrev sums : List ℕ
 sums = 2 ∷ 0 ∷ 0 ∷ 0 ∷ 0 ∷ 1 ∷ 0 ∷ 0 ∷ 0 ∷ 0 ∷ 0 ∷ 0 ∷ 3 ∷ 0 ∷ 0 ∷ 0 ∷ 3 ∷ 0 ∷ 1 ∷ 0 ∷ 5 ∷ 1 ∷ []
 
-abbrev end : List ℕ
+abbrev pub end : List ℕ
 end = 6 ∷ []
 
 -- a table of one array of n elements
-abbrev tableWith : ℕ → List ℕ → List ℕ
+abbrev pub tableWith : ℕ → List ℕ → List ℕ
 tableWith n loops = array n ++ (loops ++ end)
 
 abbrev times : ℕ → List ℕ → List ℕ

@@ -18,6 +18,7 @@ use Rattle.outputs.specs.Given.{fitted}
 use Rattle.joining.specs.Records.{arrayRecords, loopRecords, recordsOf}
 use Rattle.joining.specs.Canonical.{loops-append}
 use Rattle.joining.specs.Joining.{alike, joinedRecords, joining, together}
+use Rattle.joining.specs.Example.{array, ones, twos, end, tableWith, example}
 
 -- alike means equal
 pub alike-same : (ns ms : List ℕ) → alike ns ms ≡ true → ns ≡ ms
@@ -74,3 +75,7 @@ written-known left right room bs e =
       fits = rw made at (ltb-false room (length (encodeAll (joinedRecords t u))) fits);
       made = sym made;
     }
+
+-- and there are such tables
+pub some-written : Written (tableWith 3 ones) (tableWith 3 twos) 40 (array 3 ++ (ones ++ (twos ++ end)))
+some-written = written-known (tableWith 3 ones) (tableWith 3 twos) 40 (array 3 ++ (ones ++ (twos ++ end))) (example .joined)
