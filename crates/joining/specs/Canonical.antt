@@ -11,7 +11,8 @@ use Rattle.records.specs.History.{summary, lengths, advanced, blank, withArray,
 use Rattle.records.specs.Clear.{Clear}
 use Rattle.records.specs.Outcome.{Whole}
 use Rattle.records.specs.Encoding.{encode, encodeAll, Bytes}
-use Rattle.records.specs.EncodingLaws.{encode-whole, whole-encoded, encode-append, encode-one}
+use Rattle.records.specs.EncodingLaws.{encode-whole, encode-append, encode-one}
+use Rattle.records.specs.EncodingUnique.{whole-encoded}
 use Rattle.model.specs.Table.{Item, read, constant, operation, Table}
 use Rattle.model.specs.Table.{Loop as LoopOf}
 use Rattle.refusals.specs.Answers.{accepted}

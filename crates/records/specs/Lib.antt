@@ -16,5 +16,9 @@ pub mod Passing
 pub mod Same
 -- a record as bytes
 pub mod Encoding
--- the encoding of a record is read as that record, and the bytes of a record are its encoding
+-- the encoding of a record is read as that record
 pub mod EncodingLaws
+-- the bytes of a record are its encoding
+pub mod EncodingUnique
+-- the encoding is bytes
+pub mod EncodingBytes
