@@ -4,6 +4,8 @@ pub mod Records
 pub mod Joining
 -- small tables joined, by computation
 pub mod Example
+-- the records of a table, as they are read one by one
+pub mod RecordsLaws
 -- a table has one encoding
 pub mod Canonical
 -- what is known where two tables are joined

@@ -16,7 +16,7 @@ use Rattle.refusals.specs.Answers.{accepted, _if_else_, if-accepted, after-acce
 use Rattle.serial.specs.Serial.{table}
 use Rattle.outputs.specs.Given.{fitted}
 use Rattle.joining.specs.Records.{arrayRecords, loopRecords, recordsOf}
-use Rattle.joining.specs.Canonical.{loops-append}
+use Rattle.joining.specs.RecordsLaws.{loops-append}
 use Rattle.joining.specs.Joining.{alike, joinedRecords, joining, together}
 use Rattle.joining.specs.Example.{array, ones, twos, end, tableWith, example}
 
