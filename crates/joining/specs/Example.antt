@@ -64,6 +64,8 @@ pub record Example : Type 0 where
   pub unlike-first : joining (tableWith 3 (times 9 ones)) (tableWith 4 (times 8 twos)) 40 ≡ refused (met 14 0)
   -- 4: 17 loops in all; it comes before 13
   pub crowd : joining (tableWith 3 (times 9 ones)) (tableWith 3 (times 8 twos)) 40 ≡ refused (met 4 0)
+  -- left, then right: no byte at all is 1, and 7 is no kind
+  pub left-first : joining [] (7 ∷ []) 40 ≡ refused (met 1 0)
   -- right's 9: its loop 1, and of that loop the second read
   pub serial : joining (tableWith 3 ones) (tableWith 3 (twos ++ sums)) 40 ≡ refused (naming 9 1 1 0)
 
@@ -71,4 +73,14 @@ pub example : Example
 unfolding joining alike joinedRecords fitted arrayRecords itemRecords loopRecords inTwo inFour signed encode encodeAll table through serialFrom
     loopHit hit collides reading readFrom follow loopsOf tested ground early fields passed edge two four offset kindOf bodyLength recordOf
     recordAt operands withArray withLoop withItem advanced blank summary lengths
-example = record { joined = refl; read-back = refl; buffer = refl; unlike = refl; one-more = refl; unlike-first = refl; crowd = refl; serial = refl }
+example = record {
+  joined = refl;
+  read-back = refl;
+  buffer = refl;
+  unlike = refl;
+  one-more = refl;
+  unlike-first = refl;
+  crowd = refl;
+  left-first = refl;
+  serial = refl;
+}
