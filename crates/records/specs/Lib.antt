@@ -20,5 +20,5 @@ pub mod Encoding
 pub mod EncodingLaws
 -- the bytes of a record are its encoding
 pub mod EncodingUnique
--- the encoding is bytes
-pub mod EncodingBytes
+-- the encoding of fields that fit is bytes
+pub mod EncodingRange

@@ -1,4 +1,4 @@
--- The encoding of records whose fields fit is bytes.
+-- The encoding of records whose fields fit is bytes: each element is below 256.
 use Prim.Native.Nat.{ℕ, zero, suc, _+_, _/_, _%_, _<_}
 use native.Mathlib.Omega.{arith}
 use mathlib.Core.Path.{_≡_, refl, sym, ap, subst, _∙_}
