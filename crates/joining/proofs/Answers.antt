@@ -8,6 +8,7 @@ use lib.ListN.{length, take, drop}
 use lib.Seq.{length-take-le, paste}
 use lib.Dec.{ltb}
 use borrow.Author.Tests.{lt-ltb, le-ltb}
+use Rattle.records.specs.Encoding.{encodeAll, Bytes}
 use Rattle.refusals.specs.declared.Refusal.{Refusal}
 use Rattle.refusals.specs.Refusals.{met}
 use Rattle.refusals.specs.Answers.{accepted, refused, _if_else_}
@@ -19,7 +20,9 @@ use Rattle.serial.specs.Parallel.{accepted-parallel}
 use Rattle.outputs.specs.declared.Outcome.{Outcome}
 use Rattle.outputs.specs.Given.{Given, fitted}
 use Rattle.outputs.specs.Gives.{refusing, writing, Gives, gives-refused, after-refuses, after-gives, gives-short, gives-written}
-use Rattle.joining.specs.Joining.{alike, alike-same, bytes, bytes-length, joining}
+use Rattle.joining.specs.Joining.{alike, joinedRecords, joining}
+use Rattle.joining.specs.Written.{alike-same}
+use Rattle.joining.specs.Copied.{bytes, bytes-length, bytes-joined}
 use Rattle.joining.proofs.Walks.{copied-both}
 
 -- an accepted table is longer than its arrays' records
@@ -73,9 +76,9 @@ module _ (left right out : List ℕ) where
       both : joining left right (length out)
           ≡ (refused (met 14 0) if not same else
           refused (met 4 0) if ltb 16 (loopsIn ours + loopsIn theirs) else
-          fitted (length out) (bytes left right (arraysIn ours)))
+          fitted (length out) (encodeAll (joinedRecords (tableIn ours) (tableIn theirs))))
       unfolding joining
-      both = rw (l, r, count-held h, count-held k, arrays-held h)
+      both = rw (l, r, count-held h, count-held k)
 
       pub unlike-arrays : false ≡ same → Result (refusing (met 14 0)) out
       unlike-arrays e = gives-refused (joining left right (length out)) out (met 14 0) (both ∙ rw (← e))
@@ -84,14 +87,25 @@ module _ (left right out : List ℕ) where
         pub many-loops : 16 < loopsIn ours + loopsIn theirs → Result (refusing (met 4 0)) out
         many-loops m = gives-refused (joining left right (length out)) out (met 4 0) (both ∙ rw (← like, lt-ltb _ _ m))
 
-        pub joined : (o : Outcome) (then : List ℕ) → loopsIn ours + loopsIn theirs ≤ 16
+        same-arrays : tableIn ours .lengths ≡ tableIn theirs .lengths
+        same-arrays = alike-same (tableIn ours .lengths) (tableIn theirs .lengths) (sym like)
+
+        -- what is copied is what is to be written
+        copied : Bytes left → Bytes right → bytes left right (arraysIn ours) ≡ encodeAll (joinedRecords (tableIn ours) (tableIn theirs))
+        copied b c =
+            ap (bytes left right) (sym (arrays-held h))
+            ∙ bytes-joined (tableIn ours) (tableIn theirs) left right b c (accepted-parallel left (tableIn ours) l .0)
+            (accepted-parallel right (tableIn theirs) r .0) same-arrays
+
+        pub joined : Bytes left → Bytes right → (o : Outcome) (then : List ℕ) → loopsIn ours + loopsIn theirs ≤ 16
             → Gives (fitted (length out) (bytes left right (arraysIn ours))) out then o → Result o then
-        joined o then m g = subst (λ (x : Given). Gives x out then o) (sym (both ∙ rw (← like, le-ltb _ _ m))) g
+        joined b c o then m g =
+            subst (λ (x : Given). Gives x out then o) (ap (fitted (length out)) (copied b c) ∙ sym (both ∙ rw (← like, le-ltb _ _ m))) g
 
         -- right's arrays are as many as left's, so there is something of it past them
         pub enough : (0 < length left) × (arraysIn ours ≤ 16) × (5 * arraysIn ours ≤ length right)
         enough =
-            let as-many = ap length (alike-same (tableIn ours .lengths) (tableIn theirs .lengths) (sym like)) in (
+            let as-many = ap length same-arrays in (
               omega (arith, long left ours l),
               few-arrays h,
               omega (arith, long right theirs r, as-many, arrays-held h),

@@ -1,5 +1,5 @@
 -- Two readings side by side: of a table by itself, and of its loops behind those of another table with the same arrays.
-use Prim.Native.Nat.{ℕ, _+_, _*_, _-_, _≤_, _<_}
+use Prim.Native.Nat.{ℕ, _+_, _-_, _≤_, _<_}
 use native.Mathlib.Omega.{arith}
 use mathlib.Core.Path.{_≡_, refl, sym, ap, _∙_}
 use mathlib.Core.List.{List, [], _∷_, _++_, append-assoc}
@@ -9,81 +9,67 @@ use Rattle.records.specs.declared.Record.the-variants.{Unknown, Array, Loop, Re
 use Rattle.records.specs.declared.Summary.{Summary}
 use Rattle.records.specs.History.{summary, lengths, advanced, blank, withArray, withLoop, withItem, operands}
 use Rattle.records.specs.Clear.{Clear}
-use Rattle.records.specs.Outcome.{Whole}
-use Rattle.records.specs.Same.{record-length}
 use Rattle.model.specs.Table.{Item, read, constant, operation}
 use Rattle.model.specs.Table.{Loop as LoopOf}
 use Rattle.reader.specs.Reading.{loopsOf}
-use Rattle.reader.specs.Accepting.{Rest, ended, passed, arrays-counted, loops-counted}
+use Rattle.reader.specs.Accepting.{arrays-counted, loops-counted}
+use Rattle.joining.specs.RecordsLaws.{no-loop}
+use Rattle.joining.specs.Canonical.{Onward, ends, goes}
 
--- THE ARRAYS COME FIRST, in records of five bytes
--- before a place there are arrays alone
-pub record Arrays (at : ℕ) (rs : List Record) : Type 0 where
-  pub none : summary rs .loops ≡ 0
-  pub place : at ≡ 5 * summary rs .arrays
-
--- where the first loop stands
-pub record Opening (s : List ℕ) (all : List Record) : Type 0 where
-  pub at : ℕ
+-- THE ARRAYS COME FIRST
+-- the first loop: before it there are arrays alone
+pub record Opening (all : List Record) : Type 0 where
   pub rs : List Record
-  pub arrays : Arrays at rs
+  pub none : summary rs .loops ≡ 0
   pub f : ℕ
   pub l : ℕ
   pub q : ℕ
   pub o : ℕ
-  pub next : ℕ
-  pub whole : Whole s at (summary rs) (lengths rs) (Loop f l q o) next
-  pub rest : Rest s next (Loop f l q o ∷ rs) all
+  pub clear : Clear (Loop f l q o) (summary rs) (lengths rs)
+  pub onward : Onward (Loop f l q o ∷ rs) all
 
-no-arrays : Arrays 0 []
-unfolding summary blank
-no-arrays = record { none = refl; place = refl }
-
-array-more : (s : List ℕ) (at n m : ℕ) (rs : List Record) → Whole s at (summary rs) (lengths rs) (Array m) n → Arrays at rs → Arrays n (Array m ∷ rs)
+first-loop : (rs all : List Record) → Onward rs all → summary rs .loops ≡ 0 → Opening all
 unfolding summary advanced withArray
-array-more s at n m rs w a = record { none = a .none; place = omega (arith, w .next, record-length s at (Array m) (w .is), a .place) }
-
-first-loop : (s : List ℕ) (at : ℕ) (rs all : List Record) → Rest s at rs all → Arrays at rs → Opening s all
-first-loop s at rs all (ended w) a = absurd (omega (arith, w .clear .0, a .none))
-first-loop s at rs all (passed {n} {r} w o h) a = go r w h (first-loop s n (r ∷ rs) all h)
+first-loop rs all (ends c) none = absurd (omega (arith, c .0, none))
+first-loop rs all (goes {r} c o h) none = go r c h (first-loop (r ∷ rs) all h)
   where
-    go : (x : Record) → Whole s at (summary rs) (lengths rs) x n → Rest s n (x ∷ rs) all → (Arrays n (x ∷ rs) → Opening s all) → Opening s all
-    go Unknown v k more = absurd (v .clear)
-    go (Array m) v k more = more (array-more s at n m rs v a)
-    go (Loop f l q o) v k more = record { at = at; rs = rs; arrays = a; f = f; l = l; q = q; o = o; next = n; whole = v; rest = k }
-    go (Read q o) v k more = absurd (omega (arith, v .clear .0, a .none))
-    go (Constant m) v k more = absurd (omega (arith, v .clear .0, a .none))
-    go (Operation o) v k more = absurd (omega (arith, v .clear .0, a .none))
-    go End v k more = absurd (omega (arith, v .clear .0, a .none))
+    go : (x : Record) → Clear x (summary rs) (lengths rs) → Onward (x ∷ rs) all → (summary (x ∷ rs) .loops ≡ 0 → Opening all) → Opening all
+    go Unknown c k more = absurd c
+    go (Array m) c k more = more none
+    go (Loop f l q o) c k more = record { rs = rs; none = none; f = f; l = l; q = q; o = o; clear = c; onward = k }
+    go (Read q o) c k more = absurd (omega (arith, c .0, none))
+    go (Constant m) c k more = absurd (omega (arith, c .0, none))
+    go (Operation o) c k more = absurd (omega (arith, c .0, none))
+    go End c k more = absurd (omega (arith, c .0, none))
 
-pub opening : (s : List ℕ) (all : List Record) → Rest s 0 [] all → Opening s all
-opening s all h = first-loop s 0 [] all h no-arrays
+pub opening : (all : List Record) → Onward [] all → Opening all
+unfolding summary blank
+opening all h = first-loop [] all h refl
 
 -- once there is a loop no array follows, and loops are never fewer
-module _ (s : List ℕ) where
-  opened : (at n : ℕ) (rs : List Record) (r : Record) → Whole s at (summary rs) (lengths rs) r n → 0 < summary rs .loops
-      → (summary rs .loops ≤ summary (r ∷ rs) .loops) × (lengths (r ∷ rs) ≡ lengths rs)
-  unfolding summary advanced withLoop withItem lengths
-  opened at n rs Unknown w h = absurd (w .clear)
-  opened at n rs (Array m) w h = absurd (omega (arith, w .clear .0))
-  opened at n rs (Loop f l q o) w h = (omega arith, refl)
-  opened at n rs (Read q o) w h = (omega arith, refl)
-  opened at n rs (Constant m) w h = (omega arith, refl)
-  opened at n rs (Operation o) w h = (omega arith, refl)
-  opened at n rs End w h = (omega arith, refl)
+opened : (rs : List Record) (r : Record) → Clear r (summary rs) (lengths rs) → 0 < summary rs .loops
+    → (summary rs .loops ≤ summary (r ∷ rs) .loops) × (lengths (r ∷ rs) ≡ lengths rs)
+unfolding summary advanced withLoop withItem lengths
+opened rs Unknown c h = absurd c
+opened rs (Array m) c h = absurd (omega (arith, c .0))
+opened rs (Loop f l q o) c h = (omega arith, refl)
+opened rs (Read q o) c h = (omega arith, refl)
+opened rs (Constant m) c h = (omega arith, refl)
+opened rs (Operation o) c h = (omega arith, refl)
+opened rs End c h = (omega arith, refl)
 
-  pub rest-opened : (at : ℕ) (rs all : List Record) → Rest s at rs all → 0 < summary rs .loops
-      → (summary rs .loops ≤ summary all .loops) × (lengths all ≡ lengths rs)
-  rest-opened at rs all (ended w) h = (omega arith, refl)
-  rest-opened at rs all (passed {n} {r} w o k) h =
-      let (more, same) = opened at n rs r w h in
-      let (most, still) = rest-opened n (r ∷ rs) all k (omega arith) in
-      (omega arith, still ∙ same)
+pub onward-opened : (rs all : List Record) → Onward rs all → 0 < summary rs .loops
+    → (summary rs .loops ≤ summary all .loops) × (lengths all ≡ lengths rs)
+onward-opened rs all (ends c) h = (omega arith, refl)
+onward-opened rs all (goes {r} c o k) h =
+    let (more, same) = opened rs r c h in
+    let (most, still) = onward-opened (r ∷ rs) all k (omega arith) in
+    (omega arith, still ∙ same)
 
 -- an accepted table has a loop, and its last body is finished
-pub rest-end : (s : List ℕ) (at : ℕ) (rs all : List Record) → Rest s at rs all → (0 < summary all .loops) × (summary all .waiting ≡ 1)
-rest-end s at rs all (ended w) = w .clear
-rest-end s at rs all (passed {n} {r} w o h) = rest-end s n (r ∷ rs) all h
+pub onward-end : (rs all : List Record) → Onward rs all → (0 < summary all .loops) × (summary all .waiting ≡ 1)
+onward-end rs all (ends c) = c
+onward-end rs all (goes {r} c o h) = onward-end (r ∷ rs) all h
 
 -- SIDE BY SIDE, from the first loop on
 -- the summaries t and u, the arrays' lengths ns and ms, and the loops if items follow, where the second has the loops ls more
@@ -113,13 +99,6 @@ beside-item ls t u ns ms own both b x v w e = record {
   waiting = e;
   table = λ xs. b .table (x ∷ xs);
 }
-
-no-loop : (rs : List Record) → summary rs .loops ≡ 0 → loopsOf rs [] ≡ []
-no-loop rs e = go (loopsOf rs []) (loops-counted rs [] ∙ e)
-  where
-    go : (l : List LoopOf) → length l ≡ 0 → l ≡ []
-    go [] h = refl
-    go (x ∷ l) h = absurd (omega arith)
 
 module _ (ls : List LoopOf) where
   -- after the records rs of the table by itself, and qs

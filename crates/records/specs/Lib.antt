@@ -20,3 +20,11 @@ pub mod Same
 pub mod Layout
 -- the record at a place is the one that the table says
 pub mod LaidOut
+-- a record as bytes
+pub mod Encoding
+-- the encoding of a record is read as that record
+pub mod EncodingLaws
+-- the bytes of a record are its encoding
+pub mod EncodingUnique
+-- the encoding of fields that fit is bytes
+pub mod EncodingRange

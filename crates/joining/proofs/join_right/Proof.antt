@@ -21,7 +21,9 @@ returns c =
     (into-told (table (now (a .right))) (r .last .1 .0) (r .result) (r .ensures) (c .before .if1 .taken)))
 
 same-lengths-requires : tie.Need-same-lengths-requires
-same-lengths-requires c κs = (c .before .before .before .before .before .before .before .before .pre .1, c .before .before .before .read-through .ensures .held (c .before .if1 .left) .1)
+same-lengths-requires c κs =
+    let d = c .before .before .before in
+    (d .before .before .before .before .before .pre .1, d .read-through .ensures .held (c .before .if1 .left) .1)
 
 add-total : tie.Need-add-total
 add-total c =
@@ -53,7 +55,12 @@ returns-3 c =
     rw (c .refused3 .ensures, c .before .met2 .ensures)
     (many-loops (now (a .left)) (now (a .right)) (now (a .out)) (now (a .ours)) (b .pre .0) (b .pre .1) (r .last .1 .0) (h .0) (h .1)
     (sym (not-false _ (c .before .before .before .if2 .left)) ∙ g .same-lengths .ensures)
-    (omega (arith, c .before .before .if3 .taken, c .before .before .before .before .before .before .loops-in .ensures, c .before .before .before .before .loops-in2 .ensures)))
+    (omega (
+      arith,
+      c .before .before .if3 .taken,
+      c .before .before .before .before .before .before .loops-in .ensures,
+      c .before .before .before .before .loops-in2 .ensures,
+    )))
 
 write-requires : tie.Need-write-requires
 write-requires c κs =
@@ -76,9 +83,17 @@ returns-4 c =
     let a = b .args in
     let r = d .read-through in
     let h = r .ensures .held (g .before .before .if1 .left) in
+    let known = d .before .before .before in
     joined (now (a .left)) (now (a .right)) (now (a .out)) (now (a .ours)) (b .pre .0) (b .pre .1) (r .last .1 .0) (h .0) (h .1)
-    (sym (not-false _ (w .before .before .before .before .if2 .left)) ∙ g .same-lengths .ensures) (w .write .result) (w .write .last .1 .1 .1 .0)
-    (omega (arith, w .before .before .before .if3 .left, w .before .before .before .before .before .before .before .loops-in .ensures, w .before .before .before .before .before .loops-in2 .ensures))
+    (sym (not-false _ (w .before .before .before .before .if2 .left)) ∙ g .same-lengths .ensures)
+    (λ k. omega (arith, known .before .shared-slice-known .given k)) (λ k. omega (arith, known .shared-slice-known2 .given k))
+    (w .write .result) (w .write .last .1 .1 .1 .0)
+    (omega (
+      arith,
+      w .before .before .before .if3 .left,
+      w .before .before .before .before .before .before .before .loops-in .ensures,
+      w .before .before .before .before .before .loops-in2 .ensures,
+    ))
     (rw (w .before .before .arrays-in .ensures) at (w .write .ensures))
 
 pub join-right-spec : {M : Type 1} → statement M

@@ -74,7 +74,7 @@ returns-2 c =
     let n = m .before in
     let b = n .before in
     differ (now (b .args .ours)) (now (b .args .theirs)) (b .pre) (n .arrays-in .result) (m .arrays-in2 .result) (n .arrays-in .ensures)
-    (m .arrays-in2 .ensures) (s .if1 .left) (l .k) (l .inv) (t .loop-test .taken) (c .if2 .taken)
+    (m .arrays-in2 .ensures) (s .if1 .left) (l .k) (l .inv) (omega (arith, t .loop-test .taken)) (c .if2 .taken)
 
 loop-again : tie.Need-loop-again Inv-loop μ-loop
 loop-again c =
@@ -85,7 +85,7 @@ loop-again c =
     let n = m .before in
     let b = n .before in
     equal (now (b .args .ours)) (now (b .args .theirs)) (b .pre) (n .arrays-in .result) (m .arrays-in2 .result) (n .arrays-in .ensures)
-    (m .arrays-in2 .ensures) (s .if1 .left) (l .k) (l .inv) (t .loop-test .taken) (c .if2 .left)
+    (m .arrays-in2 .ensures) (s .if1 .left) (l .k) (l .inv) (omega (arith, t .loop-test .taken)) (c .if2 .left)
 
 returns-3 : tie.Need-returns-3 Inv-loop μ-loop
 returns-3 c =
@@ -95,7 +95,7 @@ returns-3 c =
     let n = m .before in
     let b = n .before in
     done (now (b .args .ours)) (now (b .args .theirs)) (b .pre) (n .arrays-in .result) (m .arrays-in2 .result) (n .arrays-in .ensures)
-    (m .arrays-in2 .ensures) (s .if1 .left) (l .k) (l .inv) (c .loop-test .left)
+    (m .arrays-in2 .ensures) (s .if1 .left) (l .k) (l .inv) (omega (arith, c .loop-test .left))
 
 pub same-lengths-spec : {M : Type 1} → statement M
 same-lengths-spec =
