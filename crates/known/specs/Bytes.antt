@@ -1,34 +1,67 @@
--- The bytes of small tables: each record by its kind and fields. Numbers here are below 256, and an offset is one from −1 to 10.
-use Prim.Native.Nat.{ℕ}
+-- The bytes of small tables: each record by its kind and fields, numbers with the least byte first.
+use Prim.Native.Nat.{ℕ, zero, suc, _-_, _/_, _%_}
 use mathlib.Core.List.{List, [], _∷_, _++_}
+
+-- a number in four bytes
+abbrev pub number : ℕ → List ℕ
+number n = n % 256 ∷ n / 256 % 256 ∷ n / 65536 % 256 ∷ n / 16777216 % 256 ∷ []
 
 -- an array of n elements
 abbrev pub array : ℕ → List ℕ
-array n = 1 ∷ n ∷ 0 ∷ 0 ∷ 0 ∷ []
+array n = 1 ∷ number n
 
--- the offsets o and −1
+-- the offsets o and −o, and −1
 abbrev pub ahead : ℕ → List ℕ
-ahead o = o ∷ 0 ∷ []
+ahead o = o % 256 ∷ o / 256 ∷ []
+
+abbrev pub behind : ℕ → List ℕ
+behind o = ahead (65536 - o)
 
 abbrev pub back : List ℕ
-back = 255 ∷ 255 ∷ []
+back = behind 1
 
--- a loop from 1 to 10 that stores at A[i]
+-- a loop that stores at an offset in array a; and one from 1 to 10 that stores at A[i]
+abbrev pub loop : ℕ → ℕ → ℕ → List ℕ → List ℕ
+loop first last a offset = 2 ∷ number first ++ number last ++ a ∷ offset
+
 abbrev pub store : ℕ → List ℕ
-store a = 2 ∷ 1 ∷ 0 ∷ 0 ∷ 0 ∷ 10 ∷ 0 ∷ 0 ∷ 0 ∷ a ∷ ahead 0
+store a = loop 1 10 a (ahead 0)
 
 abbrev pub read : ℕ → List ℕ → List ℕ
 read a offset = 3 ∷ a ∷ offset
 
--- the constant 1
+-- a constant, and the constant 1
+abbrev pub constant : ℕ → List ℕ
+constant n = 4 ∷ number n
+
 abbrev pub one : List ℕ
-one = 4 ∷ 1 ∷ 0 ∷ 0 ∷ 0 ∷ []
+one = constant 1
+
+-- 1 add, 5 negate
+abbrev pub operation : ℕ → List ℕ
+operation o = 5 ∷ o ∷ []
 
 abbrev pub add : List ℕ
-add = 5 ∷ 1 ∷ []
+add = operation 1
 
 abbrev pub end : List ℕ
 end = 6 ∷ []
+
+-- n times the same bytes
+abbrev pub times : ℕ → List ℕ → List ℕ
+times zero s = []
+times (suc n) s = s ++ times n s
+
+-- the start of a table: an array of 1, and a loop from 0 to 0 that stores at A0[i]; its body is yet to come
+abbrev pub begun : List ℕ
+begun = array 1 ++ loop 0 0 0 (ahead 0)
+
+-- n loops that store in an array of so many elements, each from 0 to 0: A0[i] = 1; without and with the end
+abbrev pub loops : ℕ → ℕ → List ℕ
+loops elements n = array elements ++ times n (loop 0 0 0 (ahead 0) ++ one)
+
+abbrev pub tableOf : ℕ → ℕ → List ℕ
+tableOf elements n = loops elements n ++ end
 
 -- A[i−1] + A[i+1]
 abbrev pub beside : ℕ → List ℕ
@@ -73,5 +106,24 @@ single = array 11 ++ store 0 ++ one ++ end
 
 -- an array of 1; loop 0, 0 to 0: A0[i] = 0 / 0
 abbrev pub zeroByZero : List ℕ
-zeroByZero =
-    array 1 ++ (2 ∷ 0 ∷ 0 ∷ 0 ∷ 0 ∷ 0 ∷ 0 ∷ 0 ∷ 0 ∷ 0 ∷ 0 ∷ 0 ∷ []) ++ (4 ∷ 0 ∷ 0 ∷ 0 ∷ 0 ∷ []) ++ (4 ∷ 0 ∷ 0 ∷ 0 ∷ 0 ∷ []) ++ (5 ∷ 4 ∷ []) ++ end
+zeroByZero = array 1 ++ loop 0 0 0 (ahead 0) ++ constant 0 ++ constant 0 ++ operation 4 ++ end
+
+-- the largest shift and the largest peel in different loops, 2 to 11: A0[i] = 1; A1[i] = A0[i+s]; A2[i] = A0[i−p], for s up to 3 and p up to 2
+abbrev pub apart : ℕ → ℕ → List ℕ
+apart s p =
+    times 3 (array 15)
+    ++ loop 2 11 0 (ahead 0) ++ one
+    ++ loop 2 11 1 (ahead 0) ++ read 0 (ahead s)
+    ++ loop 2 11 2 (ahead 0) ++ read 0 (behind p)
+    ++ end
+
+-- a river reach of 200 sections, stage A0, flow A1, slope A2, smoothed flow A3: examples/river.table
+abbrev pub river : List ℕ
+river =
+    times 4 (array 200)
+    ++ loop 1 198 2 (ahead 0) ++ read 0 back ++ read 0 (ahead 1) ++ operation 2 ++ constant 200 ++ operation 4
+    ++ loop 1 198 1 (ahead 0) ++ read 1 (ahead 0) ++ constant 9 ++ operation 3 ++ constant 10 ++ operation 4
+    ++ read 2 (ahead 0) ++ constant 40 ++ operation 3 ++ add
+    ++ loop 1 198 3 (ahead 0) ++ read 1 back ++ constant 2 ++ read 1 (ahead 0) ++ operation 3 ++ add ++ read 1 (ahead 1) ++ add ++ constant 4 ++ operation 4
+    ++ loop 1 198 0 (ahead 0) ++ read 0 (ahead 0) ++ read 3 back ++ read 3 (ahead 1) ++ operation 2 ++ constant 50 ++ operation 4 ++ add
+    ++ end

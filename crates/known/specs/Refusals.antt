@@ -1,0 +1,122 @@
+-- Number and place for each ground, from bytes: the examples of docs/REFUSALS.md, and the other cases of each ground.
+use mathlib.Core.Path.{_≡_, refl}
+use mathlib.Core.List.{[], _∷_, _++_}
+use Rattle.refusals.specs.Refusals.{none, met, naming}
+use Rattle.refusals.specs.Answers.{refusalOf}
+use Rattle.numbers.specs.Numbers.{four, encoded}
+use Rattle.outputs.specs.Given.{fitted}
+use Rattle.turns.specs.Turn.{refuses}
+use Rattle.turns.specs.Row.{zeros, noneDone}
+use Rattle.entries.specs.Entries.{thresholds}
+use Rattle.joining.specs.Joining.{alike, bytes, joining}
+use Rattle.known.specs.Bytes.{array, ahead, back, loop, read, one, operation, add, end, times, begun, example, single, river}
+use Rattle.known.specs.Told.{refusal, refusalFor}
+use Rattle.known.specs.Memory.{own, plainRefusal, runRefusal, saidFrom}
+
+pub record Refusals : Type 0 where
+  -- 1 torn: bytes end inside a record or before the end record. An absent kind byte carries the input's length
+  pub empty : refusal [] ≡ met 1 0
+  pub no-end : refusal (array 1) ≡ met 1 5
+  pub cut-inside : refusal (array 1 ++ 1 ∷ 1 ∷ []) ≡ met 1 5
+  -- 2 kind: kind unknown or out of its order, or no array or loop before end
+  pub end-alone : refusal (6 ∷ []) ≡ met 2 0
+  pub no-kind : refusal (0 ∷ []) ≡ met 2 0
+  pub seventh-kind : refusal (7 ∷ []) ≡ met 2 0
+  pub no-loop : refusal (array 1 ++ end) ≡ met 2 5
+  pub item-before-loop : refusal (array 1 ++ one) ≡ met 2 5
+  pub array-after-loop : refusal (begun ++ one ++ array 1) ≡ met 2 22
+  -- 3 field: a field outside its range, or first above last
+  pub no-element : refusal (1 ∷ 0 ∷ 0 ∷ 0 ∷ 0 ∷ []) ≡ met 3 0
+  pub first-above-last : refusal (array 9 ++ loop 2 1 0 (ahead 0)) ≡ met 3 5
+  -- 4 crowd: one array, loop, item or element too many
+  pub too-many : refusal
+      (1 ∷ 0 ∷ 0 ∷ 1 ∷ 0 ∷ 1 ∷ 0 ∷ 0 ∷ 1 ∷ 0 ∷ 1 ∷ 0 ∷ 0 ∷ 1 ∷ 0 ∷ 1 ∷ 0 ∷ 0 ∷ 1 ∷ 0 ∷ 1 ∷ 1 ∷ 0 ∷ 0 ∷ 0 ∷ []) ≡ met 4 20
+  -- 5 array: no array of that number. A loop before any array is not 2
+  pub no-array : refusal (2 ∷ 0 ∷ 0 ∷ 0 ∷ 0 ∷ 0 ∷ 0 ∷ 0 ∷ 0 ∷ 0 ∷ 0 ∷ 0 ∷ []) ≡ met 5 0
+  pub no-array-read : refusal (begun ++ read 1 (ahead 0)) ≡ met 5 17
+  -- 6 body: too few waiting numbers, a ninth, or not one left
+  pub none-left : refusal (1 ∷ 1 ∷ 0 ∷ 0 ∷ 0 ∷ 2 ∷ 0 ∷ 0 ∷ 0 ∷ 0 ∷ 0 ∷ 0 ∷ 0 ∷ 0 ∷ 0 ∷ 0 ∷ 0 ∷ 6 ∷ []) ≡ met 6 17
+  pub two-left : refusal (begun ++ one ++ one ++ end) ≡ met 6 27
+  pub two-left-at-loop : refusal (begun ++ one ++ one ++ loop 0 0 0 (ahead 0)) ≡ met 6 27
+  pub too-few : refusal (begun ++ one ++ add) ≡ met 6 22
+  pub none-to-negate : refusal (begun ++ operation 5) ≡ met 6 17
+  pub ninth : refusal (begun ++ times 9 one) ≡ met 6 57
+  -- 7 edge: some iteration reaches outside the array
+  pub past-the-array : refusal (1 ∷ 1 ∷ 0 ∷ 0 ∷ 0 ∷ 2 ∷ 0 ∷ 0 ∷ 0 ∷ 0 ∷ 1 ∷ 0 ∷ 0 ∷ 0 ∷ 0 ∷ 0 ∷ 0 ∷ []) ≡ met 7 5
+  pub before-the-array : refusal (array 1 ++ loop 0 0 0 back) ≡ met 7 5
+  pub read-past-the-array : refusal (begun ++ read 0 (ahead 1)) ≡ met 7 17
+  -- 8 tail: bytes follow the end record. The place is the first byte too many, not the last and not that of the end record
+  pub tail : refusal (1 ∷ 1 ∷ 0 ∷ 0 ∷ 0 ∷ 2 ∷ 0 ∷ 0 ∷ 0 ∷ 0 ∷ 0 ∷ 0 ∷ 0 ∷ 0 ∷ 0 ∷ 0 ∷ 0 ∷ 3 ∷ 0 ∷ 0 ∷ 0 ∷ 6 ∷ 0 ∷ []) ≡ met 8 22
+  pub no-tail : refusal (begun ++ read 0 (ahead 0) ++ end) ≡ none
+  pub long-tail : refusal (begun ++ read 0 (ahead 0) ++ end ++ times 3 end) ≡ met 8 22
+  -- 9 serial: two different iterations of one loop meet at an element, one storing. It carries the lowest such loop, and a read
+  pub serial : refusal (1 ∷ 3 ∷ 0 ∷ 0 ∷ 0 ∷ 2 ∷ 0 ∷ 0 ∷ 0 ∷ 0 ∷ 1 ∷ 0 ∷ 0 ∷ 0 ∷ 0 ∷ 0 ∷ 0 ∷ 3 ∷ 0 ∷ 1 ∷ 0 ∷ 6 ∷ []) ≡ naming 9 0 0 0
+  pub third-read : refusal
+      (1 ∷ 12 ∷ 0 ∷ 0 ∷ 0 ∷ 1 ∷ 12 ∷ 0 ∷ 0 ∷ 0 ∷ 2 ∷ 1 ∷ 0 ∷ 0 ∷ 0 ∷ 10 ∷ 0 ∷ 0 ∷ 0 ∷ 0 ∷ 0 ∷ 0 ∷ 3 ∷ 1 ∷ 0 ∷ 0 ∷ 3 ∷ 0 ∷ 0 ∷ 0 ∷ 5 ∷ 1 ∷ 3 ∷ 0 ∷ 255 ∷ 255 ∷ 5 ∷ 1 ∷ 6 ∷ []) ≡ naming 9 0 2 0
+  -- 10 processors: P outside 1 to 64, or a stepped number not below P
+  pub processors : refusalFor example 65 ≡ met 10 0
+  pub no-processor : refusalFor example 0 ≡ met 10 0
+  pub no-such-processor : saidFrom 2 noneDone own ≡ refuses (met 10 0)
+  -- 11 short: T < P, or P ≥ 2 and some block below the threshold
+  pub short : refusalFor example 6 ≡ met 11 0
+  pub few-indices : refusalFor single 11 ≡ met 11 0
+  -- 12 memory: its length isn't the table's element total, 36
+  pub no-memory : runRefusal example 2 0 ≡ met 12 0
+  pub one-less : plainRefusal example 35 ≡ met 12 0
+  pub one-more : plainRefusal example 37 ≡ met 12 0
+  pub the-total : plainRefusal example 36 ≡ none
+  -- 13 buffer: the output doesn't fit the lent bytes
+  pub buffer : refusalOf (thresholds example 3) ≡ met 13 0
+  -- 14 unlike: joined tables differ in arrays
+  pub unlike : refusalOf (joining example river 4096) ≡ met 14 0
+  -- 15 state: a peeled step before the barrier, a count above its lists, or a count above 0 for a processor not below P
+  pub before-the-barrier : saidFrom 0 (10 ∷ zeros 63) own ≡ refuses (met 15 0)
+  pub above-its-lists : saidFrom 0 (12 ∷ 9 ∷ zeros 62) own ≡ refuses (met 15 0)
+  pub beyond : saidFrom 0 (0 ∷ 0 ∷ 1 ∷ zeros 61) own ≡ refuses (met 15 0)
+
+pub refusals : Refusals
+unfolding refusal refusalFor plainRefusal runRefusal saidFrom thresholds fitted encoded four joining alike bytes
+refusals = record {
+  empty = refl;
+  no-end = refl;
+  cut-inside = refl;
+  end-alone = refl;
+  no-kind = refl;
+  seventh-kind = refl;
+  no-loop = refl;
+  item-before-loop = refl;
+  array-after-loop = refl;
+  no-element = refl;
+  first-above-last = refl;
+  too-many = refl;
+  no-array = refl;
+  no-array-read = refl;
+  none-left = refl;
+  two-left = refl;
+  two-left-at-loop = refl;
+  too-few = refl;
+  none-to-negate = refl;
+  ninth = refl;
+  past-the-array = refl;
+  before-the-array = refl;
+  read-past-the-array = refl;
+  tail = refl;
+  no-tail = refl;
+  long-tail = refl;
+  serial = refl;
+  third-read = refl;
+  processors = refl;
+  no-processor = refl;
+  no-such-processor = refl;
+  short = refl;
+  few-indices = refl;
+  no-memory = refl;
+  one-less = refl;
+  one-more = refl;
+  the-total = refl;
+  buffer = refl;
+  unlike = refl;
+  before-the-barrier = refl;
+  above-its-lists = refl;
+  beyond = refl;
+}
