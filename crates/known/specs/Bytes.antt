@@ -127,3 +127,13 @@ river =
     ++ loop 1 198 3 (ahead 0) ++ read 1 back ++ constant 2 ++ read 1 (ahead 0) ++ operation 3 ++ add ++ read 1 (ahead 1) ++ add ++ constant 4 ++ operation 4
     ++ loop 1 198 0 (ahead 0) ++ read 0 (ahead 0) ++ read 3 back ++ read 3 (ahead 1) ++ operation 2 ++ constant 50 ++ operation 4 ++ add
     ++ end
+
+-- two tables over two arrays, A0[i] = 1 and A1[i] = A0[i+1], and the one that they make
+abbrev pub storer : List ℕ
+storer = times 2 (array 12) ++ store 0 ++ one ++ end
+
+abbrev pub reader : List ℕ
+reader = times 2 (array 12) ++ store 1 ++ read 0 (ahead 1) ++ end
+
+abbrev pub joinedBytes : List ℕ
+joinedBytes = times 2 (array 12) ++ store 0 ++ one ++ store 1 ++ read 0 (ahead 1) ++ end

@@ -12,6 +12,12 @@ use Rattle.known.specs.Told.{refusalFor, shiftsIn, peelsIn, thresholdIn,
 use Rattle.known.specs.Memory.{whole, element}
 
 pub record Known : Type 0 where
+  -- the example's 61 bytes: three arrays; loop 0; loop 1 and the end
+  pub example-bytes : example
+      ≡ 1 ∷ 12 ∷ 0 ∷ 0 ∷ 0 ∷ 1 ∷ 12 ∷ 0 ∷ 0 ∷ 0 ∷ 1 ∷ 12 ∷ 0 ∷ 0 ∷ 0
+      ∷ 2 ∷ 1 ∷ 0 ∷ 0 ∷ 0 ∷ 10 ∷ 0 ∷ 0 ∷ 0 ∷ 0 ∷ 0 ∷ 0 ∷ 3 ∷ 1 ∷ 0 ∷ 0 ∷ 4 ∷ 1 ∷ 0 ∷ 0 ∷ 0 ∷ 5 ∷ 1
+      ∷ 2 ∷ 1 ∷ 0 ∷ 0 ∷ 0 ∷ 10 ∷ 0 ∷ 0 ∷ 0 ∷ 2 ∷ 0 ∷ 0 ∷ 3 ∷ 0 ∷ 255 ∷ 255 ∷ 3 ∷ 0 ∷ 1 ∷ 0 ∷ 5 ∷ 1 ∷ 6
+      ∷ []
   -- the example: threshold 2; P = 5 accepted, P = 6 refused 11
   pub example-threshold : thresholdIn example ≡ 2 ∷ []
   pub example-five : refusalOf (planned example (settings 5)) ≡ none
@@ -46,6 +52,7 @@ pub record Known : Type 0 where
 pub known : Known
 unfolding refusalFor element div toBits
 known = record {
+  example-bytes = refl;
   example-threshold = refl;
   example-five = refl;
   example-six = refl;

@@ -10,5 +10,15 @@ pub mod Known
 pub mod Misreadings
 -- number and place for each ground
 pub mod Refusals
+-- which of several grounds is told
+pub mod Precedence
+-- each limit, and one past it
+pub mod Limits
+-- the example's lists, steps and runs
+pub mod Runs
+-- the numbers in lent bytes
+pub mod Outputs
+-- two tables joined
+pub mod Joins
 -- the listing's
 pub mod Text

@@ -10,15 +10,15 @@ use Rattle.model.specs.declared.Iteration.{Iteration}
 use Rattle.model.specs.Bodies.{binary, combined, applied, worked, workedAll, value, performed}
 use Rattle.refusals.specs.declared.Refusal.{Refusal}
 use Rattle.refusals.specs.Answers.{refusalOf}
-use Rattle.turns.specs.Turn.{Said, closed, wrongCount, wrongState, next, turn, stepped}
+use Rattle.turns.specs.Turn.{Said, performs, closed, wrongCount, wrongState, next, turn, stepped}
 use Rattle.turns.specs.Row.{noneDone, reports, countsAfter, memoryAfter, idle, canStep, closing, rowOf}
-use Rattle.plans.specs.Plans.{settings, plannedFor}
+use Rattle.plans.specs.Plans.{settings, planned, plannedFor}
 use Rattle.iterations.specs.Memory.{remembered}
 use Rattle.plain.specs.Plain.{plainAnswer, runOf, plainMemory}
 use Rattle.stepping.specs.Step.{steppedBy, step}
-use Rattle.stepping.specs.Run.{runAnswer, runMemory, runIdle}
-use Rattle.known.specs.Bytes.{example}
-use Rattle.known.specs.Told.{refusal, refusalFor, fusedIn, peeledIn}
+use Rattle.stepping.specs.Run.{runAnswer, runRow, runMemory, runIdle}
+use Rattle.known.specs.Bytes.{times, example}
+use Rattle.known.specs.Told.{refusal, refusalFor, told, fusedIn, peeledIn}
 
 -- every element its own index, in three arrays of 12
 abbrev pub whole : ℕ → Float
@@ -55,7 +55,17 @@ unfoldable pub saidFrom : ℕ → List ℕ → List Float → Said Iteration
 unfolding element refusalFor fusedIn peeledIn plannedFor step steppedBy stepped turn next wrongState wrongCount closed
 saidFrom b counts m = step example (settings 2) b counts m .said
 
--- a row of steps: what each says, and what they leave
+-- a row of steps of all kinds: the last processor's until it waits, a number not below P, the first one's fused list, the last one finished,
+-- the first one's peeled list, and that one finished
+abbrev pub someRow : List ℕ
+someRow = times 10 (1 ∷ []) ++ 2 ∷ times 9 (0 ∷ []) ++ 1 ∷ times 3 (0 ∷ [])
+
+-- each iteration of a list is performed
+abbrev pub performsAll : List Iteration → List (Said Iteration)
+performsAll [] = []
+performsAll (x ∷ xs) = performs x ∷ performsAll xs
+
+-- what each step of a row says, and what the row leaves
 unfoldable pub reported : List ℕ → List (Said Iteration)
 unfolding saidFrom reports
 reported bs = reports (step example (settings 2)) bs noneDone own
@@ -68,9 +78,13 @@ unfoldable pub elementLeft : List ℕ → ℕ → Float
 unfolding saidFrom memoryAfter
 elementLeft bs i = elementOf (memoryAfter (step example (settings 2)) bs noneDone own) i
 
--- a run in a caller's order: how many calls are idle, and what it leaves
+-- a run in a caller's order: its row, how many calls are idle, and what it leaves
+unfoldable pub rowIn : List ℕ → List ℕ
+unfolding countsLeft elementLeft canStep closing rowOf
+rowIn order = told (runRow example (settings 2) order own) (planned example (settings 2))
+
 unfoldable pub idleIn : List ℕ → ℕ
-unfolding reported countsLeft elementLeft idle canStep closing rowOf runIdle
+unfolding reported rowIn idle runIdle
 idleIn order = runIdle example (settings 2) order own
 
 unfoldable pub elementIn : List ℕ → ℕ → Float

@@ -25,22 +25,20 @@ pub record Refusals : Type 0 where
   pub no-loop : refusal (array 1 ++ end) ≡ met 2 5
   pub item-before-loop : refusal (array 1 ++ one) ≡ met 2 5
   pub array-after-loop : refusal (begun ++ one ++ array 1) ≡ met 2 22
-  -- 3 field: a field outside its range, or first above last
+  -- 3 field: a field outside its range, or first above last (each range: Limits)
   pub no-element : refusal (1 ∷ 0 ∷ 0 ∷ 0 ∷ 0 ∷ []) ≡ met 3 0
-  pub first-above-last : refusal (array 9 ++ loop 2 1 0 (ahead 0)) ≡ met 3 5
-  -- 4 crowd: one array, loop, item or element too many
+  -- 4 crowd: one array, loop, item or element too many (each: Limits)
   pub too-many : refusal
       (1 ∷ 0 ∷ 0 ∷ 1 ∷ 0 ∷ 1 ∷ 0 ∷ 0 ∷ 1 ∷ 0 ∷ 1 ∷ 0 ∷ 0 ∷ 1 ∷ 0 ∷ 1 ∷ 0 ∷ 0 ∷ 1 ∷ 0 ∷ 1 ∷ 1 ∷ 0 ∷ 0 ∷ 0 ∷ []) ≡ met 4 20
   -- 5 array: no array of that number. A loop before any array is not 2
   pub no-array : refusal (2 ∷ 0 ∷ 0 ∷ 0 ∷ 0 ∷ 0 ∷ 0 ∷ 0 ∷ 0 ∷ 0 ∷ 0 ∷ 0 ∷ []) ≡ met 5 0
   pub no-array-read : refusal (begun ++ read 1 (ahead 0)) ≡ met 5 17
-  -- 6 body: too few waiting numbers, a ninth, or not one left
+  -- 6 body: too few waiting numbers, a ninth (Limits), or not one left
   pub none-left : refusal (1 ∷ 1 ∷ 0 ∷ 0 ∷ 0 ∷ 2 ∷ 0 ∷ 0 ∷ 0 ∷ 0 ∷ 0 ∷ 0 ∷ 0 ∷ 0 ∷ 0 ∷ 0 ∷ 0 ∷ 6 ∷ []) ≡ met 6 17
   pub two-left : refusal (begun ++ one ++ one ++ end) ≡ met 6 27
   pub two-left-at-loop : refusal (begun ++ one ++ one ++ loop 0 0 0 (ahead 0)) ≡ met 6 27
   pub too-few : refusal (begun ++ one ++ add) ≡ met 6 22
   pub none-to-negate : refusal (begun ++ operation 5) ≡ met 6 17
-  pub ninth : refusal (begun ++ times 9 one) ≡ met 6 57
   -- 7 edge: some iteration reaches outside the array
   pub past-the-array : refusal (1 ∷ 1 ∷ 0 ∷ 0 ∷ 0 ∷ 2 ∷ 0 ∷ 0 ∷ 0 ∷ 0 ∷ 1 ∷ 0 ∷ 0 ∷ 0 ∷ 0 ∷ 0 ∷ 0 ∷ []) ≡ met 7 5
   pub before-the-array : refusal (array 1 ++ loop 0 0 0 back) ≡ met 7 5
@@ -55,7 +53,6 @@ pub record Refusals : Type 0 where
       (1 ∷ 12 ∷ 0 ∷ 0 ∷ 0 ∷ 1 ∷ 12 ∷ 0 ∷ 0 ∷ 0 ∷ 2 ∷ 1 ∷ 0 ∷ 0 ∷ 0 ∷ 10 ∷ 0 ∷ 0 ∷ 0 ∷ 0 ∷ 0 ∷ 0 ∷ 3 ∷ 1 ∷ 0 ∷ 0 ∷ 3 ∷ 0 ∷ 0 ∷ 0 ∷ 5 ∷ 1 ∷ 3 ∷ 0 ∷ 255 ∷ 255 ∷ 5 ∷ 1 ∷ 6 ∷ []) ≡ naming 9 0 2 0
   -- 10 processors: P outside 1 to 64, or a stepped number not below P
   pub processors : refusalFor example 65 ≡ met 10 0
-  pub no-processor : refusalFor example 0 ≡ met 10 0
   pub no-such-processor : saidFrom 2 noneDone own ≡ refuses (met 10 0)
   -- 11 short: T < P, or P ≥ 2 and some block below the threshold
   pub short : refusalFor example 6 ≡ met 11 0
@@ -65,9 +62,9 @@ pub record Refusals : Type 0 where
   pub one-less : plainRefusal example 35 ≡ met 12 0
   pub one-more : plainRefusal example 37 ≡ met 12 0
   pub the-total : plainRefusal example 36 ≡ none
-  -- 13 buffer: the output doesn't fit the lent bytes
+  -- 13 buffer: the output doesn't fit the lent bytes (each output: Outputs, Joins)
   pub buffer : refusalOf (thresholds example 3) ≡ met 13 0
-  -- 14 unlike: joined tables differ in arrays
+  -- 14 unlike: joined tables differ in arrays (in length or number: Joins)
   pub unlike : refusalOf (joining example river 4096) ≡ met 14 0
   -- 15 state: a peeled step before the barrier, a count above its lists, or a count above 0 for a processor not below P
   pub before-the-barrier : saidFrom 0 (10 ∷ zeros 63) own ≡ refuses (met 15 0)
@@ -87,7 +84,6 @@ refusals = record {
   item-before-loop = refl;
   array-after-loop = refl;
   no-element = refl;
-  first-above-last = refl;
   too-many = refl;
   no-array = refl;
   no-array-read = refl;
@@ -96,7 +92,6 @@ refusals = record {
   two-left-at-loop = refl;
   too-few = refl;
   none-to-negate = refl;
-  ninth = refl;
   past-the-array = refl;
   before-the-array = refl;
   read-past-the-array = refl;
@@ -106,7 +101,6 @@ refusals = record {
   serial = refl;
   third-read = refl;
   processors = refl;
-  no-processor = refl;
   no-such-processor = refl;
   short = refl;
   few-indices = refl;

@@ -40,7 +40,7 @@ unfolding refusal planned fitting dependence required raised walk numbers thresh
 refusalFor s P = refusalOf (planned s (settings P))
 
 -- what f says of what is accepted; of a refusal nothing
-abbrev told : {T A : Type 0} → (T → List A) → AnswerOf T → List A
+abbrev pub told : {T A : Type 0} → (T → List A) → AnswerOf T → List A
 told f (accepted t) = f t
 told f (refused r) = []
 
