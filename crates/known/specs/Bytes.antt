@@ -137,3 +137,14 @@ reader = times 2 (array 12) ++ store 1 ++ read 0 (ahead 1) ++ end
 
 abbrev pub joinedBytes : List ℕ
 joinedBytes = times 2 (array 12) ++ store 0 ++ one ++ store 1 ++ read 0 (ahead 1) ++ end
+
+-- two stores in one array: A0[i] = 1; A0[i+o] = 1. Two reads of one: A0[i] = A2[i+1]; A1[i] = A2[i+o]
+abbrev pub stores : List ℕ → List ℕ
+stores o = array 12 ++ store 0 ++ one ++ loop 1 10 0 o ++ one ++ end
+
+abbrev pub reads : List ℕ → List ℕ
+reads o = times 3 (array 13) ++ store 0 ++ read 2 (ahead 1) ++ store 1 ++ read 2 o ++ end
+
+-- loops with bounds of their own, 1 to 10 and 6 to 12: A0[i] = 1; A1[i] = A0[i−1] + A0[i+1]
+abbrev pub staggered : List ℕ
+staggered = times 2 (array 14) ++ loop 1 10 0 (ahead 0) ++ one ++ loop 6 12 1 (ahead 0) ++ beside 0 ++ end

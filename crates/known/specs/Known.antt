@@ -1,7 +1,7 @@
 -- The known results, from bytes and by computation, in the paper's order, and one of what 9 names.
 use mathlib.Core.Path.{_≡_, refl}
 use mathlib.Core.List.{[], _∷_}
-use lib.Ieee.{nan, binary64, div, toBits}
+use lib.Ieee.{nan, binary64, toBits}
 use Rattle.refusals.specs.Refusals.{none, met, naming}
 use Rattle.refusals.specs.Answers.{refusalOf}
 use Rattle.serial.specs.Serial.{table}
@@ -9,7 +9,7 @@ use Rattle.plans.specs.Plans.{settings, planned}
 use Rattle.plain.specs.Plain.{plainMemory}
 use Rattle.known.specs.Bytes.{example, three, minusOneThenZero, storeAfterRead, itself, severalReads, single, zeroByZero}
 use Rattle.known.specs.Told.{refusalFor, shiftsIn, peelsIn, thresholdIn, sizesIn}
-use Rattle.known.specs.Memory.{whole, element}
+use Rattle.known.specs.Memory.{whole, element, bits}
 
 pub record Known : Type 0 where
   -- the example's 61 bytes: three arrays; loop 0; loop 1 and the end
@@ -50,7 +50,7 @@ pub record Known : Type 0 where
   pub nan-bits : toBits binary64 nan ≡ 0x7FF8000000000000
 
 pub known : Known
-unfolding refusalFor element div toBits
+unfolding refusalFor element bits
 known = record {
   example-bytes = refl;
   example-threshold = refl;

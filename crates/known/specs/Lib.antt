@@ -6,6 +6,8 @@ pub mod Told
 pub mod Memory
 -- the known results, one record
 pub mod Known
+-- which references make a dependence
+pub mod Dependences
 -- what a misreading would say otherwise
 pub mod Misreadings
 -- number and place for each ground
@@ -14,6 +16,8 @@ pub mod Refusals
 pub mod Precedence
 -- each limit, and one past it
 pub mod Limits
+-- what a body works out
+pub mod Values
 -- the example's lists, steps and runs
 pub mod Runs
 -- the numbers in lent bytes

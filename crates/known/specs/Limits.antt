@@ -1,6 +1,6 @@
 -- Each limit exactly, and one past it.
 use mathlib.Core.Path.{_≡_, refl}
-use mathlib.Core.List.{[], _++_}
+use mathlib.Core.List.{_++_}
 use Rattle.refusals.specs.Refusals.{none, met}
 use Rattle.known.specs.Bytes.{array, ahead, behind, loop, read, one, operation, add, end, times, begun, loops, tableOf}
 use Rattle.known.specs.Told.{refusal, refusalFor}
@@ -55,6 +55,8 @@ pub record Limits : Type 0 where
   pub no-processor : refusalFor (tableOf 1 1) 0 ≡ met 10 0
   pub processors-most : refusalFor (array 65 ++ loop 0 63 0 (ahead 0) ++ one ++ end) 64 ≡ none
   pub processors-past : refusalFor (array 65 ++ loop 0 64 0 (ahead 0) ++ one ++ end) 65 ≡ met 10 0
+  -- P = 1 is accepted whatever the threshold is: a loop of one index with the shift 3
+  pub threshold-past : refusalFor (times 2 (array 9) ++ loop 2 2 0 (ahead 0) ++ one ++ loop 2 2 1 (ahead 0) ++ read 0 (ahead 3) ++ end) 1 ≡ none
   -- T is at least P
   pub indices-least : refusalFor (array 65 ++ loop 0 2 0 (ahead 0) ++ one ++ end) 3 ≡ none
   pub indices-below : refusalFor (array 65 ++ loop 0 1 0 (ahead 0) ++ one ++ end) 3 ≡ met 11 0
@@ -99,6 +101,7 @@ limits = record {
   no-processor = refl;
   processors-most = refl;
   processors-past = refl;
+  threshold-past = refl;
   indices-least = refl;
   indices-below = refl;
 }

@@ -4,10 +4,10 @@ use mathlib.Core.List.{List, [], _∷_, _++_}
 use lib.Count.{trailingZeros}
 use lib.IntN.{pos}
 use lib.ListN.{getD}
-use lib.Ieee.{Float, nan, binary64, ofInt, round, add, sum, span, climb, units, odd}
+use lib.Ieee.{Float, nan, binary64, ofInt, toBits, add, sub, mul, div, neg, sum, round, span, climb, units, odd}
 use lib.Ieee as Ieee
 use Rattle.model.specs.declared.Iteration.{Iteration}
-use Rattle.model.specs.Bodies.{binary, combined, applied, worked, workedAll, value, performed}
+use Rattle.model.specs.Bodies.{binary, negated, combined, applied, worked, workedAll, value, performed}
 use Rattle.refusals.specs.declared.Refusal.{Refusal}
 use Rattle.refusals.specs.Answers.{refusalOf}
 use Rattle.turns.specs.Turn.{Said, performs, closed, wrongCount, wrongState, next, turn, stepped}
@@ -17,7 +17,7 @@ use Rattle.iterations.specs.Memory.{remembered}
 use Rattle.plain.specs.Plain.{plainAnswer, runOf, plainMemory}
 use Rattle.stepping.specs.Step.{steppedBy, step}
 use Rattle.stepping.specs.Run.{runAnswer, runRow, runMemory, runIdle}
-use Rattle.known.specs.Bytes.{times, example}
+use Rattle.known.specs.Bytes.{end, times, begun, example}
 use Rattle.known.specs.Told.{refusal, refusalFor, told, fusedIn, peeledIn}
 
 -- every element its own index, in three arrays of 12
@@ -37,9 +37,14 @@ elementOf m i = getD m (24 + i) nan
 
 -- after the example's plain run
 unfoldable pub element : ℕ → Float
-unfolding refusal plainMemory runOf plainAnswer remembered binary combined applied worked workedAll value performed add sum round Ieee.size span
-    climb units odd trailingZeros ofInt
+unfolding refusal plainMemory runOf plainAnswer remembered binary negated combined applied worked workedAll value performed add sub mul div neg sum
+    round Ieee.size span climb units odd trailingZeros ofInt
 element i = elementOf (plainMemory example own) i
+
+-- the bits that a loop with this body stores
+unfoldable pub bits : List ℕ → ℕ
+unfolding element toBits
+bits items = toBits binary64 (getD (plainMemory (begun ++ items ++ end) (whole 0 ∷ [])) 0 nan)
 
 -- 12 after the others: of a plain run, and of a run with P processors, for a memory of n numbers
 unfoldable pub plainRefusal : List ℕ → ℕ → Refusal

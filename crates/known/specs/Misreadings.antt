@@ -1,9 +1,9 @@
--- The paper's misreadings, each with a table of which it would say something else.
+-- The paper's misreadings, each with a table of which it would say something else. (Stopping a chain at distance 0: Known's `distances`.)
 use mathlib.Core.Path.{_≡_, refl}
 use mathlib.Core.List.{[], _∷_}
 use Rattle.model.specs.Table.{iteration}
 use Rattle.refusals.specs.Refusals.{none, met}
-use Rattle.known.specs.Bytes.{example, three, minusOneThenZero, apart}
+use Rattle.known.specs.Bytes.{example, three, apart}
 use Rattle.known.specs.Told.{refusalFor, shiftsIn, peelsIn, thresholdIn, peeledIn}
 
 pub record Misreadings : Type 0 where
@@ -11,8 +11,6 @@ pub record Misreadings : Type 0 where
   pub unshifted-peels : peelsIn example ≡ 0 ∷ 1 ∷ []
   -- only neighbouring loops compared: loop 2 reads what loop 0 stores, and loop 1 does not touch it
   pub all-pairs : peelsIn (apart 1 1) ≡ 0 ∷ 0 ∷ 1 ∷ []
-  -- stopping a chain at distance 0
-  pub past-zero : shiftsIn minusOneThenZero ≡ 0 ∷ 1 ∷ 1 ∷ []
   -- threshold as largest shift plus largest peel: shift 1 in one loop and peel 1 in another give 1, so ten blocks of one index are long enough
   pub apart-shifts : shiftsIn (apart 1 1) ≡ 0 ∷ 1 ∷ 0 ∷ []
   pub apart-threshold : thresholdIn (apart 1 1) ≡ 1 ∷ []
@@ -31,7 +29,6 @@ unfolding peeledIn
 misreadings = record {
   unshifted-peels = refl;
   all-pairs = refl;
-  past-zero = refl;
   apart-shifts = refl;
   apart-threshold = refl;
   apart-ten = refl;

@@ -18,7 +18,8 @@ pub record Outputs : Type 0 where
   pub before-then-after : sweepsGiven example 8 ≡ accepted (number 6 ++ number 5)
   pub first-then-last : blocksGiven example (settings 2) 16 ≡ accepted (number 1 ++ number 5 ++ number 6 ++ number 10)
   -- of a table whose one block has the indices 255 to 65,790
-  pub large-numbers : blocksGiven (array 65536 ++ loop 255 65790 0 (behind 255) ++ one ++ end) (settings 1) 8 ≡ accepted (255 ∷ 0 ∷ 0 ∷ 0 ∷ 254 ∷ 0 ∷ 1 ∷ 0 ∷ [])
+  pub large-numbers : blocksGiven (array 65536 ++ loop 255 65790 0 (behind 255) ++ one ++ end) (settings 1) 8
+      ≡ accepted (255 ∷ 0 ∷ 0 ∷ 0 ∷ 254 ∷ 0 ∷ 1 ∷ 0 ∷ [])
   -- loop and iteration of each in processor 0's lists: 18 numbers, and 4
   pub fused-bytes : fusedGiven example (settings 2) 0 72
       ≡ accepted (

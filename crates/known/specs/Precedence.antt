@@ -16,7 +16,8 @@ use Rattle.known.specs.Memory.{plainRefusal, runRefusal, saidFrom}
 pub record Precedence : Type 0 where
   -- records are tested left to right: 3 in the first, 2 in the second
   pub earlier-record : refusal (array 0 ++ 7 ∷ []) ≡ met 3 0
-  -- 2 before 6 for a body left unfinished: an array behind a loop with no item; before 4: a 17th array behind a loop; before 1: a read cut short, before any loop
+  -- 2 before 6 for a body left unfinished: an array behind a loop with no item; before 4: a 17th array behind a loop; before 1: a read cut
+  -- short, before any loop
   pub kind-body : refusal (begun ++ array 1) ≡ met 2 17
   pub kind-crowd : refusal (times 16 (array 1) ++ loop 0 0 0 (ahead 0) ++ one ++ array 1) ≡ met 2 97
   pub kind-torn : refusal (3 ∷ []) ≡ met 2 0

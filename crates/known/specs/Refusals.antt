@@ -50,7 +50,9 @@ pub record Refusals : Type 0 where
   -- 9 serial: two different iterations of one loop meet at an element, one storing. It carries the lowest such loop, and a read
   pub serial : refusal (1 ∷ 3 ∷ 0 ∷ 0 ∷ 0 ∷ 2 ∷ 0 ∷ 0 ∷ 0 ∷ 0 ∷ 1 ∷ 0 ∷ 0 ∷ 0 ∷ 0 ∷ 0 ∷ 0 ∷ 3 ∷ 0 ∷ 1 ∷ 0 ∷ 6 ∷ []) ≡ naming 9 0 0 0
   pub third-read : refusal
-      (1 ∷ 12 ∷ 0 ∷ 0 ∷ 0 ∷ 1 ∷ 12 ∷ 0 ∷ 0 ∷ 0 ∷ 2 ∷ 1 ∷ 0 ∷ 0 ∷ 0 ∷ 10 ∷ 0 ∷ 0 ∷ 0 ∷ 0 ∷ 0 ∷ 0 ∷ 3 ∷ 1 ∷ 0 ∷ 0 ∷ 3 ∷ 0 ∷ 0 ∷ 0 ∷ 5 ∷ 1 ∷ 3 ∷ 0 ∷ 255 ∷ 255 ∷ 5 ∷ 1 ∷ 6 ∷ []) ≡ naming 9 0 2 0
+      (1 ∷ 12 ∷ 0 ∷ 0 ∷ 0 ∷ 1 ∷ 12 ∷ 0 ∷ 0 ∷ 0 ∷ 2 ∷ 1 ∷ 0 ∷ 0 ∷ 0 ∷ 10 ∷ 0 ∷ 0 ∷ 0 ∷ 0 ∷ 0 ∷ 0 ∷ 3 ∷ 1 ∷ 0 ∷ 0 ∷ 3 ∷ 0 ∷ 0 ∷ 0 ∷ 5 ∷ 1
+      ∷ 3 ∷ 0 ∷ 255 ∷ 255 ∷ 5 ∷ 1 ∷ 6 ∷ [])
+      ≡ naming 9 0 2 0
   -- 10 processors: P outside 1 to 64, or a stepped number not below P
   pub processors : refusalFor example 65 ≡ met 10 0
   pub no-such-processor : saidFrom 2 noneDone own ≡ refuses (met 10 0)

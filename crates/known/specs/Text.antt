@@ -4,7 +4,7 @@ use mathlib.Core.List.{[], _++_}
 use Rattle.plans.specs.Plans.{Settings, settings}
 use Rattle.text.specs.Ascii.{ascii}
 use Rattle.printing.specs.Printing.{text}
-use Rattle.known.specs.Bytes.{example, apart, storeAfterRead, severalReads}
+use Rattle.known.specs.Bytes.{example, apart, storeAfterRead, severalReads, staggered}
 use Rattle.known.specs.Told.{listed}
 
 -- no table byte, whatever the settings are
@@ -65,3 +65,20 @@ pub store-after-read-text : listed storeAfterRead 2
     ++ ascii "sweeps 5 4\n"
 unfolding listed
 store-after-read-text = refl
+
+-- T counts the indices from the least first to the greatest last; parts are cut to the loop's own bounds; empty ranges omitted, as loop 1's in block 0
+pub staggered-text : listed staggered 3
+    ≡ ascii "loop 0 0 0\n"
+    ++ ascii "loop 1 1 1\n"
+    ++ ascii "block 0 1 4\n"
+    ++ ascii "block 1 5 8\n"
+    ++ ascii "block 2 9 12\n"
+    ++ ascii "fused 0 0 1 4\n"
+    ++ ascii "fused 1 0 5 8\n"
+    ++ ascii "fused 1 1 6 7\n"
+    ++ ascii "fused 2 0 9 10\n"
+    ++ ascii "fused 2 1 10 12\n"
+    ++ ascii "peeled 1 1 8 9\n"
+    ++ ascii "sweeps 5 4\n"
+unfolding listed
+staggered-text = refl
