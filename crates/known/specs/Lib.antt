@@ -10,14 +10,16 @@ pub mod Known
 pub mod Dependences
 -- what a misreading would say otherwise
 pub mod Misreadings
--- number and place for each ground
+-- number and place for each ground that a table meets
 pub mod Refusals
 -- which of several grounds is told
 pub mod Precedence
--- each limit, and one past it
+-- each limit of a table, and one past it
 pub mod Limits
 -- what a body works out
 pub mod Values
+-- the grounds that a call meets beside a table's
+pub mod Calls
 -- the example's lists, steps and runs
 pub mod Runs
 -- the numbers in lent bytes

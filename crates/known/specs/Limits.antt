@@ -1,16 +1,11 @@
--- Each limit exactly, and one past it.
+-- Each limit of a table exactly, and one past it: how many there can be, and the fields' ranges. (P, and T below P: Calls.)
 use mathlib.Core.Path.{_≡_, refl}
 use mathlib.Core.List.{_++_}
 use Rattle.refusals.specs.Refusals.{none, met}
 use Rattle.known.specs.Bytes.{array, ahead, behind, loop, read, one, operation, add, end, times, begun, loops, tableOf}
-use Rattle.known.specs.Told.{refusal, refusalFor}
+use Rattle.known.specs.Told.{refusal}
 
-pub record Limits : Type 0 where
-  -- an array has 1 to 65,536 elements
-  pub one-element : refusal (tableOf 1 1) ≡ none
-  pub no-element : refusal (array 0) ≡ met 3 0
-  pub array-most : refusal (tableOf 65536 1) ≡ none
-  pub array-past : refusal (array 65537) ≡ met 3 0
+pub record Counts : Type 0 where
   -- at most 262,144 elements in all
   pub elements-most : refusal (times 3 (array 65536) ++ tableOf 65536 1) ≡ none
   pub elements-past : refusal (times 4 (array 65536) ++ array 1) ≡ met 4 20
@@ -27,6 +22,29 @@ pub record Limits : Type 0 where
   -- at most eight values wait
   pub waiting-most : refusal (begun ++ times 8 one ++ times 7 add ++ end) ≡ none
   pub waiting-past : refusal (begun ++ times 9 one ++ times 8 add ++ end) ≡ met 6 57
+
+pub counts : Counts
+unfolding refusal
+counts = record {
+  elements-most = refl;
+  elements-past = refl;
+  elements-past-last = refl;
+  arrays-most = refl;
+  arrays-past = refl;
+  loops-most = refl;
+  loops-past = refl;
+  items-most = refl;
+  items-past = refl;
+  waiting-most = refl;
+  waiting-past = refl;
+}
+
+pub record Fields : Type 0 where
+  -- an array has 1 to 65,536 elements
+  pub one-element : refusal (tableOf 1 1) ≡ none
+  pub no-element : refusal (array 0) ≡ met 3 0
+  pub array-most : refusal (tableOf 65536 1) ≡ none
+  pub array-past : refusal (array 65537) ≡ met 3 0
   -- first is at most last
   pub first-most : refusal (array 9 ++ loop 8 8 0 (ahead 0) ++ one ++ end) ≡ none
   pub first-past : refusal (array 9 ++ loop 8 7 0 (ahead 0)) ≡ met 3 5
@@ -50,35 +68,14 @@ pub record Limits : Type 0 where
   pub operation-below : refusal (begun ++ one ++ one ++ operation 0) ≡ met 3 27
   pub operation-most : refusal (begun ++ one ++ operation 5 ++ end) ≡ none
   pub operation-past : refusal (begun ++ one ++ one ++ operation 6) ≡ met 3 27
-  -- P is 1 to 64; there are as many indices
-  pub one-processor : refusalFor (tableOf 1 1) 1 ≡ none
-  pub no-processor : refusalFor (tableOf 1 1) 0 ≡ met 10 0
-  pub processors-most : refusalFor (array 65 ++ loop 0 63 0 (ahead 0) ++ one ++ end) 64 ≡ none
-  pub processors-past : refusalFor (array 65 ++ loop 0 64 0 (ahead 0) ++ one ++ end) 65 ≡ met 10 0
-  -- P = 1 is accepted whatever the threshold is: a loop of one index with the shift 3
-  pub threshold-past : refusalFor (times 2 (array 9) ++ loop 2 2 0 (ahead 0) ++ one ++ loop 2 2 1 (ahead 0) ++ read 0 (ahead 3) ++ end) 1 ≡ none
-  -- T is at least P
-  pub indices-least : refusalFor (array 65 ++ loop 0 2 0 (ahead 0) ++ one ++ end) 3 ≡ none
-  pub indices-below : refusalFor (array 65 ++ loop 0 1 0 (ahead 0) ++ one ++ end) 3 ≡ met 11 0
 
-pub limits : Limits
-unfolding refusal refusalFor
-limits = record {
+pub fields : Fields
+unfolding refusal
+fields = record {
   one-element = refl;
   no-element = refl;
   array-most = refl;
   array-past = refl;
-  elements-most = refl;
-  elements-past = refl;
-  elements-past-last = refl;
-  arrays-most = refl;
-  arrays-past = refl;
-  loops-most = refl;
-  loops-past = refl;
-  items-most = refl;
-  items-past = refl;
-  waiting-most = refl;
-  waiting-past = refl;
   first-most = refl;
   first-past = refl;
   last-most = refl;
@@ -97,11 +94,4 @@ limits = record {
   operation-below = refl;
   operation-most = refl;
   operation-past = refl;
-  one-processor = refl;
-  no-processor = refl;
-  processors-most = refl;
-  processors-past = refl;
-  threshold-past = refl;
-  indices-least = refl;
-  indices-below = refl;
 }

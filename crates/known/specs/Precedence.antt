@@ -1,17 +1,9 @@
--- Where several grounds hold, the earliest record decides, and in one record the paper's order: an example for each two that can meet.
+-- Where a table meets several grounds, the earliest record decides, and in one record the paper's order: an example for each two that can meet.
 use mathlib.Core.Path.{_≡_, refl}
 use mathlib.Core.List.{[], _∷_, _++_}
-use Rattle.refusals.specs.Refusals.{met, naming}
-use Rattle.refusals.specs.Answers.{refusalOf}
-use Rattle.outputs.specs.Given.{fitted}
-use Rattle.numbers.specs.Numbers.{four, encoded}
-use Rattle.turns.specs.Turn.{refuses}
-use Rattle.turns.specs.Row.{zeros}
-use Rattle.plans.specs.Plans.{settings}
-use Rattle.entries.specs.Entries.{thresholds, blocksGiven}
-use Rattle.known.specs.Bytes.{number, array, ahead, loop, read, one, operation, times, begun, loops, tableOf, example, itself}
-use Rattle.known.specs.Told.{refusal, refusalFor}
-use Rattle.known.specs.Memory.{plainRefusal, runRefusal, saidFrom}
+use Rattle.refusals.specs.Refusals.{met}
+use Rattle.known.specs.Bytes.{number, array, ahead, loop, read, one, operation, times, begun, loops, itself}
+use Rattle.known.specs.Told.{refusal}
 
 pub record Precedence : Type 0 where
   -- records are tested left to right: 3 in the first, 2 in the second
@@ -46,25 +38,16 @@ pub record Precedence : Type 0 where
   pub array-ninth : refusal (begun ++ times 8 one ++ read 9 (ahead 0)) ≡ met 5 57
   pub offset-ninth : refusal (begun ++ times 8 one ++ read 0 (ahead 256)) ≡ met 3 57
   pub operation-few : refusal (begun ++ operation 6) ≡ met 3 17
-  -- fields before 7: last or an offset too large, and outside the array
-  pub last-edge : refusal (array 1 ++ loop 0 131072 0 (ahead 0)) ≡ met 3 5
+  -- fields before 7: an offset too large, and outside the array (last too large: Limits)
   pub offset-edge : refusal (array 1 ++ loop 0 0 0 (ahead 256)) ≡ met 3 5
   pub read-offset-edge : refusal (begun ++ read 0 (ahead 256)) ≡ met 3 17
   -- 6 before 7: a ninth number, read outside the array. (The element total is of arrays, 6 and 7 are of loops and items.)
   pub ninth-edge : refusal (begun ++ times 8 one ++ read 0 (ahead 1)) ≡ met 6 57
-  -- then 8, 9, 10, 11, 12, 15, 13, as far as the call has them
+  -- then 8, then 9
   pub tail-serial : refusal (itself 9 ++ 0 ∷ []) ≡ met 8 22
-  pub serial-processors : refusalFor (itself 9) 0 ≡ naming 9 0 0 0
-  pub processors-short : refusalFor (tableOf 1 1) 65 ≡ met 10 0
-  pub short-memory : runRefusal example 6 0 ≡ met 11 0
-  pub serial-memory : plainRefusal (itself 9) 0 ≡ naming 9 0 0 0
-  pub processors-memory : saidFrom 2 (10 ∷ zeros 63) [] ≡ refuses (met 10 0)
-  pub memory-state : saidFrom 0 (10 ∷ zeros 63) [] ≡ refuses (met 12 0)
-  pub serial-buffer : refusalOf (thresholds (itself 9) 0) ≡ naming 9 0 0 0
-  pub short-buffer : refusalOf (blocksGiven example (settings 6) 0) ≡ met 11 0
 
 pub precedence : Precedence
-unfolding refusal refusalFor plainRefusal runRefusal saidFrom thresholds blocksGiven fitted encoded four
+unfolding refusal
 precedence = record {
   earlier-record = refl;
   kind-body = refl;
@@ -88,17 +71,8 @@ precedence = record {
   array-ninth = refl;
   offset-ninth = refl;
   operation-few = refl;
-  last-edge = refl;
   offset-edge = refl;
   read-offset-edge = refl;
   ninth-edge = refl;
   tail-serial = refl;
-  serial-processors = refl;
-  processors-short = refl;
-  short-memory = refl;
-  serial-memory = refl;
-  processors-memory = refl;
-  memory-state = refl;
-  serial-buffer = refl;
-  short-buffer = refl;
 }

@@ -1,17 +1,9 @@
--- Number and place for each ground, from bytes: the examples of docs/REFUSALS.md, and the other cases of each ground.
+-- Number and place for each ground that a table can meet, 1 to 9, from bytes: the examples of docs/REFUSALS.md and the other cases.
 use mathlib.Core.Path.{_≡_, refl}
 use mathlib.Core.List.{[], _∷_, _++_}
 use Rattle.refusals.specs.Refusals.{none, met, naming}
-use Rattle.refusals.specs.Answers.{refusalOf}
-use Rattle.numbers.specs.Numbers.{four, encoded}
-use Rattle.outputs.specs.Given.{fitted}
-use Rattle.turns.specs.Turn.{refuses}
-use Rattle.turns.specs.Row.{zeros, noneDone}
-use Rattle.entries.specs.Entries.{thresholds}
-use Rattle.joining.specs.Joining.{alike, bytes, joining}
-use Rattle.known.specs.Bytes.{array, ahead, back, loop, read, one, operation, add, end, times, begun, example, single, river}
-use Rattle.known.specs.Told.{refusal, refusalFor}
-use Rattle.known.specs.Memory.{own, plainRefusal, runRefusal, saidFrom}
+use Rattle.known.specs.Bytes.{array, ahead, back, loop, read, one, operation, add, end, times, begun}
+use Rattle.known.specs.Told.{refusal}
 
 pub record Refusals : Type 0 where
   -- 1 torn: bytes end inside a record or before the end record. An absent kind byte carries the input's length
@@ -53,28 +45,9 @@ pub record Refusals : Type 0 where
       (1 ∷ 12 ∷ 0 ∷ 0 ∷ 0 ∷ 1 ∷ 12 ∷ 0 ∷ 0 ∷ 0 ∷ 2 ∷ 1 ∷ 0 ∷ 0 ∷ 0 ∷ 10 ∷ 0 ∷ 0 ∷ 0 ∷ 0 ∷ 0 ∷ 0 ∷ 3 ∷ 1 ∷ 0 ∷ 0 ∷ 3 ∷ 0 ∷ 0 ∷ 0 ∷ 5 ∷ 1
       ∷ 3 ∷ 0 ∷ 255 ∷ 255 ∷ 5 ∷ 1 ∷ 6 ∷ [])
       ≡ naming 9 0 2 0
-  -- 10 processors: P outside 1 to 64, or a stepped number not below P
-  pub processors : refusalFor example 65 ≡ met 10 0
-  pub no-such-processor : saidFrom 2 noneDone own ≡ refuses (met 10 0)
-  -- 11 short: T < P, or P ≥ 2 and some block below the threshold
-  pub short : refusalFor example 6 ≡ met 11 0
-  pub few-indices : refusalFor single 11 ≡ met 11 0
-  -- 12 memory: its length isn't the table's element total, 36
-  pub no-memory : runRefusal example 2 0 ≡ met 12 0
-  pub one-less : plainRefusal example 35 ≡ met 12 0
-  pub one-more : plainRefusal example 37 ≡ met 12 0
-  pub the-total : plainRefusal example 36 ≡ none
-  -- 13 buffer: the output doesn't fit the lent bytes (each output: Outputs, Joins)
-  pub buffer : refusalOf (thresholds example 3) ≡ met 13 0
-  -- 14 unlike: joined tables differ in arrays (in length or number: Joins)
-  pub unlike : refusalOf (joining example river 4096) ≡ met 14 0
-  -- 15 state: a peeled step before the barrier, a count above its lists, or a count above 0 for a processor not below P
-  pub before-the-barrier : saidFrom 0 (10 ∷ zeros 63) own ≡ refuses (met 15 0)
-  pub above-its-lists : saidFrom 0 (12 ∷ 9 ∷ zeros 62) own ≡ refuses (met 15 0)
-  pub beyond : saidFrom 0 (0 ∷ 0 ∷ 1 ∷ zeros 61) own ≡ refuses (met 15 0)
 
 pub refusals : Refusals
-unfolding refusal refusalFor plainRefusal runRefusal saidFrom thresholds fitted encoded four joining alike bytes
+unfolding refusal
 refusals = record {
   empty = refl;
   no-end = refl;
@@ -102,17 +75,4 @@ refusals = record {
   long-tail = refl;
   serial = refl;
   third-read = refl;
-  processors = refl;
-  no-such-processor = refl;
-  short = refl;
-  few-indices = refl;
-  no-memory = refl;
-  one-less = refl;
-  one-more = refl;
-  the-total = refl;
-  buffer = refl;
-  unlike = refl;
-  before-the-barrier = refl;
-  above-its-lists = refl;
-  beyond = refl;
 }

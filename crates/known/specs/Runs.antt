@@ -4,7 +4,7 @@ use mathlib.Core.List.{[], _∷_, _++_}
 use Rattle.model.specs.Table.{iteration}
 use Rattle.refusals.specs.Refusals.{met}
 use Rattle.turns.specs.Turn.{refuses, performs, waits, ends}
-use Rattle.turns.specs.Row.{zeros}
+use Rattle.turns.specs.Row.{zeros, idle}
 use Rattle.known.specs.Bytes.{times, example}
 use Rattle.known.specs.Told.{fusedIn, peeledIn}
 use Rattle.known.specs.Memory.{whole, own, someRow, performsAll, saidFrom, reported, countsLeft, elementLeft, rowIn, idleIn, elementIn}
@@ -32,8 +32,9 @@ pub record Runs : Type 0 where
   pub row-10 : elementLeft someRow 10 ≡ whole 21
   -- when the bytes are used up, the lowest-numbered processor that can step does, until all are finished
   pub run-row : rowIn (1 ∷ []) ≡ 1 ∷ times 9 (0 ∷ []) ++ times 8 (1 ∷ []) ++ 0 ∷ 0 ∷ []
-  -- waiting, finished or a number not below P counts as idle: none; 3 that wait of 12; 1 not below P; that row's, which waits, is refused and is
-  -- finished twice
+  -- waiting, finished or a number not below P counts as idle
+  pub each-idle : idle (performs (iteration 0 1) ∷ waits ∷ ends ∷ refuses (met 10 0) ∷ []) ≡ 3
+  -- of runs: none; 3 that wait of 12; 1 not below P; those of that row, which waits, is refused and is finished twice
   pub no-order : idleIn [] ≡ 0
   pub waiting : idleIn (times 12 (1 ∷ [])) ≡ 3
   pub not-below : idleIn (2 ∷ []) ≡ 1
@@ -57,6 +58,7 @@ runs = record {
   row-5 = refl;
   row-10 = refl;
   run-row = refl;
+  each-idle = refl;
   no-order = refl;
   waiting = refl;
   not-below = refl;
