@@ -51,20 +51,16 @@ pub apart-text : listed (apart 2 1) 2
 unfolding listed
 apart-text = refl
 
--- loop 0 reads A1[i+2], loop 1 stores A1[i]: loop 1 has the shift 0 and the peel 2
-pub store-after-read-text : listed storeAfterRead 2
+-- loop 0 reads A1[i+2], loop 1 stores A1[i]: loop 1 has the shift 0 and the peel 2. One block is the first and the last, so nothing is peeled
+pub one-block-text : listed storeAfterRead 1
     ≡ ascii "loop 0 0 0\n"
     ++ ascii "loop 1 0 2\n"
-    ++ ascii "block 0 1 5\n"
-    ++ ascii "block 1 6 10\n"
-    ++ ascii "fused 0 0 1 5\n"
-    ++ ascii "fused 0 1 1 5\n"
-    ++ ascii "fused 1 0 6 10\n"
-    ++ ascii "fused 1 1 8 10\n"
-    ++ ascii "peeled 0 1 6 7\n"
+    ++ ascii "block 0 1 10\n"
+    ++ ascii "fused 0 0 1 10\n"
+    ++ ascii "fused 0 1 1 10\n"
     ++ ascii "sweeps 5 4\n"
 unfolding listed
-store-after-read-text = refl
+one-block-text = refl
 
 -- T counts the indices from the least first to the greatest last; parts are cut to the loop's own bounds; empty ranges omitted, as loop 1's in block 0
 pub staggered-text : listed staggered 3
