@@ -33,6 +33,7 @@ pub record Calls : Type 0 where
   pub before-the-barrier : saidFrom 0 (10 ∷ zeros 63) own ≡ refuses (met 15 0)
   pub above-its-lists : saidFrom 0 (12 ∷ 9 ∷ zeros 62) own ≡ refuses (met 15 0)
   pub beyond : saidFrom 0 (0 ∷ 0 ∷ 1 ∷ zeros 61) own ≡ refuses (met 15 0)
+  pub beyond-last : saidFrom 0 (zeros 63 ++ 1 ∷ []) own ≡ refuses (met 15 0)
   -- P is 1 to 64; there are as many indices
   pub one-processor : refusalFor (tableOf 1 1) 1 ≡ none
   pub no-processor : refusalFor (tableOf 1 1) 0 ≡ met 10 0
@@ -68,6 +69,7 @@ calls = record {
   before-the-barrier = refl;
   above-its-lists = refl;
   beyond = refl;
+  beyond-last = refl;
   one-processor = refl;
   no-processor = refl;
   processors-most = refl;

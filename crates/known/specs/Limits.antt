@@ -19,6 +19,8 @@ pub record Counts : Type 0 where
   -- at most 32 items a body: one and 31 times its negative, one more
   pub items-most : refusal (begun ++ one ++ times 31 (operation 5) ++ end) ≡ none
   pub items-past : refusal (begun ++ one ++ times 32 (operation 5) ++ end) ≡ met 4 84
+  pub items-past-constant : refusal (begun ++ one ++ times 31 (operation 5) ++ one) ≡ met 4 84
+  pub items-each : refusal (array 1 ++ times 2 (loop 0 0 0 (ahead 0) ++ one ++ times 31 (operation 5)) ++ end) ≡ none
   -- at most eight values wait
   pub waiting-most : refusal (begun ++ times 8 one ++ times 7 add ++ end) ≡ none
   pub waiting-past : refusal (begun ++ times 9 one ++ times 8 add ++ end) ≡ met 6 57
@@ -35,6 +37,8 @@ counts = record {
   loops-past = refl;
   items-most = refl;
   items-past = refl;
+  items-past-constant = refl;
+  items-each = refl;
   waiting-most = refl;
   waiting-past = refl;
 }

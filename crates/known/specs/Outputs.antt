@@ -7,7 +7,7 @@ use Rattle.numbers.specs.Numbers.{four, encoded}
 use Rattle.outputs.specs.Given.{fitted, final}
 use Rattle.plans.specs.Plans.{settings, plannedFor}
 use Rattle.entries.specs.Entries.{amounts, thresholds, sweepsGiven, blocksGiven, listGiven, fusedGiven, peeledGiven}
-use Rattle.known.specs.Bytes.{array, behind, loop, one, end, number, times, example, apart}
+use Rattle.known.specs.Bytes.{array, ahead, behind, loop, one, end, number, times, example, apart}
 use Rattle.known.specs.Told.{listed}
 
 pub record Outputs : Type 0 where
@@ -17,6 +17,8 @@ pub record Outputs : Type 0 where
   pub threshold-bytes : thresholds example 4 ≡ accepted (2 ∷ 0 ∷ 0 ∷ 0 ∷ [])
   pub before-then-after : sweepsGiven example 8 ≡ accepted (number 6 ++ number 5)
   pub first-then-last : blocksGiven example (settings 2) 16 ≡ accepted (number 1 ++ number 5 ++ number 6 ++ number 10)
+  -- each of sixteen arrays counts: the last one alone is touched, and written
+  pub sixteenth : sweepsGiven (times 16 (array 1) ++ loop 0 0 15 (ahead 0) ++ one ++ end) 8 ≡ accepted (number 2 ++ number 2)
   -- of a table whose one block has the indices 255 to 65,790
   pub large-numbers : blocksGiven (array 65536 ++ loop 255 65790 0 (behind 255) ++ one ++ end) (settings 1) 8
       ≡ accepted (255 ∷ 0 ∷ 0 ∷ 0 ∷ 254 ∷ 0 ∷ 1 ∷ 0 ∷ [])
@@ -26,7 +28,7 @@ pub record Outputs : Type 0 where
       number 0 ++ number 1 ++ number 0 ++ number 2 ++ number 1 ++ number 1 ++ number 0 ++ number 3 ++ number 1 ++ number 2
       ++ number 0 ++ number 4 ++ number 1 ++ number 3 ++ number 0 ++ number 5 ++ number 1 ++ number 4)
   pub peeled-bytes : peeledGiven example (settings 2) 0 16 ≡ accepted (number 1 ++ number 5 ++ number 1 ++ number 6)
-  -- a byte less is 13
+  -- a byte less is 13 (of the threshold: Calls)
   pub amounts-short : amounts (apart 2 1) 23 ≡ refused (met 13 0)
   pub sweeps-short : sweepsGiven example 7 ≡ refused (met 13 0)
   pub blocks-short : blocksGiven example (settings 2) 15 ≡ refused (met 13 0)
@@ -43,6 +45,7 @@ outputs = record {
   threshold-bytes = refl;
   before-then-after = refl;
   first-then-last = refl;
+  sixteenth = refl;
   large-numbers = refl;
   fused-bytes = refl;
   peeled-bytes = refl;

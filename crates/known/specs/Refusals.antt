@@ -2,7 +2,7 @@
 use mathlib.Core.Path.{_≡_, refl}
 use mathlib.Core.List.{[], _∷_, _++_}
 use Rattle.refusals.specs.Refusals.{none, met, naming}
-use Rattle.known.specs.Bytes.{array, ahead, back, loop, read, one, operation, add, end, times, begun}
+use Rattle.known.specs.Bytes.{array, ahead, behind, back, loop, read, one, operation, add, end, times, begun}
 use Rattle.known.specs.Told.{refusal}
 
 pub record Refusals : Type 0 where
@@ -16,6 +16,8 @@ pub record Refusals : Type 0 where
   pub seventh-kind : refusal (7 ∷ []) ≡ met 2 0
   pub no-loop : refusal (array 1 ++ end) ≡ met 2 5
   pub item-before-loop : refusal (array 1 ++ one) ≡ met 2 5
+  pub read-before-loop : refusal (array 1 ++ read 0 (ahead 0)) ≡ met 2 5
+  pub operation-before-loop : refusal (array 1 ++ operation 5) ≡ met 2 5
   pub array-after-loop : refusal (begun ++ one ++ array 1) ≡ met 2 22
   -- 3 field: a field outside its range, or first above last (each range: Limits)
   pub no-element : refusal (1 ∷ 0 ∷ 0 ∷ 0 ∷ 0 ∷ []) ≡ met 3 0
@@ -35,6 +37,7 @@ pub record Refusals : Type 0 where
   pub past-the-array : refusal (1 ∷ 1 ∷ 0 ∷ 0 ∷ 0 ∷ 2 ∷ 0 ∷ 0 ∷ 0 ∷ 0 ∷ 1 ∷ 0 ∷ 0 ∷ 0 ∷ 0 ∷ 0 ∷ 0 ∷ []) ≡ met 7 5
   pub before-the-array : refusal (array 1 ++ loop 0 0 0 back) ≡ met 7 5
   pub read-past-the-array : refusal (begun ++ read 0 (ahead 1)) ≡ met 7 17
+  pub read-before-the-array : refusal (begun ++ read 0 back) ≡ met 7 17
   -- 8 tail: bytes follow the end record. The place is the first byte too many, not the last and not that of the end record
   pub tail : refusal (1 ∷ 1 ∷ 0 ∷ 0 ∷ 0 ∷ 2 ∷ 0 ∷ 0 ∷ 0 ∷ 0 ∷ 0 ∷ 0 ∷ 0 ∷ 0 ∷ 0 ∷ 0 ∷ 0 ∷ 3 ∷ 0 ∷ 0 ∷ 0 ∷ 6 ∷ 0 ∷ []) ≡ met 8 22
   pub no-tail : refusal (begun ++ read 0 (ahead 0) ++ end) ≡ none
@@ -45,6 +48,10 @@ pub record Refusals : Type 0 where
       (1 ∷ 12 ∷ 0 ∷ 0 ∷ 0 ∷ 1 ∷ 12 ∷ 0 ∷ 0 ∷ 0 ∷ 2 ∷ 1 ∷ 0 ∷ 0 ∷ 0 ∷ 10 ∷ 0 ∷ 0 ∷ 0 ∷ 0 ∷ 0 ∷ 0 ∷ 3 ∷ 1 ∷ 0 ∷ 0 ∷ 3 ∷ 0 ∷ 0 ∷ 0 ∷ 5 ∷ 1
       ∷ 3 ∷ 0 ∷ 255 ∷ 255 ∷ 5 ∷ 1 ∷ 6 ∷ [])
       ≡ naming 9 0 2 0
+  -- 11 to 20, A0[i] = A0[i-9] meets, and A0[i-10] does not; of two such loops it is the lower one
+  pub nine-back : refusal (array 21 ++ loop 11 20 0 (ahead 0) ++ read 0 (behind 9) ++ end) ≡ naming 9 0 0 0
+  pub ten-back : refusal (array 21 ++ loop 11 20 0 (ahead 0) ++ read 0 (behind 10) ++ end) ≡ none
+  pub lower-loop : refusal (array 3 ++ times 2 (loop 0 1 0 (ahead 0) ++ read 0 (ahead 1)) ++ end) ≡ naming 9 0 0 0
 
 pub refusals : Refusals
 unfolding refusal
@@ -57,6 +64,8 @@ refusals = record {
   seventh-kind = refl;
   no-loop = refl;
   item-before-loop = refl;
+  read-before-loop = refl;
+  operation-before-loop = refl;
   array-after-loop = refl;
   no-element = refl;
   too-many = refl;
@@ -70,9 +79,13 @@ refusals = record {
   past-the-array = refl;
   before-the-array = refl;
   read-past-the-array = refl;
+  read-before-the-array = refl;
   tail = refl;
   no-tail = refl;
   long-tail = refl;
   serial = refl;
   third-read = refl;
+  nine-back = refl;
+  ten-back = refl;
+  lower-loop = refl;
 }
