@@ -10,7 +10,8 @@ use Rattle.turns.specs.Row.{zeros, noneDone}
 use Rattle.plans.specs.Plans.{settings}
 use Rattle.entries.specs.Entries.{thresholds, blocksGiven}
 use Rattle.joining.specs.Joining.{alike, bytes, joining}
-use Rattle.known.specs.Bytes.{array, ahead, loop, read, one, end, times, tableOf, example, itself, river}
+use Rattle.known.specs.Records.{array, ahead, loop, read, one, end, times}
+use Rattle.known.specs.Bytes.{tableOf, example, itself, river}
 use Rattle.known.specs.Told.{refusalFor}
 use Rattle.known.specs.Memory.{own, plainRefusal, runRefusal, saidFrom}
 

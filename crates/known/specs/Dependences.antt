@@ -1,7 +1,8 @@
 -- Which references make a dependence, and of what distance.
 use mathlib.Core.Path.{_≡_, refl}
 use mathlib.Core.List.{[], _∷_, _++_}
-use Rattle.known.specs.Bytes.{array, ahead, back, loop, store, read, one, add, end, times, itself, apart, stores, reads}
+use Rattle.known.specs.Records.{array, ahead, back, loop, store, read, one, add, end, times}
+use Rattle.known.specs.Bytes.{itself, apart, stores, reads}
 use Rattle.known.specs.Told.{refusalFor, shiftsIn, peelsIn, thresholdIn}
 
 pub record Dependences : Type 0 where

@@ -5,7 +5,8 @@ use Rattle.refusals.specs.Refusals.{none, met, naming}
 use Rattle.refusals.specs.Answers.{accepted, refused}
 use Rattle.outputs.specs.Given.{fitted, countOf}
 use Rattle.joining.specs.Joining.{alike, bytes, joining}
-use Rattle.known.specs.Bytes.{array, ahead, store, read, one, end, times, tableOf, example, itself, storer, reader, joinedBytes}
+use Rattle.known.specs.Records.{array, ahead, store, read, one, end, times}
+use Rattle.known.specs.Bytes.{tableOf, example, itself, storer, reader, joinedBytes}
 use Rattle.known.specs.Told.{refusal, refusalFor, shiftsIn, peelsIn}
 
 pub record Joins : Type 0 where

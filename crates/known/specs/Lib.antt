@@ -1,4 +1,6 @@
--- tables in bytes
+-- records in bytes
+pub mod Records
+-- small tables in bytes
 pub mod Bytes
 -- what is told of a table's bytes, to be computed
 pub mod Told

@@ -2,7 +2,8 @@
 use mathlib.Core.Path.{_≡_, refl}
 use mathlib.Core.List.{_++_}
 use Rattle.refusals.specs.Refusals.{none, met}
-use Rattle.known.specs.Bytes.{array, ahead, behind, loop, read, one, operation, add, end, times, begun, loops, tableOf}
+use Rattle.known.specs.Records.{array, ahead, behind, loop, read, one, operation, add, end, times}
+use Rattle.known.specs.Bytes.{begun, loops, tableOf}
 use Rattle.known.specs.Told.{refusal}
 
 pub record Counts : Type 0 where

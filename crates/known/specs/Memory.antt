@@ -17,7 +17,8 @@ use Rattle.iterations.specs.Memory.{remembered}
 use Rattle.plain.specs.Plain.{plainAnswer, runOf, plainMemory}
 use Rattle.stepping.specs.Step.{steppedBy, step}
 use Rattle.stepping.specs.Run.{runAnswer, runRow, runMemory, runIdle}
-use Rattle.known.specs.Bytes.{end, times, begun, example}
+use Rattle.known.specs.Records.{end, times}
+use Rattle.known.specs.Bytes.{begun, example}
 use Rattle.known.specs.Told.{refusal, refusalFor, told, fusedIn, peeledIn}
 
 -- every element its own index, in three arrays of 12

@@ -7,7 +7,8 @@ use Rattle.numbers.specs.Numbers.{four, encoded}
 use Rattle.outputs.specs.Given.{fitted, final}
 use Rattle.plans.specs.Plans.{settings, plannedFor}
 use Rattle.entries.specs.Entries.{amounts, thresholds, sweepsGiven, blocksGiven, listGiven, fusedGiven, peeledGiven}
-use Rattle.known.specs.Bytes.{array, ahead, behind, loop, one, end, number, times, example, apart}
+use Rattle.known.specs.Records.{array, ahead, behind, loop, one, end, number, times}
+use Rattle.known.specs.Bytes.{example, apart}
 use Rattle.known.specs.Told.{listed}
 
 pub record Outputs : Type 0 where

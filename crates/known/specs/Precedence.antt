@@ -2,7 +2,8 @@
 use mathlib.Core.Path.{_≡_, refl}
 use mathlib.Core.List.{[], _∷_, _++_}
 use Rattle.refusals.specs.Refusals.{met}
-use Rattle.known.specs.Bytes.{number, array, ahead, loop, read, one, operation, times, begun, loops, itself}
+use Rattle.known.specs.Records.{number, array, ahead, loop, read, one, operation, times}
+use Rattle.known.specs.Bytes.{begun, loops, itself}
 use Rattle.known.specs.Told.{refusal}
 
 pub record Precedence : Type 0 where

@@ -2,7 +2,8 @@
 use mathlib.Core.Path.{_≡_, refl}
 use mathlib.Core.List.{[], _∷_, _++_}
 use Rattle.refusals.specs.Refusals.{none, met, naming}
-use Rattle.known.specs.Bytes.{array, ahead, behind, back, loop, read, one, operation, add, end, times, begun}
+use Rattle.known.specs.Records.{array, ahead, behind, back, loop, read, one, operation, add, end, times}
+use Rattle.known.specs.Bytes.{begun}
 use Rattle.known.specs.Told.{refusal}
 
 pub record Refusals : Type 0 where

@@ -2,7 +2,7 @@
 use mathlib.Core.Path.{_≡_, refl}
 use mathlib.Core.List.{[], _∷_, _++_}
 use Rattle.plain.specs.Plain.{plainMemory}
-use Rattle.known.specs.Bytes.{array, ahead, behind, loop, read, constant, operation, end}
+use Rattle.known.specs.Records.{array, ahead, behind, loop, read, constant, operation, end}
 use Rattle.known.specs.Memory.{whole, element, bits}
 
 pub record Values : Type 0 where
