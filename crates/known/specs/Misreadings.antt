@@ -9,7 +9,7 @@ use Rattle.known.specs.Told.{refusalFor, shiftsIn, peelsIn, thresholdIn,
 pub record Misreadings : Type 0 where
   -- peels from distances already shifted: loop 1 of the example has the shift 1, and the distance 1 of A0[i−1] would be 2
   pub unshifted-peels : peelsIn example ≡ 0 ∷ 1 ∷ []
-  -- only neighbouring loops compared: loop 2 reads what loop 0 stores, and loop 1 does not touch it
+  -- only neighbouring loops compared: loop 2 reads what loop 0 stores, and loop 1 between them only reads it
   pub all-pairs : peelsIn (apart 1 1) ≡ 0 ∷ 0 ∷ 1 ∷ []
   -- threshold as largest shift plus largest peel: shift 1 in one loop and peel 1 in another give 1, so ten blocks of one index are long enough
   pub apart-shifts : shiftsIn (apart 1 1) ≡ 0 ∷ 1 ∷ 0 ∷ []
