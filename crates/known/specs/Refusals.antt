@@ -53,6 +53,8 @@ pub record Refusals : Type 0 where
   pub nine-back : refusal (array 21 ++ loop 11 20 0 (ahead 0) ++ read 0 (behind 9) ++ end) ≡ naming 9 0 0 0
   pub ten-back : refusal (array 21 ++ loop 11 20 0 (ahead 0) ++ read 0 (behind 10) ++ end) ≡ none
   pub lower-loop : refusal (array 3 ++ times 2 (loop 0 1 0 (ahead 0) ++ read 0 (ahead 1)) ++ end) ≡ naming 9 0 0 0
+  -- a constant is no read: A0[i] = 1 + A0[i+1]
+  pub constant-uncounted : refusal (array 3 ++ loop 0 1 0 (ahead 0) ++ one ++ read 0 (ahead 1) ++ add ++ end) ≡ naming 9 0 0 0
 
 pub refusals : Refusals
 unfolding refusal
@@ -89,4 +91,5 @@ refusals = record {
   nine-back = refl;
   ten-back = refl;
   lower-loop = refl;
+  constant-uncounted = refl;
 }
