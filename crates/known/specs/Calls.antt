@@ -10,8 +10,8 @@ use Rattle.turns.specs.Row.{zeros, noneDone}
 use Rattle.plans.specs.Plans.{settings}
 use Rattle.entries.specs.Entries.{thresholds, blocksGiven}
 use Rattle.joining.specs.Joining.{alike, bytes, joining}
-use Rattle.known.specs.Records.{array, ahead, loop, read, one, end, times}
-use Rattle.known.specs.Bytes.{tableOf, example, itself, river}
+use Rattle.known.specs.Records.{array, ahead, loop, one, end}
+use Rattle.known.specs.Bytes.{tableOf, example, itself, steep, river}
 use Rattle.known.specs.Told.{refusalFor}
 use Rattle.known.specs.Memory.{own, plainRefusal, runRefusal, saidFrom}
 
@@ -40,8 +40,9 @@ pub record Calls : Type 0 where
   pub no-processor : refusalFor (tableOf 1 1) 0 ≡ met 10 0
   pub processors-most : refusalFor (array 65 ++ loop 0 63 0 (ahead 0) ++ one ++ end) 64 ≡ none
   pub processors-past : refusalFor (array 65 ++ loop 0 64 0 (ahead 0) ++ one ++ end) 65 ≡ met 10 0
-  -- P = 1 is accepted whatever the threshold is: a loop of one index with the shift 3
-  pub threshold-past : refusalFor (times 2 (array 9) ++ loop 2 2 0 (ahead 0) ++ one ++ loop 2 2 1 (ahead 0) ++ read 0 (ahead 3) ++ end) 1 ≡ none
+  -- P = 1 is accepted whatever the threshold is, P = 2 is not: two indices, and the shift 3
+  pub one-block : refusalFor steep 1 ≡ none
+  pub two-blocks : refusalFor steep 2 ≡ met 11 0
   -- T is at least P
   pub indices-least : refusalFor (array 65 ++ loop 0 2 0 (ahead 0) ++ one ++ end) 3 ≡ none
   pub indices-below : refusalFor (array 65 ++ loop 0 1 0 (ahead 0) ++ one ++ end) 3 ≡ met 11 0
@@ -75,7 +76,8 @@ calls = record {
   no-processor = refl;
   processors-most = refl;
   processors-past = refl;
-  threshold-past = refl;
+  one-block = refl;
+  two-blocks = refl;
   indices-least = refl;
   indices-below = refl;
   serial-processors = refl;
