@@ -1,68 +1,23 @@
 -- The known results, from bytes and by computation, in the paper's order, and one of what 9 names.
-use Prim.Native.Nat.{ℕ, zero, suc, _+_, _-_}
 use mathlib.Core.Path.{_≡_, refl}
-use mathlib.Core.List.{List, [], _∷_, _++_}
-use lib.Count.{trailingZeros}
-use lib.IntN.{pos}
-use lib.ListN.{getD, take}
-use lib.Ieee.{Float, nan, binary64, ofInt, div, toBits, round, add, sum, size, span, climb, units, odd}
-use Rattle.records.specs.Bytes.{two, four, offset, kindOf, bodyLength, recordOf, recordAt}
-use Rattle.records.specs.Grounds.{early, edge, fields, ground, passed, tested}
-use Rattle.records.specs.History.{operands, withArray, withLoop, withItem, advanced, blank, summary, lengths}
-use Rattle.model.specs.Table.{count}
-use Rattle.model.specs.References.{allRefs}
-use Rattle.model.specs.Bodies.{binary, combined, applied, worked, workedAll, value, performed}
+use mathlib.Core.List.{[], _∷_}
+use lib.Ieee.{nan, binary64, toBits}
 use Rattle.refusals.specs.Refusals.{none, met, naming}
-use Rattle.refusals.specs.Answers.{AnswerOf, accepted, refused, refusalOf}
-use Rattle.reader.specs.Reading.{loopsOf, follow, readFrom, reading}
-use Rattle.serial.specs.Serial.{collides, hit, loopHit, serialFrom, through, table}
-use Rattle.chains.specs.Dependence.{dependence}
-use Rattle.chains.specs.Walk.{required, raised, walk, numbers, shifts, peels}
-use Rattle.chains.specs.Threshold.{threshold}
-use Rattle.blocks.specs.Span.{spanOf}
-use Rattle.blocks.specs.Blocks.{start, isShort}
-use Rattle.blocks.specs.Blocks as Blocks
-use Rattle.plans.specs.Plans.{Planned, settings, thresholdOf, fitting, planned}
-use Rattle.iterations.specs.Memory.{remembered}
-use Rattle.plain.specs.Plain.{plainAnswer, runOf, plainMemory}
+use Rattle.refusals.specs.Answers.{refusalOf}
+use Rattle.serial.specs.Serial.{table}
+use Rattle.plans.specs.Plans.{settings, planned}
+use Rattle.plain.specs.Plain.{plainMemory}
 use Rattle.known.specs.Bytes.{example, three, minusOneThenZero, storeAfterRead, itself, severalReads, single, zeroByZero}
-
--- what f says of what is accepted; of a refusal nothing
-abbrev told : {T : Type 0} → (T → List ℕ) → AnswerOf T → List ℕ
-told f (accepted t) = f t
-told f (refused r) = []
-
--- the shift of each loop, the peel of each loop, the threshold; the size of each of three blocks
-abbrev pub shiftsIn : List ℕ → List ℕ
-shiftsIn s = told (λ t. take (count t) (shifts (allRefs t))) (table s)
-
-abbrev pub peelsIn : List ℕ → List ℕ
-peelsIn s = told (λ t. take (count t) (peels (allRefs t))) (table s)
-
-abbrev pub thresholdIn : List ℕ → List ℕ
-thresholdIn s = told (λ t. thresholdOf t ∷ []) (table s)
-
-abbrev blockSize : Planned → ℕ → ℕ
-blockSize q b = q .plan .edge (suc b) - q .plan .edge b
-
-abbrev pub sizesIn : List ℕ → List ℕ
-sizesIn s = told (λ q. blockSize q 0 ∷ blockSize q 1 ∷ blockSize q 2 ∷ []) (planned s (settings 3))
-
--- every element its own index, in three arrays of 12; and element i of array 2 after the example's plain run
-abbrev pub whole : ℕ → Float
-whole n = ofInt binary64 (pos n)
-
-abbrev indices : ℕ → ℕ → List Float
-indices i zero = []
-indices i (suc n) = whole i ∷ indices (suc i) n
-
-abbrev pub own : List Float
-own = indices 0 12 ++ indices 0 12 ++ indices 0 12
-
-abbrev pub element : ℕ → Float
-element i = getD (plainMemory example own) (24 + i) nan
+use Rattle.known.specs.Told.{refusalFor, shiftsIn, peelsIn, thresholdIn, sizesIn}
+use Rattle.known.specs.Memory.{whole, element, bits}
 
 pub record Known : Type 0 where
+  -- the example's 61 bytes: three arrays; loop 0; loop 1 and the end
+  pub example-bytes : example
+      ≡ 1 ∷ 12 ∷ 0 ∷ 0 ∷ 0 ∷ 1 ∷ 12 ∷ 0 ∷ 0 ∷ 0 ∷ 1 ∷ 12 ∷ 0 ∷ 0 ∷ 0
+      ∷ 2 ∷ 1 ∷ 0 ∷ 0 ∷ 0 ∷ 10 ∷ 0 ∷ 0 ∷ 0 ∷ 0 ∷ 0 ∷ 0 ∷ 3 ∷ 1 ∷ 0 ∷ 0 ∷ 4 ∷ 1 ∷ 0 ∷ 0 ∷ 0 ∷ 5 ∷ 1
+      ∷ 2 ∷ 1 ∷ 0 ∷ 0 ∷ 0 ∷ 10 ∷ 0 ∷ 0 ∷ 0 ∷ 2 ∷ 0 ∷ 0 ∷ 3 ∷ 0 ∷ 255 ∷ 255 ∷ 3 ∷ 0 ∷ 1 ∷ 0 ∷ 5 ∷ 1 ∷ 6
+      ∷ []
   -- the example: threshold 2; P = 5 accepted, P = 6 refused 11
   pub example-threshold : thresholdIn example ≡ 2 ∷ []
   pub example-five : refusalOf (planned example (settings 5)) ≡ none
@@ -95,11 +50,9 @@ pub record Known : Type 0 where
   pub nan-bits : toBits binary64 nan ≡ 0x7FF8000000000000
 
 pub known : Known
-unfolding planned fitting table through serialFrom loopHit hit collides reading readFrom follow loopsOf tested ground early fields passed
-    edge two four offset kindOf bodyLength recordOf recordAt operands withArray withLoop withItem advanced blank summary lengths dependence
-    required raised walk numbers threshold spanOf Blocks.size start isShort plainMemory runOf plainAnswer remembered binary combined applied
-    worked workedAll value performed add sum div round size span climb units odd trailingZeros ofInt toBits
+unfolding refusalFor element bits
 known = record {
+  example-bytes = refl;
   example-threshold = refl;
   example-five = refl;
   example-six = refl;

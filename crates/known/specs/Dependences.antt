@@ -1,0 +1,48 @@
+-- Which references make a dependence, and of what distance.
+use mathlib.Core.Path.{_≡_, refl}
+use mathlib.Core.List.{[], _∷_, _++_}
+use Rattle.known.specs.Records.{array, ahead, back, loop, store, read, one, add, end, times}
+use Rattle.known.specs.Bytes.{itself, apart, stores, reads}
+use Rattle.known.specs.Told.{refusalFor, shiftsIn, peelsIn, thresholdIn}
+
+pub record Dependences : Type 0 where
+  -- d = (offset in j) - (offset in k): a read at +2 of what is stored at 0 has the distance -2, and one at -1 the distance 1
+  pub read-ahead : shiftsIn (apart 2 1) ≡ 0 ∷ 2 ∷ 0 ∷ []
+  pub read-back : peelsIn (apart 2 1) ≡ 0 ∷ 0 ∷ 1 ∷ []
+  -- of several the largest counts, wherever it stands: A0[i+2] + A0[i+1], and A0[i+1] + A0[i+2]
+  pub largest-first : shiftsIn (times 2 (array 13) ++ store 0 ++ one ++ store 1 ++ read 0 (ahead 2) ++ read 0 (ahead 1) ++ add ++ end) ≡ 0 ∷ 2 ∷ []
+  pub largest-last : shiftsIn (times 2 (array 13) ++ store 0 ++ one ++ store 1 ++ read 0 (ahead 1) ++ read 0 (ahead 2) ++ add ++ end) ≡ 0 ∷ 2 ∷ []
+  -- stores following stores count: A0[i], then A0[i+1] or A0[i-1]
+  pub store-ahead : shiftsIn (stores (ahead 1)) ≡ 0 ∷ 1 ∷ []
+  pub store-ahead-peel : peelsIn (stores (ahead 1)) ≡ 0 ∷ 0 ∷ []
+  pub store-back : shiftsIn (stores back) ≡ 0 ∷ 0 ∷ []
+  pub store-back-peel : peelsIn (stores back) ≡ 0 ∷ 1 ∷ []
+  -- two reads don't: A2[i+1], then A2[i-1] or A2[i+2]
+  pub reads-back : peelsIn (reads back) ≡ 0 ∷ 0 ∷ []
+  pub reads-ahead : shiftsIn (reads (ahead 2)) ≡ 0 ∷ 0 ∷ []
+  -- for loops j before k: a loop and itself make none
+  pub one-loop : peelsIn (itself 10) ≡ 0 ∷ []
+  pub one-loop-shift : shiftsIn (itself 10) ≡ 0 ∷ []
+  -- the loops' bounds play no part in it: 1 to 2 stores A0[i], 9 to 10 reads A0[i+1]
+  pub bounds : shiftsIn (times 2 (array 12) ++ loop 1 2 0 (ahead 0) ++ one ++ loop 9 10 1 (ahead 0) ++ read 0 (ahead 1) ++ end) ≡ 0 ∷ 1 ∷ []
+  -- each of sixteen loops counts: the last one alone has a shift
+  pub sixteenth : thresholdIn (times 2 (array 2) ++ times 15 (loop 0 0 0 (ahead 0) ++ one) ++ loop 0 0 1 (ahead 0) ++ read 0 (ahead 1) ++ end) ≡ 1 ∷ []
+
+pub dependences : Dependences
+unfolding refusalFor
+dependences = record {
+  read-ahead = refl;
+  read-back = refl;
+  largest-first = refl;
+  largest-last = refl;
+  store-ahead = refl;
+  store-ahead-peel = refl;
+  store-back = refl;
+  store-back-peel = refl;
+  reads-back = refl;
+  reads-ahead = refl;
+  one-loop = refl;
+  one-loop-shift = refl;
+  bounds = refl;
+  sixteenth = refl;
+}

@@ -1,0 +1,60 @@
+-- What stands in lent bytes: the numbers asked for, four bytes each and nothing more.
+use mathlib.Core.Path.{_≡_, refl}
+use mathlib.Core.List.{[], _∷_, _++_}
+use Rattle.refusals.specs.Refusals.{met}
+use Rattle.refusals.specs.Answers.{accepted, refused}
+use Rattle.numbers.specs.Numbers.{four, encoded}
+use Rattle.outputs.specs.Given.{fitted, final}
+use Rattle.plans.specs.Plans.{settings, plannedFor}
+use Rattle.entries.specs.Entries.{amounts, thresholds, sweepsGiven, blocksGiven, listGiven, fusedGiven, peeledGiven}
+use Rattle.known.specs.Records.{array, ahead, behind, loop, one, end, number, times}
+use Rattle.known.specs.Bytes.{example, apart}
+use Rattle.known.specs.Told.{listed}
+
+pub record Outputs : Type 0 where
+  -- shift and peel of each loop: 0 and 0, 2 and 0, 0 and 1
+  pub shift-then-peel : amounts (apart 2 1) 24 ≡ accepted (number 0 ++ number 0 ++ number 2 ++ number 0 ++ number 0 ++ number 1)
+  -- the example's threshold, its sweeps before and after, the first and the last index of each of two blocks
+  pub threshold-bytes : thresholds example 4 ≡ accepted (2 ∷ 0 ∷ 0 ∷ 0 ∷ [])
+  pub before-then-after : sweepsGiven example 8 ≡ accepted (number 6 ++ number 5)
+  pub first-then-last : blocksGiven example (settings 2) 16 ≡ accepted (number 1 ++ number 5 ++ number 6 ++ number 10)
+  -- each of sixteen arrays counts: the last one alone is touched, and written
+  pub sixteenth : sweepsGiven (times 16 (array 1) ++ loop 0 0 15 (ahead 0) ++ one ++ end) 8 ≡ accepted (number 2 ++ number 2)
+  -- of a table whose one block has the indices 255 to 65,790
+  pub large-numbers : blocksGiven (array 65536 ++ loop 255 65790 0 (behind 255) ++ one ++ end) (settings 1) 8
+      ≡ accepted (255 ∷ 0 ∷ 0 ∷ 0 ∷ 254 ∷ 0 ∷ 1 ∷ 0 ∷ [])
+  -- loop and iteration of each in processor 0's lists: 18 numbers, and 4
+  pub fused-bytes : fusedGiven example (settings 2) 0 72
+      ≡ accepted (
+      number 0 ++ number 1 ++ number 0 ++ number 2 ++ number 1 ++ number 1 ++ number 0 ++ number 3 ++ number 1 ++ number 2
+      ++ number 0 ++ number 4 ++ number 1 ++ number 3 ++ number 0 ++ number 5 ++ number 1 ++ number 4)
+  pub peeled-bytes : peeledGiven example (settings 2) 0 16 ≡ accepted (number 1 ++ number 5 ++ number 1 ++ number 6)
+  -- a byte less is 13 (of the threshold: Calls)
+  pub amounts-short : amounts (apart 2 1) 23 ≡ refused (met 13 0)
+  pub sweeps-short : sweepsGiven example 7 ≡ refused (met 13 0)
+  pub blocks-short : blocksGiven example (settings 2) 15 ≡ refused (met 13 0)
+  pub fused-short : fusedGiven example (settings 2) 0 71 ≡ refused (met 13 0)
+  pub peeled-short : peeledGiven example (settings 2) 0 15 ≡ refused (met 13 0)
+  -- bytes past the output stay; a refused call leaves all as found
+  pub past-stays : final (thresholds example 6) (times 6 (9 ∷ [])) ≡ 2 ∷ 0 ∷ 0 ∷ 0 ∷ 9 ∷ 9 ∷ []
+  pub refused-stays : final (thresholds example 3) (times 3 (9 ∷ [])) ≡ 9 ∷ 9 ∷ 9 ∷ []
+
+pub outputs : Outputs
+unfolding listed amounts thresholds sweepsGiven blocksGiven listGiven plannedFor fitted final encoded four
+outputs = record {
+  shift-then-peel = refl;
+  threshold-bytes = refl;
+  before-then-after = refl;
+  first-then-last = refl;
+  sixteenth = refl;
+  large-numbers = refl;
+  fused-bytes = refl;
+  peeled-bytes = refl;
+  amounts-short = refl;
+  sweeps-short = refl;
+  blocks-short = refl;
+  fused-short = refl;
+  peeled-short = refl;
+  past-stays = refl;
+  refused-stays = refl;
+}
