@@ -1,2 +1,4 @@
 -- what the lines are
 pub mod Listing
+-- how long a listing can be
+pub mod Lengths

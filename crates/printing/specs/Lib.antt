@@ -1,4 +1,6 @@
--- the text of a table for a number of processors, and what lent bytes hold once it is printed
+-- the listing that a call gives, and what the program prints; what lent bytes hold once it is printed
 pub mod Printing
 -- the first 4,096 bytes of a table decide its text
 pub mod Prefix
+-- how long a listing can be
+pub mod Longest

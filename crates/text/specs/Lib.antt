@@ -6,3 +6,5 @@ pub mod Written
 pub mod Decimal
 -- a line: a word and numbers
 pub mod Line
+-- how long a line is
+pub mod Lengths
