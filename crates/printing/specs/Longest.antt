@@ -29,8 +29,11 @@ sum-most f m h k (suc n) a = omega (arith, sum-most f m h (suc k) n (a + f k), h
 
 before-few : (t : Table) → count t ≤ 16 → before t < 10 ^ 3
 before-few t l =
-    omega (arith, sum-most (λ k. size (touched t k) + size (written t k)) 32
-    (λ k. omega (arith, size-most (touched t k), size-most (written t k))) 0 (count t) 0)
+    omega (
+      arith,
+      sum-most (λ k. size (touched t k) + size (written t k)) 32
+          (λ k. omega (arith, size-most (touched t k), size-most (written t k))) 0 (count t) 0,
+    )
 
 after-few : (t : Table) → after t < 10 ^ 2
 after-few t = omega (arith, size-most (union t (touched t)), size-most (union t (written t)))

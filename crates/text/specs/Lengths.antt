@@ -26,5 +26,15 @@ module _ (word : List ℕ) (x y : ℕ) {a b : ℕ} (h : length (decimal x) ≤ a
   pub four-most : (z v : ℕ) {c d : ℕ} → length (decimal z) ≤ c → length (decimal v) ≤ d
       → length (line word (x ∷ y ∷ z ∷ v ∷ [])) ≤ length word + a + b + c + d + 5
   four-most z v j k =
-      omega (arith, line-length word (x ∷ y ∷ z ∷ v ∷ []), fields-length x (y ∷ z ∷ v ∷ []), fields-length y (z ∷ v ∷ []),
-      fields-length z (v ∷ []), fields-length v [], h, i, j, k)
+      omega (
+        arith,
+        line-length word (x ∷ y ∷ z ∷ v ∷ []),
+        fields-length x (y ∷ z ∷ v ∷ []),
+        fields-length y (z ∷ v ∷ []),
+        fields-length z (v ∷ []),
+        fields-length v [],
+        h,
+        i,
+        j,
+        k,
+      )
