@@ -50,7 +50,9 @@ module _ (word : List ℕ) (b k : ℕ) (r : Range) where
           rw (lt-ltb (r .from) (r .past) l)
           (let own : length (decimal b) ≤ length (decimal b) = omega arith in
           let loop : length (decimal k) ≤ length (decimal k) = omega arith in
-          let m = four-most word b k own loop (r .from) (r .past - 1) (length-decimal 4 (r .from) (omega arith)) (length-decimal 4 (r .past - 1) (omega arith)) in
+          let from = length-decimal 4 (r .from) (omega arith) in
+          let to = length-decimal 4 (r .past - 1) (omega arith) in
+          let m = four-most word b k own loop (r .from) (r .past - 1) from to in
           omega (arith, m))
       go (no l) = rw (le-ltb (r .from) (r .past) (omega arith)) (omega arith)
 
@@ -134,7 +136,9 @@ module _ (t : Table) (c : Fusion) (before after : ℕ) (fit : Fit t c)
       line-most : (k : ℕ) → k < count t → length (loopLine k (c .shift k) (c .peel k)) ≤ loopMost k
       line-most k l =
           let same : length (decimal k) ≤ length (decimal k) = omega arith in
-          let m = three-most (ascii "loop") k (c .shift k) same (length-decimal 3 (c .shift k) (small-shift k)) (c .peel k) (length-decimal 3 (c .peel k) (small-peel k)) in
+          let shift = length-decimal 3 (c .shift k) (small-shift k) in
+          let peel = length-decimal 3 (c .peel k) (small-peel k) in
+          let m = three-most (ascii "loop") k (c .shift k) same shift (c .peel k) peel in
           omega (arith, m)
 
   blocks-most : length (each (c .processors) (λ b. blockLine b (blockAt (c .edge) b))) ≤ 1334
@@ -143,9 +147,11 @@ module _ (t : Table) (c : Fusion) (before after : ℕ) (fit : Fit t c)
       line-most : (b : ℕ) → b < c .processors → length (blockLine b (blockAt (c .edge) b)) ≤ blockMost b
       line-most b l =
           let same : length (decimal b) ≤ length (decimal b) = omega arith in
-          let e = c .edge b in
-          let f = c .edge (suc b) - 1 in
-          let m = three-most (ascii "block") b e same (length-decimal 4 e (omega (arith, fit .small-edge b (omega arith)))) f (length-decimal 4 f (omega (arith, fit .small-edge (suc b) l))) in
+          let from = c .edge b in
+          let to = c .edge (suc b) - 1 in
+          let i = length-decimal 4 from (omega (arith, fit .small-edge b (omega arith))) in
+          let j = length-decimal 4 to (omega (arith, fit .small-edge (suc b) l)) in
+          let m = three-most (ascii "block") b from same i to j in
           omega (arith, m)
 
   fused-most : length (rangeLines (ascii "fused") (c .processors) (count t) (fusedRange t c)) ≤ 23776

@@ -43,7 +43,8 @@ module _ (text out none : List ℕ) (most size : ℕ) (asked : Whole [] text mos
       go w h = gives-written text out left size (omega (arith, asked .size)) (asked .size) (w .bytes ∙ written-front out text (omega (arith, asked .size)))
 
 -- the lines are those of the plan in the axis
-pub lines-are : (a : Axis) (c : List ℕ) (z : Sweeps) → z ≡ sweeps (tableIn c) → listing (tableIn c) (fusionIn a) (z .before) (z .after) ≡ listingOf (plannedIn a c)
+pub lines-are : (a : Axis) (c : List ℕ) (z : Sweeps) → z ≡ sweeps (tableIn c)
+    → listing (tableIn c) (fusionIn a) (z .before) (z .after) ≡ listingOf (plannedIn a c)
 unfolding sweeps
 lines-are a c z e = rw e
 
@@ -67,7 +68,8 @@ module _ (s : List ℕ) (w : Settings) (p : Plan) (c out : List ℕ) where
   refused-given h some = after-refuses (planned s w) _ out (p .refusal) (told-refused (planned s w) (p .refusal) (h .tells) some)
 
   module _ (left : List ℕ) (o : Outcome) where
-    pub made-given : Made (planned s w) p c → Gives (fitted (length out) (listingOf (plannedIn (p .axis) c))) out left o → Gives (listingGiven s w (length out)) out left o
+    pub made-given : Made (planned s w) p c → Gives (fitted (length out) (listingOf (plannedIn (p .axis) c))) out left o
+        → Gives (listingGiven s w (length out)) out left o
     unfolding listingGiven
     made-given m g = after-gives (planned s w) _ out (plannedIn (p .axis) c) (m .is) left o g
 

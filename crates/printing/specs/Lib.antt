@@ -4,3 +4,5 @@ pub mod Printing
 pub mod Prefix
 -- how long a listing can be
 pub mod Longest
+-- what the program prints is what the call gives, or the line of its refusal
+pub mod Program

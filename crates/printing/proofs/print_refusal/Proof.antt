@@ -16,7 +16,8 @@ returns-2 c =
     let i = c .before .before .before .before .before in
     let a = i .before .before .before .before .before .before .args in
     let first = i .before .before .before .write-refusal .ensures in
-    (room _ (now (a .out)) _ _ _ first _ _ (c .before .before .before .write-refusal2 .ensures) (i .if1 .left) _ (c .written .ensures), omega (arith, first .size, first .few))
+    let second = c .before .before .before .write-refusal2 .ensures in
+    (room _ (now (a .out)) _ _ _ first _ _ second (i .if1 .left) _ (c .written .ensures), omega (arith, first .size, first .few))
 
 pub print-refusal-spec : {M : Type 1} → statement M
 print-refusal-spec =
