@@ -2,7 +2,9 @@
 pub mod Printing
 -- the first 4,096 bytes of a table decide its text
 pub mod Prefix
--- how long a listing can be
+-- how long lines and listings are
+pub mod Lengths
+-- the longest listing of an accepted plan
 pub mod Longest
 -- what the program prints is what the call gives, or the line of its refusal
 pub mod Program

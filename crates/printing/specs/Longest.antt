@@ -19,8 +19,8 @@ use Rattle.outputs.specs.Given.{fitted}
 use Rattle.plans.specs.Plans.{Settings, Planned, shiftOf, peelOf, planned}
 use Rattle.plans.specs.Accepted.{planned-accepts, shift-small, peel-small}
 use Rattle.sweeps.specs.Sweeps.{touched, written, sumOver, union, before, after}
-use Rattle.listing.specs.Lengths.{listing-most}
 use Rattle.printing.specs.Printing.{listingOf, listingGiven}
+use Rattle.printing.specs.Lengths.{listing-most}
 
 -- SWEEPS: each of at most sixteen loops touches at most sixteen arrays and writes at most sixteen
 sum-most : (f : ℕ → ℕ) (m : ℕ) → ((k : ℕ) → f k ≤ m) → (k n a : ℕ) → sumOver f k n a ≤ a + m * n
@@ -57,9 +57,10 @@ listing-length s w q e =
     let v = a .fit .valid in
     let shift : (k : ℕ) → q .plan .shift k ≡ shiftOf t k = λ k. ap (λ (c : Fusion). c .shift k) (a .plan-is) in
     let peel : (k : ℕ) → q .plan .peel k ≡ peelOf t k = λ k. ap (λ (c : Fusion). c .peel k) (a .plan-is) in
-    listing-most t (q .plan) (before t) (after t) (a .fit)
+    let most = listing-most t (q .plan) (before t) (after t) (a .fit)
     (λ k. omega (arith, shift k, shift-small t v k)) (λ k. omega (arith, peel k, peel-small t v k))
-    (shift 0 ∙ first-shift t v) (peel 0 ∙ first-peel t v) (before-few t (v .few-loops)) (after-few t)
+    (shift 0 ∙ first-shift t v) (peel 0 ∙ first-peel t v) (before-few t (v .few-loops)) (after-few t) in
+    omega (arith, most)
 
 -- so much room is enough: a plan that is accepted has its listing
 pub listing-given : (s : List ℕ) (w : Settings) (q : Planned) → planned s w ≡ accepted q

@@ -16,10 +16,6 @@ use Rattle.outputs.specs.Gives.{Gives}
 abbrev pub listingOf : Planned → List ℕ
 listingOf q = listing (q .table) (q .plan) (before (q .table)) (Sweeps.after (q .table))
 
--- THE CALL, with so much room: refused with 1 to 11, then 13; else the listing
-unfoldable pub listingGiven : List ℕ → Settings → ℕ → Given
-listingGiven s w room = after (planned s w) (λ q. fitted room (listingOf q))
-
 -- THE PROGRAM prints the listing, or the line of a refusal; the place that 9 carries is its loop
 unfoldable pub textOf : AnswerOf Planned → List ℕ
 textOf (refused r) = refusalLine (r .ground) (r .place)
@@ -28,6 +24,10 @@ textOf (accepted q) = listingOf q
 -- of a table's bytes
 unfoldable pub text : List ℕ → Settings → List ℕ
 text s w = textOf (planned s w)
+
+-- THE CALL, with so much room: refused with 1 to 11, then 13; else the listing
+unfoldable pub listingGiven : List ℕ → Settings → ℕ → Given
+listingGiven s w room = after (planned s w) (λ q. fitted room (listingOf q))
 
 -- a call that prints a text into `out`, or gives 13 where it doesn't fit, tells o and leaves `left`; no text is long
 pub record Prints (text out left : List ℕ) (o : Outcome) : Type 0 where

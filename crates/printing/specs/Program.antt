@@ -1,18 +1,22 @@
--- What the program prints and what the call gives are one: the listing where a plan is accepted, and the line of the refusal where it is refused,
--- with 10 and 11 as with a table's own ground. Laws alone.
-use Prim.Native.Nat.{ℕ}
+-- The call and the program: both give the listing where a plan is accepted; where it is refused, with 10 or 11 as with a table's own ground, the
+-- call writes nothing and the program its line. Laws alone.
+use Prim.Native.Nat.{ℕ, _≤_}
+use native.Mathlib.Omega.{arith}
 use mathlib.Core.Path.{_≡_, ap, _∙_}
-use mathlib.Core.List.{List}
+use mathlib.Core.List.{List, _++_}
 use lib.Dec.{ltb}
-use lib.ListN.{length}
+use lib.ListN.{length, drop}
+use borrow.Author.Tests.{le-ltb}
 use Rattle.refusals.specs.declared.Refusal.{Refusal}
 use Rattle.refusals.specs.Refusals.{met}
 use Rattle.refusals.specs.Answers.{accepted, refused, if-accepted, after-accepted}
 use Rattle.serial.specs.Serial.{table}
-use Rattle.outputs.specs.Given.{fitted}
+use Rattle.outputs.specs.declared.Outcome.{Outcome}
+use Rattle.outputs.specs.Given.{fitted, final}
+use Rattle.outputs.specs.Gives.{writing}
 use Rattle.plans.specs.Plans.{Settings, fitting, planned}
 use Rattle.listing.specs.Listing.{refusalLine}
-use Rattle.printing.specs.Printing.{listingOf, listingGiven, textOf, text}
+use Rattle.printing.specs.Printing.{listingOf, listingGiven, textOf, text, Prints}
 
 module _ (s : List ℕ) (w : Settings) where
   pub text-given : (room : ℕ) (bs : List ℕ) → listingGiven s w room ≡ accepted bs → text s w ≡ bs
@@ -23,6 +27,15 @@ module _ (s : List ℕ) (w : Settings) where
       let is : listingOf q ≡ bs = cc in
       ap textOf f ∙ is
 
+  pub given-refused : (r : Refusal) → planned s w ≡ refused r → (room : ℕ) → listingGiven s w room ≡ refused r
+  unfolding listingGiven
+  given-refused r e room = rw e
+
+  -- so the lent bytes stay as found
+  pub given-kept : (r : Refusal) → planned s w ≡ refused r → (room : ℕ) (out : List ℕ) → final (listingGiven s w room) out ≡ out
+  unfolding final
+  given-kept r e room out = rw (given-refused r e room)
+
   pub text-refused : (r : Refusal) → planned s w ≡ refused r → text s w ≡ refusalLine (r .ground) (r .place)
   unfolding text textOf
   text-refused r e = rw e
@@ -31,3 +44,11 @@ module _ (s : List ℕ) (w : Settings) where
   pub text-decided : (r : Refusal) → table s ≡ refused r → text s w ≡ refusalLine (r .ground) (r .place)
   unfolding planned fitting
   text-decided r e = text-refused r (rw e)
+
+-- the program lends room for the longest, so it is never refused with 13 and prints the whole text
+pub prints-all : (text out left : List ℕ) (o : Outcome) → Prints text out left o → 48400 ≤ length out
+    → (o ≡ writing (length text)) × (left ≡ text ++ drop (length text) out)
+unfolding fitted final
+prints-all text out left o p l =
+    let e = le-ltb (length out) (length text) (omega (arith, p .few)) in
+    (rw e at (p .gives .tells), rw e at (p .gives .leaves))

@@ -70,7 +70,8 @@ fn shapes() -> Vec<(u64, Shape, u64)> {
 fn compare(counts: &mut Counts, table: &[u8], processors: u32) {
     let expected = outputs::listing(table, processors, ENOUGH);
     let number = expected.as_ref().map_or_else(|refusal| refusal.number, |_| 0);
-    let text = expected.as_ref().map_or("".into(), |bytes| String::from_utf8_lossy(bytes)).into_owned();
+    let text =
+        expected.as_ref().map_or("".into(), |bytes| String::from_utf8_lossy(bytes)).into_owned();
     let room = expected.as_ref().map_or(REFUSED_ROOM, |bytes| bytes.len() + 5);
     let result = lent::compare(room, &expected, |out| library::listing(table, processors, out));
     if let Err(report) = result {
@@ -167,7 +168,8 @@ fn long_table() -> Table {
     let (first, last) = (10_000, 10_000 + 64 * 201 - 1);
     let at = |array, offset| Reference { array, offset };
     let a_loop = |destination, items| Loop { first, last, destination, items };
-    let mut items = vec![Item::Read(at(0, -100)), Item::Read(at(0, 100)), Item::Operation(Operation::Add)];
+    let mut items =
+        vec![Item::Read(at(0, -100)), Item::Read(at(0, 100)), Item::Operation(Operation::Add)];
     for array in 2..8 {
         items.extend([Item::Read(at(array, 0)), Item::Operation(Operation::Add)]);
     }

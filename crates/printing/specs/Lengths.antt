@@ -196,8 +196,8 @@ module _ (t : Table) (c : Fusion) (before after : ℕ) (fit : Fit t c)
       let m = two-most (ascii "sweeps") before after (length-decimal 2 before few-before) (length-decimal 1 after few-after) in
       omega (arith, m)
 
-  -- THE LONGEST
-  pub listing-most : length (listing t c before after) ≤ 48400
+  -- all together
+  pub listing-most : length (listing t c before after) ≤ 48310
   unfolding listing
   listing-most =
       let l = each (count t) (λ k. loopLine k (c .shift k) (c .peel k)) in
@@ -207,5 +207,5 @@ module _ (t : Table) (c : Fusion) (before after : ℕ) (fit : Fit t c)
       five l b f p (sweepsLine before after) loops-most blocks-most fused-most peeled-most sweeps-most
     where
       five : (l b f p s : List ℕ) → length l ≤ 278 → length b ≤ 1334 → length f ≤ 23776 → length p ≤ 22908 → length s ≤ 14
-          → length (l ++ b ++ f ++ p ++ s) ≤ 48400
+          → length (l ++ b ++ f ++ p ++ s) ≤ 48310
       five l b f p s g h i j k = simp length-append (omega arith)
