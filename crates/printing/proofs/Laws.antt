@@ -17,11 +17,12 @@ use Rattle.plans.specs.Code.{plannedIn, Plans, Made}
 use Rattle.sweeps.specs.declared.Sweeps.{Sweeps}
 use Rattle.sweeps.specs.Sweeps.{sweeps}
 use Rattle.outputs.specs.declared.Outcome.{Outcome}
-use Rattle.outputs.specs.Given.{fitted, final, countOf}
-use Rattle.outputs.specs.Gives.{refusing, writing, Gives, after-refuses, after-gives, gives-short, gives-written}
+use Rattle.outputs.specs.Given.{Given, fitted, final, countOf}
+use Rattle.outputs.specs.Gives.{refusing, writing, Gives, gives-refused, gives-short, gives-written}
 use Rattle.text.specs.Written.{Whole, written-front, written-nowhere}
 use Rattle.listing.specs.Listing.{listing, refusalLine}
 use Rattle.printing.specs.Printing.{listingOf, listingGiven, textOf, text, Prints}
+use Rattle.printing.specs.Given.{given-refused, given-accepted}
 use Rattle.printing.specs.Longest.{listing-length}
 
 -- A TEXT IN LENT BYTES: the first call got no bytes and left none; `size` is the text's length
@@ -64,14 +65,16 @@ written-fits text out left o g = go (ltb (length out) (length text)) (ap (λ (x 
 -- WHAT THE PLAN'S CODE ANSWERED, as the call gives it and as the program prints it
 module _ (s : List ℕ) (w : Settings) (p : Plan) (c out : List ℕ) where
   pub refused-given : Plans (planned s w) p c → (p .refusal .ground ≡ 0 → ⊥) → Gives (listingGiven s w (length out)) out out (refusing (p .refusal))
-  unfolding listingGiven
-  refused-given h some = after-refuses (planned s w) _ out (p .refusal) (told-refused (planned s w) (p .refusal) (h .tells) some)
+  refused-given h some =
+      let e = given-refused s w (length out) (p .refusal) (told-refused (planned s w) (p .refusal) (h .tells) some) in
+      gives-refused (listingGiven s w (length out)) out (p .refusal) e
 
   module _ (left : List ℕ) (o : Outcome) where
     pub made-given : Made (planned s w) p c → Gives (fitted (length out) (listingOf (plannedIn (p .axis) c))) out left o
         → Gives (listingGiven s w (length out)) out left o
-    unfolding listingGiven
-    made-given m g = after-gives (planned s w) _ out (plannedIn (p .axis) c) (m .is) left o g
+    made-given m g =
+        let e = given-accepted s w (length out) (plannedIn (p .axis) c) (m .is) in
+        subst (λ (x : Given). Gives x out left o) (sym e) g
 
     pub refused-printed : Plans (planned s w) p c → (p .refusal .ground ≡ 0 → ⊥) → (n : ℕ) → n ≡ p .refusal .ground
         → Gives (fitted (length out) (refusalLine n (p .refusal .place))) out left o → length (refusalLine n (p .refusal .place)) ≤ 100

@@ -20,6 +20,7 @@ use Rattle.plans.specs.Plans.{Settings, Planned, shiftOf, peelOf, planned}
 use Rattle.plans.specs.Accepted.{planned-accepts, shift-small, peel-small}
 use Rattle.sweeps.specs.Sweeps.{touched, written, sumOver, union, before, after}
 use Rattle.printing.specs.Printing.{listingOf, listingGiven}
+use Rattle.printing.specs.Given.{given-accepted}
 use Rattle.printing.specs.Lengths.{listing-most}
 
 -- SWEEPS: each of at most sixteen loops touches at most sixteen arrays and writes at most sixteen
@@ -65,5 +66,6 @@ listing-length s w q e =
 -- so much room is enough: a plan that is accepted has its listing
 pub listing-given : (s : List ℕ) (w : Settings) (q : Planned) → planned s w ≡ accepted q
     → (room : ℕ) → 48400 ≤ room → listingGiven s w room ≡ accepted (listingOf q)
-unfolding listingGiven fitted
-listing-given s w q e room l = rw (e, le-ltb room (length (listingOf q)) (omega (arith, listing-length s w q e)))
+unfolding fitted
+listing-given s w q e room l =
+    given-accepted s w room q e ∙ rw (le-ltb room (length (listingOf q)) (omega (arith, listing-length s w q e)))

@@ -1,5 +1,4 @@
--- The call and the program: both give the listing where a plan is accepted; where it is refused, with 10 or 11 as with a table's own ground, the
--- call writes nothing and the program its line. Laws alone.
+-- What the program prints: what the call gives, and where that is refused the line of the refusal. Laws alone.
 use Prim.Native.Nat.{ℕ, _≤_}
 use native.Mathlib.Omega.{arith}
 use mathlib.Core.Path.{_≡_, ap, _∙_}
@@ -26,15 +25,6 @@ module _ (s : List ℕ) (w : Settings) where
       let (z, h) = if-accepted (met 13 0) (ltb room (length (listingOf q))) (accepted (listingOf q)) bs g in
       let is : listingOf q ≡ bs = cc in
       ap textOf f ∙ is
-
-  pub given-refused : (r : Refusal) → planned s w ≡ refused r → (room : ℕ) → listingGiven s w room ≡ refused r
-  unfolding listingGiven
-  given-refused r e room = rw e
-
-  -- so the lent bytes stay as found
-  pub given-kept : (r : Refusal) → planned s w ≡ refused r → (room : ℕ) (out : List ℕ) → final (listingGiven s w room) out ≡ out
-  unfolding final
-  given-kept r e room out = rw (given-refused r e room)
 
   pub text-refused : (r : Refusal) → planned s w ≡ refused r → text s w ≡ refusalLine (r .ground) (r .place)
   unfolding text textOf
