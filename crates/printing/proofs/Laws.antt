@@ -19,7 +19,8 @@ use Rattle.sweeps.specs.Sweeps.{sweeps}
 use Rattle.outputs.specs.declared.Outcome.{Outcome}
 use Rattle.outputs.specs.Given.{Given, fitted, final, countOf}
 use Rattle.outputs.specs.Gives.{refusing, writing, Gives, gives-refused, gives-short, gives-written}
-use Rattle.text.specs.Written.{Whole, written-front, written-nowhere}
+use Rattle.text.specs.Lent.{Whole}
+use Rattle.text.specs.Written.{written-front, written-nowhere}
 use Rattle.listing.specs.Listing.{listing, refusalLine}
 use Rattle.printing.specs.Printing.{listingOf, listingGiven, textOf, text, Prints}
 use Rattle.printing.specs.Given.{given-refused, given-accepted}

@@ -12,7 +12,8 @@ use lib.ListN.{length, length-append}
 use borrow.Author.Tests.{lt-ltb, le-ltb, eq-eqb, ne-eqb}
 use Rattle.model.specs.Table.{Table, count, last}
 use Rattle.text.specs.Ascii.{ascii}
-use Rattle.text.specs.Decimal.{decimal, digits, length-decimal}
+use Rattle.text.specs.Decimal.{decimal, digits}
+use Rattle.text.specs.Digits.{length-decimal}
 use Rattle.text.specs.Line.{line}
 use Rattle.text.specs.Lengths.{two-most, three-most, four-most}
 use Rattle.grounds.specs.Accepted.{valid-last}
