@@ -12,8 +12,8 @@
  * - What is lent to one call must not overlap: the answer, the output, the memory, the counts, the report and the inputs are separate.
  * - A pointer may be anything where its length is 0.
  * - Calls in different threads need no lock if they share nothing that either of them writes.
- * What is said here is proved, but for the bits of a NaN: the proofs know one NaN alone. That an element which holds a NaN is as found
- * after a refused call or where nothing is stored, and bit for bit what the plain run leaves, is tested and not proved.
+ * - What is proved of a memory is up to the bits of a NaN, for the proofs know one NaN alone. Of elements that hold a NaN, 'as found' above
+ *   and 'bit for bit' below rest on tests, and so does 7FF8000000000000.
  */
 #ifndef VEMPALDI_H
 #define VEMPALDI_H

@@ -1,5 +1,5 @@
 -- How long a line is: its word, for each field a blank and the number's digits, and a line feed. Laws alone.
-use mathlib.Core.Path.{_≡_, refl}
+use mathlib.Core.Path.{_≡_}
 use mathlib.Core.List.{List, [], _∷_}
 use Prim.Native.Nat.{ℕ, suc, _+_, _≤_}
 use native.Mathlib.Omega.{arith}
