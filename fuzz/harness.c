@@ -30,7 +30,7 @@ static const char *const names[ENTRIES] = {"check",  "join",       "shifts and p
 static const uint32_t common = 0x3fe;
 static const uint32_t further[ENTRIES] = {
     0, BIT(13) | BIT(14), BIT(13), BIT(13), BIT(13), BIT(10) | BIT(11) | BIT(13), BIT(10) | BIT(11) | BIT(13),
-    BIT(10) | BIT(11) | BIT(13), BIT(13), BIT(12), BIT(10) | BIT(11) | BIT(12) | BIT(15), BIT(10) | BIT(11) | BIT(12)};
+    BIT(10) | BIT(11) | BIT(13), BIT(10) | BIT(11) | BIT(13), BIT(12), BIT(10) | BIT(11) | BIT(12) | BIT(15), BIT(10) | BIT(11) | BIT(12)};
 
 static uint64_t met[ENTRIES][16], named_reads[MOST_READS], inputs;
 
@@ -125,14 +125,13 @@ static void like_check(const struct call *call) {
 /* What holds of the answer of every call. */
 static void answered(struct call *call) {
     uint64_t number = call->answer[0], place = call->answer[1], read = call->answer[2];
-    uint32_t allowed = call->entry == LISTING ? 0 : common;
-    if (number > 15 || (number && !((allowed | further[call->entry]) >> number & 1))) breach(call, "a ground that is not its own");
+    if (number > 15 || (number && !((common | further[call->entry]) >> number & 1))) breach(call, "a ground that is not its own");
     if (number == 0 && place) breach(call, "an accepted answer with a place");
     if (number >= 10 && place) breach(call, "a place other than 0");
     if (number != 9 && read) breach(call, "a read named by another answer than 9");
     if (call->answer[3]) breach(call, "a fourth number other than 0");
     if (call->entry == CHECK) like_bytes(call);
-    else if (call->entry != LISTING) like_check(call);
+    else like_check(call);
     met[call->entry][number]++;
     uint64_t which = number == 9 ? place % 4 * 16 + read % 16 : place < 63 ? place : 63;
     novel[(call->entry * 16 + number) * 64 + which] = 1;
@@ -234,9 +233,11 @@ static int plan(struct call *call, struct cursor *bytes, const struct sizes *siz
     uint64_t written = with_rooms(call, any, 512, keep);
     int accepted = call->answer[0] == 0;
     if (accepted && written != 8 * call->processors) breach(call, "not a block for each processor");
+    uint64_t blocks[4];
+    memcpy(blocks, call->answer, sizeof blocks);
     call->entry = LISTING;
-    if (with_rooms(call, any, sizeof keep, keep) == 0) breach(call, "no text");
-    if (accepted == (keep[0] == 'r')) breach(call, "the listing and the blocks disagree on the plan");
+    if ((with_rooms(call, any, sizeof keep, keep) > 0) != accepted) breach(call, "a plan with no text, or text with no plan");
+    if (memcmp(call->answer, blocks, sizeof blocks)) breach(call, "the listing and the blocks disagree on the plan");
     return accepted;
 }
 

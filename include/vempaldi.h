@@ -12,6 +12,8 @@
  * - What is lent to one call must not overlap: the answer, the output, the memory, the counts, the report and the inputs are separate.
  * - A pointer may be anything where its length is 0.
  * - Calls in different threads need no lock if they share nothing that either of them writes.
+ * - What is proved of a memory is up to the bits of a NaN, for the proofs know one NaN alone. Of elements that hold a NaN, 'as found' above
+ *   and 'bit for bit' below rest on tests, and so does 7FF8000000000000.
  */
 #ifndef VEMPALDI_H
 #define VEMPALDI_H
@@ -45,13 +47,13 @@ extern "C" {
  *                      for a processor not below P                                                   0        0, 0
  *
  * 'byte' is the place of the record's kind byte, counted from 0 (the table's length if that byte is absent); for 8 it is the first
- * byte too many. (*) In joining, 4 for more than 16 loops in all has place 0.
+ * byte too many. (*) In joining, 4 for more than 16 loops in all has place 0; 4 of one of its tables has that table's byte.
  * 'loop' is the lowest loop of which two iterations meet, and 'read' is the lowest of its reads that meets the destination in another
  * iteration, numbered from 0 among that loop's reads in byte order. So the answer to a table is always the same. Once a loop may have
  * several statements, 9 will name a pair of references in answer[2] and answer[3]; a loop with one statement will then have its
  * destination, 0, and this read's number and one.
- * Where several grounds hold, the first byte decides, then the order 8, 9, 10, 11, 12, 15, 13; in joining 8, 9 (left's before right's),
- * 14, 4, 13. */
+ * Where several grounds hold, the first record decides, then the order 8, 9, 10, 11, 12, 15, 13; in joining left's 1 to 9, then right's,
+ * then 14, 4 (more than 16 loops in all), 13. */
 enum vempaldi_ground {
     VEMPALDI_ACCEPTED = 0,
     VEMPALDI_TORN = 1,
@@ -77,7 +79,7 @@ enum vempaldi_size {
     VEMPALDI_TABLE_BYTES = 2065,    /* the longest accepted table, so also of a joined one */
     VEMPALDI_AMOUNT_BYTES = 128,    /* shifts and peels of 16 loops */
     VEMPALDI_BLOCK_BYTES = 512,     /* first and last index of 64 blocks */
-    VEMPALDI_LISTING_BYTES = 48400  /* the longest listing */
+    VEMPALDI_LISTING_BYTES = 48400  /* no listing has more */
 };
 
 /* The first number of a step's report. */
@@ -128,10 +130,9 @@ uint64_t vempaldi_fused_list(const uint8_t *table, size_t table_length, uint32_t
 uint64_t vempaldi_peeled_list(const uint8_t *table, size_t table_length, uint32_t processors, uint32_t processor,
                               uint8_t *out, size_t out_length, uint64_t answer[4]);
 
-/* The plan as text: lines `loop` k shift peel, `block` b first last, `fused` b k from to, `peeled` b k from to, `sweeps` before after;
- * or the one line `refused` number place (for 9 the loop).
- * Writes the text, each line with its line feed and no zero byte behind. Refuses with 13 alone: 1 to 11 are the text's to say, and
- * the answer is 0, 0, 0, 0 then. */
+/* The plan as text: lines `loop` k shift peel, `block` b first last, `fused` b k from to, `peeled` b k from to, `sweeps` before after.
+ * Writes the text, each line with its line feed and no zero byte behind. Refuses with 1 to 9, 10, 11, 13. (The line `refused` number
+ * place is written by the program `plan` alone.) */
 uint64_t vempaldi_listing(const uint8_t *table, size_t table_length, uint32_t processors,
                           uint8_t *out, size_t out_length, uint64_t answer[4]);
 

@@ -35,8 +35,7 @@ c_says="$listing
 threshold 2
 20 steps, same bits as the plain run
 last array: 0 3 6 8 10 12 14 16 18 20 21 11
-refused 9 0
-threshold: refused 9, place 0, read 2"
+listing: refused 9, place 0, read 2"
 
 run_rust() {
     cargo run --quiet --release --offline --manifest-path bindings/rust/Cargo.toml --example example -- examples/example.table 2
@@ -62,8 +61,7 @@ processor 1: 9 fused and 0 peeled iterations
 idle 3
 A2(1) = 3, A2(5) = 12, A2(10) = 21
 same bits as the plain run
-refused 9 0
-blocks: refused 9 serial, place 0, read 2"
+listing: refused 9 serial, place 0, read 2"
 
 case ${1:-} in
 c | rust | fortran) ;;

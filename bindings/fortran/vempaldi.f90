@@ -4,8 +4,9 @@
 ! indices, processors and blocks are numbered from 0, as in the table.
 !
 ! An answer is four numbers. answer(1) is the ground's number, 0 where the call was accepted; answer(2) its place, a byte or a loop
-! counted from 0; answer(3) and answer(4) are what the refusal names: for 9 the lowest read of that loop that meets the destination in
-! another iteration, counted from 0 among the loop's reads, and 0. For every other ground, and where accepted, both are 0.
+! counted from 0, and 0 for too many loops in joining; answer(3) and answer(4) are what the refusal names: for 9 the lowest read of that
+! loop that meets the destination in another iteration, counted from 0 among the loop's reads, and 0. For every other ground, and where
+! accepted, both are 0.
 !
 ! Numbers that C takes as unsigned are given here as integer(c_int32_t); none that a caller needs is above 1048576.
 module vempaldi
@@ -242,7 +243,7 @@ contains
     list = pairs(out(1:written))
   end subroutine
 
-  ! The plan as text with line feeds, or the line of its refusal.
+  ! The plan as text with line feeds; empty where it is refused.
   subroutine vempaldi_listing(table, processors, text, answer)
     integer(c_int8_t), contiguous, intent(in) :: table(:)
     integer(c_int32_t), intent(in) :: processors

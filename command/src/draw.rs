@@ -6,7 +6,7 @@ use crate::batch;
 use crate::infix::assignment;
 use crate::options::Options;
 use crate::outcome::{Failure, Outcome};
-use crate::plan::{listing, refused};
+use crate::plan::refused;
 use crate::records::{decode, Table};
 use crate::scale::Scale;
 use crate::svg::Picture;
@@ -77,7 +77,7 @@ pub fn draw(options: &Options) -> Result<Outcome, Failure> {
 }
 
 fn plan(name: &str, bytes: &[u8], processors: u32) -> Result<Plan, Refusal> {
-    let listing = listing(bytes, processors)?;
+    let listing = vempaldi::listing(bytes, processors)?;
     Ok(Plan {
         name: title(name),
         table: decode(bytes).0,

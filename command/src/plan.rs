@@ -11,20 +11,13 @@ use vempaldi::Refusal;
 pub fn plan(options: &Options) -> Result<Outcome, Failure> {
     let processors = options.processors()?;
     let several = options.some_files()?.len() > 1;
-    batch::each(options, &WORDS, |name, table| match listing(table, processors) {
+    batch::each(options, &WORDS, |name, table| match vempaldi::listing(table, processors) {
         Ok(text) => answers::accepted(options, &text, || {
             let head = if several { format!("{name}:\n") } else { String::new() };
             batch::print((head + &text).as_bytes())
         }),
         Err(refusal) => refused(options, name, table, &refusal),
     })
-}
-
-/// The listing of an accepted plan. A listing may also be the line of a refusal, which says less than the refusal itself, so the
-/// blocks are asked for first.
-pub fn listing(table: &[u8], processors: u32) -> Result<String, Refusal> {
-    vempaldi::blocks(table, processors)?;
-    vempaldi::listing(table, processors)
 }
 
 pub fn refused(options: &Options, name: &str, table: &[u8], refusal: &Refusal) -> Result<Outcome, Failure> {

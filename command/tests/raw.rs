@@ -99,7 +99,7 @@ fn plan_has_the_listings_lines_or_the_refusal() {
     is(&run(&["plan", "--raw", EXAMPLE, "-p", "6"]), 1, "refused 11 0\n");
     is(&run(&["plan", "--raw", EXAMPLE, "-p", "0"]), 1, "refused 10 0\n");
     is(&run(&["plan", "--raw", EXAMPLE, "-p", "65"]), 1, "refused 10 0\n");
-    // The listing itself would say `refused 9 0`.
+    // The program `plan` would say `refused 9 0`.
     is(&fed(&["plan", "--raw", "-", "-p", "2"], &serial()), 1, "refused 9 0 2\n");
 }
 

@@ -7,7 +7,8 @@ use crate::sweeps::sweeps;
 use crate::table::Table;
 use std::fmt::Write;
 
-/// The lines of the plan, or the single line of the refusal.
+/// What the program writes: the lines of the plan, or the single line of the
+/// refusal.
 pub fn listing(bytes: &[u8], processors: u32) -> String {
     match lines(bytes, processors) {
         Ok(text) => text,
@@ -15,7 +16,8 @@ pub fn listing(bytes: &[u8], processors: u32) -> String {
     }
 }
 
-fn lines(bytes: &[u8], processors: u32) -> Result<String, Refusal> {
+/// The lines of the plan.
+pub fn lines(bytes: &[u8], processors: u32) -> Result<String, Refusal> {
     let table = read(bytes)?;
     let plan = plan(&table, processors)?;
     let mut text = String::new();

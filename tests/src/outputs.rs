@@ -57,10 +57,9 @@ pub fn sweeps(table: &[u8], room: usize) -> Output {
     fit(encode([sweeps.before as i64, sweeps.after as i64]), room)
 }
 
-/// A refused table or number of processors is a line of the text here, so
-/// that only a buffer that is too short refuses the call.
+/// The line of a refusal is the listing program's; the call is refused.
 pub fn listing(table: &[u8], processors: u32, room: usize) -> Output {
-    fit(listing::listing(table, processors).into_bytes(), room)
+    fit(listing::lines(table, processors)?.into_bytes(), room)
 }
 
 /// Four bytes for each number.

@@ -4,7 +4,7 @@ use crate::foreign::*;
 use crate::refusal::Refusal;
 use crate::MOST_TABLE_BYTES;
 
-/// Longer than any listing.
+/// No listing has more bytes.
 const LISTING_ROOM: usize = 48_400;
 const MOST_LOOPS: usize = 16;
 
@@ -80,7 +80,7 @@ pub fn blocks(table: &[u8], processors: u32) -> Result<Vec<Block>, Refusal> {
     Ok(pairs(&numbers).map(|(first, last)| Block { first, last }).collect())
 }
 
-/// The plan as text, or the line of its refusal.
+/// The plan as text, line by line.
 pub fn listing(table: &[u8], processors: u32) -> Result<String, Refusal> {
     let bytes = of_plan(vempaldi_listing, table, processors, LISTING_ROOM)?;
     Ok(String::from_utf8_lossy(&bytes).into_owned())

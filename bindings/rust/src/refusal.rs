@@ -79,7 +79,7 @@ impl Ground {
 #[derive(Clone, Copy, Debug, PartialEq, Eq)]
 pub struct Refusal {
     pub ground: Ground,
-    /// For torn to tail a byte of the table, for serial a loop, else 0.
+    /// For torn to tail a byte of the table (for crowd 0 where joined tables have too many loops in all), for serial a loop, else 0.
     pub place: u64,
     /// What the refusal names. For serial the lowest read of that loop that meets the destination in another iteration, numbered from 0
     /// among the loop's reads in byte order, and 0; else two zeros.

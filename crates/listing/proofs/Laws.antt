@@ -8,7 +8,8 @@ use native.Mathlib.Omega.{arith}
 use borrow.Author.Tests.{lt-ltb, le-ltb}
 use Rattle.reader.specs.Store.{loopsIn, tableIn}
 use Rattle.text.specs.Line.{line}
-use Rattle.text.specs.Written.{Put, put-none, put-then, put-most}
+use Rattle.text.specs.Lent.{Put}
+use Rattle.text.specs.Written.{put-none, put-then, put-most}
 use Rattle.blocks.specs.declared.Axis.{Axis}
 use Rattle.blocks.specs.declared.Range.{Range}
 use Rattle.blocks.specs.Sums.{column}
@@ -17,7 +18,8 @@ use Rattle.lists.specs.Fusion.{fusionIn}
 use Rattle.plans.specs.Code.{Laid}
 use Rattle.ranges.specs.Code.{rangeOf}
 use Rattle.ranges.specs.Listed.{loops-are, range-in, rangeIn}
-use Rattle.listing.specs.Listing.{loopLine, blockLine, rangeLine, sweepsLine, each, rangeLines, phaseName, listing, ranges-same}
+use Rattle.listing.specs.Listing.{loopLine, blockLine, rangeLine, sweepsLine, each, rangeLines, phaseName, listing}
+use Rattle.listing.specs.Same.{ranges-same}
 
 -- A RANGE, empty or not
 pub peeled-name : (phase : ℕ) → (phase ≡ 0 → ⊥) → phaseName phase ≡ phaseName 1

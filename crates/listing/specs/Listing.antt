@@ -1,9 +1,7 @@
 -- The listing, line by line. A range is kept with its exclusive end, `past`; its line gives the last index, past - 1. Assumes nothing.
-use mathlib.Core.Path.{_≡_, refl}
 use mathlib.Core.Bool.{cond}
 use mathlib.Core.List.{List, [], _∷_, _++_}
-use Prim.Native.Nat.{ℕ, zero, suc, _-_, _<_}
-use native.Mathlib.Omega.{arith}
+use Prim.Native.Nat.{ℕ, zero, suc, _-_}
 use lib.Dec.{ltb}
 use Rattle.model.specs.Table.{Table, count}
 use Rattle.text.specs.Ascii.{ascii}
@@ -63,12 +61,3 @@ module _ (t : Table) (c : Fusion) (before after : ℕ) where
 -- a refusal is the single line `refused`, number, place
 unfoldable pub refusalLine : ℕ → ℕ → List ℕ
 refusalLine number place = line (ascii "refused") (number ∷ place ∷ [])
-
--- LAWS: nothing is asked of loops that are not there
-pub each-same : (n : ℕ) (f g : ℕ → List ℕ) → ((k : ℕ) → k < n → f k ≡ g k) → each n f ≡ each n g
-each-same zero f g e = refl
-each-same (suc n) f g e = rw (each-same n f g (λ k l. e k (omega arith)), e n (omega arith))
-
-pub ranges-same : (word : List ℕ) (P n : ℕ) (part part′ : ℕ → ℕ → Range) → ((b k : ℕ) → k < n → part b k ≡ part′ b k)
-    → rangeLines word P n part ≡ rangeLines word P n part′
-ranges-same word P n part part′ e = each-same P _ _ (λ b h. each-same n _ _ (λ k l. rw (e b k l)))

@@ -12,7 +12,7 @@ ghost use Rattle.reader.specs.Store.{loopsIn, lastAt, tableIn};
 ghost use Rattle.blocks.specs.Sums.{column};
 ghost use Rattle.blocks.specs.Blocks.{block};
 ghost use Rattle.lists.specs.Fusion.{fusionIn};
-ghost use Rattle.text.specs.Written.{Put, Whole};
+ghost use Rattle.text.specs.Lent.{Put, Whole};
 ghost use Rattle.plans.specs.Code.{Laid};
 ghost use Rattle.ranges.specs.Code.{partIn, partAt, rangeOf};
 ghost use Rattle.listing.specs.Listing.{loopLine, blockLine, rangeLine, each, rangeLines, phaseName, listing, refusalLine};

@@ -6,8 +6,10 @@ use native.Mathlib.Numerals.{add-one}
 use native.Mathlib.Omega.{arith}
 use lib.ListN.{length, getD, set, take}
 use lib.Seq.{take-suc, take-all}
-use Rattle.text.specs.Written.{Put, put-one, put-none, put-then, put-most}
-use Rattle.text.specs.Decimal.{decimal, lastDigit, decimal-small, decimal-more, length-decimal}
+use Rattle.text.specs.Lent.{Put}
+use Rattle.text.specs.Written.{put-one, put-none, put-then, put-most}
+use Rattle.text.specs.Decimal.{decimal, lastDigit}
+use Rattle.text.specs.Digits.{decimal-small, decimal-more, length-decimal}
 use Rattle.text.specs.Line.{field, fields, line}
 
 -- A WORD

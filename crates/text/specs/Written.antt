@@ -1,4 +1,4 @@
--- What lent bytes hold after a text was written into them. Assumes nothing.
+-- Texts written into lent bytes: one after the other, where there is room and where there is none. Laws alone.
 use mathlib.Core.Path.{_≡_, refl, ap, _∙_}
 use mathlib.Core.List.{List, [], _∷_, _++_}
 use Prim.Native.Nat.{ℕ, suc, _+_, _≤_}
@@ -6,26 +6,9 @@ use native.Mathlib.Nat.{add-zero}
 use native.Mathlib.Omega.{arith}
 use lib.ListN.{length, take, drop, set, length-append, length-set}
 use lib.Seq.{sets, sets-eq}
+-- passed on for the crates that cite these here
+pub use Rattle.text.specs.Lent.{written, Put, Whole}
 
--- the bytes `text` from the place `at` on, as far as there is room; the rest as found. `set` past the end changes nothing
-unfoldable pub written : List ℕ → ℕ → List ℕ → List ℕ
-written out at [] = out
-written out at (b ∷ text) = written (set out at b) (suc at) text
-
--- a call that puts a text of at most `most` bytes at a place leaves `left` of `out`, and answers the place past it,
--- which it does where there is no room, too
-pub record Put (out : List ℕ) (at : ℕ) (text : List ℕ) (most : ℕ) (left : List ℕ) (past : ℕ) : Type 0 where
-  pub bytes : left ≡ written out at text
-  pub place : past ≡ at + length text
-  pub few : length text ≤ most
-
--- a call that writes a whole text of at most `most` bytes, from the first byte on, answers its length
-pub record Whole (out : List ℕ) (text : List ℕ) (most : ℕ) (left : List ℕ) (count : ℕ) : Type 0 where
-  pub bytes : left ≡ written out 0 text
-  pub size : count ≡ length text
-  pub few : count ≤ most
-
--- LAWS
 -- one text and then another
 pub written-append : (out : List ℕ) (at : ℕ) (a b : List ℕ) → written out at (a ++ b) ≡ written (written out at a) (at + length a) b
 unfolding written

@@ -30,8 +30,7 @@ use Rattle.stepping.specs.declared.Report.{Report}
 use Rattle.stepping.specs.declared.Report.the-variants.{Refused, Performed, Waiting, Finished}
 use Rattle.stepping.specs.Step.{workOf, reportOf, elements, steppedBy, step}
 use Rattle.stepping.specs.Run.{runAnswer}
-use Rattle.listing.specs.Listing.{refusalLine}
-use Rattle.printing.specs.Printing.{textOf, text}
+use Rattle.printing.specs.Printing.{listingGiven}
 use Rattle.vempaldi.specs.Answers.{refusalIn, reportAt}
 
 -- a call on the table's bytes s, whose own grounds are these
@@ -98,6 +97,11 @@ module _ (s : List ℕ) where
   blocks-refused w room =
       after-only (Of s _) (planned s w) _ (planned-only _ (mhere refl) (mthere (mhere refl)) w) (λ q. fitted-only _ (mthere (mthere (mhere refl))) room _)
 
+  pub listing-refused : (w : Settings) (room : ℕ) → Only (Of s (10 ∷ 11 ∷ 13 ∷ [])) (listingGiven s w room)
+  unfolding listingGiven
+  listing-refused w room =
+      after-only (Of s _) (planned s w) _ (planned-only _ (mhere refl) (mthere (mhere refl)) w) (λ q. fitted-only _ (mthere (mthere (mhere refl))) room _)
+
   -- both lists
   pub list-refused : (phase : ℕ) (w : Settings) (b room : ℕ) → Only (Of s (10 ∷ 11 ∷ 13 ∷ [])) (listGiven phase s w b room)
   unfolding listGiven
@@ -110,11 +114,6 @@ module _ (s : List ℕ) where
 
   pub run-refused : (w : Settings) (n : ℕ) → Only (Of s (10 ∷ 11 ∷ 12 ∷ [])) (runAnswer s w n)
   run-refused w n = remembered-only _ (mthere (mthere (mhere refl))) elements n (planned s w) (planned-only _ (mhere refl) (mthere (mhere refl)) w)
-
--- the listing, of any text: the text says the other grounds
-pub listing-refused : (room : ℕ) (text : List ℕ) → Only (λ r. r ≡ met 13 0) (fitted room text)
-unfolding fitted
-listing-refused room text = if-only _ (met 13 0) (ltb room (length text)) (accepted text) refl (accepted-only _ text)
 
 -- a turn refuses nothing
 turn-goes-on : (q : Planned) (b : ℕ) (cs : List ℕ) (x : Said Iteration) → Turn (iteration 0 0) (workOf q) b cs x → (r : Refusal) → reportOf x ≡ Refused r → ⊥
@@ -174,6 +173,10 @@ module _ (s : List ℕ) (r : Refusal) (e : table s ≡ refused r) where
   unfolding blocksGiven planned fitting
   blocks-decided w room = rw e
 
+  pub listing-decided : (w : Settings) (room : ℕ) → listingGiven s w room ≡ refused r
+  unfolding listingGiven planned fitting
+  listing-decided w room = rw e
+
   pub list-decided : (phase : ℕ) (w : Settings) (b room : ℕ) → listGiven phase s w b room ≡ refused r
   unfolding listGiven plannedFor fitting
   list-decided phase w b room = rw e
@@ -189,8 +192,3 @@ module _ (s : List ℕ) (r : Refusal) (e : table s ≡ refused r) where
   pub step-decided : (w : Settings) (b : ℕ) (cs : List ℕ) (m : List Float) → refusalIn (reportAt s w b cs m) ≡ r
   unfolding refusalIn step steppedBy plannedFor fitting remembered
   step-decided w b cs m = rw e
-
-  -- the listing's text is the line of that refusal
-  pub text-decided : (w : Settings) → text s w ≡ refusalLine (r .ground) (r .place)
-  unfolding text textOf planned fitting
-  text-decided w = rw e

@@ -4,14 +4,13 @@ use refusals::Refusal;
 use stepping::Report;
 use steps::Counts;
 ghost use mathlib.Core.Path.{_≡_};
-ghost use Prim.Native.Nat.{_≤_};
 ghost use lib.ListN.{length};
 ghost use Rattle.refusals.specs.Answers.{refusalOf};
 ghost use Rattle.serial.specs.Serial.{table as accepts};
-ghost use Rattle.outputs.specs.Given.{fitted, final, countOf};
+ghost use Rattle.outputs.specs.Given.{final, countOf};
 ghost use Rattle.joining.specs.Joining.{joining};
 ghost use Rattle.entries.specs.Entries.{amounts, thresholds, sweepsGiven, blocksGiven, fusedGiven, peeledGiven};
-ghost use Rattle.printing.specs.Printing.{text};
+ghost use Rattle.printing.specs.Printing.{listingGiven};
 ghost use Rattle.plain.specs.Plain.{plainAnswer, plainMemory};
 ghost use Rattle.plans.specs.Plans.{settings};
 ghost use Rattle.stepping.specs.Step.{step};
@@ -77,7 +76,7 @@ pub extern "C" fn vempaldi_shifts_and_peels(
     tell_outcome(answer, o)
 }
 
-// The listing of a plan, or the line of its refusal; 13 alone refuses the call. Answers how many bytes were written.
+// The listing of a plan; answers how many bytes were written, 0 where it refuses.
 #[no_mangle]
 pub extern "C" fn vempaldi_listing(
     table: &[u8],
@@ -85,12 +84,11 @@ pub extern "C" fn vempaldi_listing(
     out: &mut [u8],
     answer: &mut [u64; 4],
 ) -> u64
-    ensures { λ r. ⌜ now (answer .exit) ≡ answered (refusalOf (fitted (length (now (out .entry))) (text (now (table .entry)) (settings processors)))) (now (answer .entry)) ⌝ }
-    ensures { λ r. ⌜ r ≡ countOf (fitted (length (now (out .entry))) (text (now (table .entry)) (settings processors))) ⌝ }
-    ensures { λ r. ⌜ now (out .exit) ≡ final (fitted (length (now (out .entry))) (text (now (table .entry)) (settings processors))) (now (out .entry)) ⌝ }
-    ensures { λ r. ⌜ length (text (now (table .entry)) (settings processors)) ≤ 212900 ⌝ }
+    ensures { λ r. ⌜ now (answer .exit) ≡ answered (refusalOf (listingGiven (now (table .entry)) (settings processors) (length (now (out .entry))))) (now (answer .entry)) ⌝ }
+    ensures { λ r. ⌜ r ≡ countOf (listingGiven (now (table .entry)) (settings processors) (length (now (out .entry)))) ⌝ }
+    ensures { λ r. ⌜ now (out .exit) ≡ final (listingGiven (now (table .entry)) (settings processors) (length (now (out .entry)))) (now (out .entry)) ⌝ }
 {
-    let o = printing::print_plan(table, processors, out);
+    let o = printing::print_listing(table, processors, out);
     tell_outcome(answer, o)
 }
 

@@ -1,4 +1,4 @@
-//! The text of the listing, line by line.
+//! The text of the listing, line by line, and the refusals of its call.
 
 use vempaldi_checks::damage;
 use vempaldi_checks::encoder::encode;
@@ -10,13 +10,19 @@ use vempaldi_checks::outcome::hex;
 use vempaldi_checks::outputs;
 use vempaldi_checks::processors;
 use vempaldi_checks::random::Random;
-use vempaldi_checks::table::Table;
+use vempaldi_checks::table::{Item, Loop, Operation, Reference, Table};
 use vempaldi_checks::tables::{self, Shape, LARGE, MIDDLE, SMALL};
 use vempaldi_checks::tally::Tally;
 
 const LEAST_TABLES: u64 = 100_000;
 const LEAST_OF_EACH: u64 = 500;
 const LEAST_WITH_PEELED: u64 = 20_000;
+/// What is lent to a call that is refused: room for the line that the listing
+/// program would write.
+const REFUSED_ROOM: usize = 64;
+/// So much room is said to be always enough, and nearly so much is needed.
+const ENOUGH: usize = 48_400;
+const LONG: usize = 48_274;
 
 struct Counts {
     tables: u64,
@@ -37,6 +43,7 @@ pub fn compare_all() {
         damaged(&mut counts, seed + 100, &shape, tables / 4);
     }
     full(&mut counts);
+    long(&mut counts);
     counts.grounds.print("listings");
     println!("  of {} tables; {} plans have peeled lines", counts.tables, counts.with_peeled);
     counts.grounds.require(&[0, 1, 2, 3, 4, 5, 6, 7, 8, 9, 10, 11], LEAST_OF_EACH);
@@ -61,10 +68,12 @@ fn shapes() -> Vec<(u64, Shape, u64)> {
 
 /// The listing of one table, into a buffer that is a little longer.
 fn compare(counts: &mut Counts, table: &[u8], processors: u32) {
-    let expected = outputs::listing(table, processors, usize::MAX).expect("fits");
-    let text = String::from_utf8_lossy(&expected).into_owned();
-    let room = expected.len() + 5;
-    let result = lent::compare(room, &Ok(expected), |out| library::listing(table, processors, out));
+    let expected = outputs::listing(table, processors, ENOUGH);
+    let number = expected.as_ref().map_or_else(|refusal| refusal.number, |_| 0);
+    let text =
+        expected.as_ref().map_or("".into(), |bytes| String::from_utf8_lossy(bytes)).into_owned();
+    let room = expected.as_ref().map_or(REFUSED_ROOM, |bytes| bytes.len() + 5);
+    let result = lent::compare(room, &expected, |out| library::listing(table, processors, out));
     if let Err(report) = result {
         eprintln!("listing: the library and the second planner disagree");
         eprintln!("  table    {}, processors {processors}", hex(table));
@@ -72,7 +81,7 @@ fn compare(counts: &mut Counts, table: &[u8], processors: u32) {
         eprintln!("{report}");
         std::process::exit(1);
     }
-    counts.grounds.add(number(&text));
+    counts.grounds.add(number);
     counts.with_peeled += u64::from(text.contains("peeled"));
 }
 
@@ -87,16 +96,6 @@ fn show_first_difference(table: &[u8], processors: u32, wanted: &str) {
             eprintln!("  line {number}: library {found:?}, expected {wanted:?}");
             return;
         }
-    }
-}
-
-/// The number in a line of refusal, else 0.
-fn number(text: &str) -> u64 {
-    let mut words = text.split_whitespace();
-    if words.next() == Some("refused") {
-        words.next().and_then(|word| word.parse().ok()).unwrap_or(0)
-    } else {
-        0
     }
 }
 
@@ -147,4 +146,34 @@ fn full(counts: &mut Counts) {
             compare(counts, &table, processors);
         }
     }
+}
+
+/// As long a listing as any that we know: sixteen loops in sixty-four blocks,
+/// every index of five digits, every shift and peel but the first loop's of
+/// three, and a fused and a peeled range wherever there can be one.
+fn long(counts: &mut Counts) {
+    counts.tables += 1;
+    let table = encode(&long_table());
+    let text = outputs::listing(&table, 64, ENOUGH).expect("accepted");
+    assert_eq!(text.len(), LONG, "the long listing");
+    compare(counts, &table, 64);
+    let enough = lent::compare(ENOUGH, &Ok(text), |out| library::listing(&table, 64, out));
+    assert!(enough.is_ok(), "{}", enough.unwrap_err());
+}
+
+/// Loop 0 stores A0[i]; each of the others stores A1[i] and reads A0[i - 100],
+/// A0[i + 100] and A2[i] to A7[i]. So they have shift 100 and peel 100, and
+/// blocks of 201 leave each of them one fused index.
+fn long_table() -> Table {
+    let (first, last) = (10_000, 10_000 + 64 * 201 - 1);
+    let at = |array, offset| Reference { array, offset };
+    let a_loop = |destination, items| Loop { first, last, destination, items };
+    let mut items =
+        vec![Item::Read(at(0, -100)), Item::Read(at(0, 100)), Item::Operation(Operation::Add)];
+    for array in 2..8 {
+        items.extend([Item::Read(at(array, 0)), Item::Operation(Operation::Add)]);
+    }
+    let mut loops = vec![a_loop(at(0, 0), vec![Item::Constant(1)])];
+    loops.extend((1..16).map(|_| a_loop(at(1, 0), items.clone())));
+    Table { arrays: vec![last + 101; 8], loops }
 }

@@ -1,4 +1,4 @@
-use lib.Dec.{lit≤}
+use native.Mathlib.Omega.{arith}
 use denote.Ref.{now}
 use Rattle.printing.proofs.Laws.{no-room, room}
 use borrow.Author.Needs.{needs}
@@ -6,15 +6,18 @@ use Rattle.printing.proofs.print_refusal.Statement.{statement}
 use Rattle.printing.proofs.print_refusal.Tie as tie
 
 returns : tie.Need-returns
-returns c = let out = now (c .before .before .before .before .before .before .before .args .out) in
+returns c =
+    let a = c .before .before .before .before .before .before .before .args in
     let first = c .before .before .before .before .write-refusal .ensures in
-    no-room _ out _ _ _ (lit≤ tt) first (c .before .if1 .taken) _ (c .short .ensures)
+    (no-room _ (now (a .out)) _ _ _ first (c .before .if1 .taken) _ (c .short .ensures), omega (arith, first .size, first .few))
 
 returns-2 : tie.Need-returns-2
-returns-2 c = let out = now (c .before .before .before .before .before .before .before .before .before .before .before .args .out) in
-    let first = c .before .before .before .before .before .before .before .before .write-refusal .ensures in
-    let l = c .before .before .before .before .before .if1 .left in
-    room _ out _ _ _ (lit≤ tt) first _ _ (c .before .before .before .write-refusal2 .ensures) l _ (c .written .ensures)
+returns-2 c =
+    let i = c .before .before .before .before .before in
+    let a = i .before .before .before .before .before .before .args in
+    let first = i .before .before .before .write-refusal .ensures in
+    let second = c .before .before .before .write-refusal2 .ensures in
+    (room _ (now (a .out)) _ _ _ first _ _ second (i .if1 .left) _ (c .written .ensures), omega (arith, first .size, first .few))
 
 pub print-refusal-spec : {M : Type 1} → statement M
 print-refusal-spec =

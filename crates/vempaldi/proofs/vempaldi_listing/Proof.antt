@@ -7,9 +7,7 @@ use Rattle.vempaldi.proofs.vempaldi_listing.Tie as tie
 returns : tie.Need-returns
 returns c =
     let d = c .before .before .before .before in
-    let h = d .print-plan .ensures in
-    let (told, (count, left)) = gives-told (now (d .before .before .before .before .args .answer)) (h .gives) (c .tell-outcome .ensures) in
-    (told, (count, (left, h .few)))
+    gives-told (now (d .before .before .before .before .args .answer)) (d .print-listing .ensures) (c .tell-outcome .ensures)
 
 pub vempaldi-listing-spec : {M : Type 1} → statement M
 vempaldi-listing-spec = tie.close (tie.spec (λ c κs. search needs) (λ c κs. search needs) (λ c. search needs) returns)

@@ -6,7 +6,7 @@ use vempaldi_checks::blocks::plan;
 use vempaldi_checks::bodies::{self, Setting};
 use vempaldi_checks::encoder::encode;
 use vempaldi_checks::library_planning as library;
-use vempaldi_checks::listing::listing;
+use vempaldi_checks::listing::lines;
 use vempaldi_checks::measure::{self, Pair};
 use vempaldi_checks::outputs;
 use vempaldi_checks::random::Random;
@@ -80,7 +80,7 @@ pub fn listings(tables: &[Table], processors: u32) -> Pair {
     beside(
         tables,
         |table, out| library::listing(table, processors, out),
-        |table| listing(table, processors),
+        |table| lines(table, processors),
     )
 }
 
