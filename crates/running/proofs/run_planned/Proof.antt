@@ -7,7 +7,7 @@ use Rattle.iterations.specs.Loaded.{Loaded, loaded-total}
 use Rattle.plans.specs.Code.{plannedIn}
 use Rattle.layouts.specs.Layout.{workIn}
 use Rattle.stepping.specs.Step.{step}
-use Rattle.running.proofs.Laws.{given-in, given-some, runs-unlike, runs-made}
+use Rattle.running.proofs.Laws.{calling-in, calling-some, runs-unlike, runs-made}
 use borrow.Author.Needs.{needs}
 use Rattle.running.proofs.run_planned.Statement.{statement}
 use Rattle.running.proofs.run_planned.Tie as tie
@@ -40,7 +40,7 @@ run-row-requires c κs =
     let n = loaded-total ld (b .wide .result) (b .wide .ensures .0) in
     let l = c .before .before .before .before .before .before .before .put-ends .ensures in
     let y = c .before .before .before .before .before .put-all-lists .ensures in (
-      given-some (a .a) st p _ _ (bs .result .firsts) ld (l .0) (l .1) (omega (arith, y .long)) (y .each),
+      calling-some (a .a) st p _ _ (bs .result .firsts) ld (l .0) (l .1) (omega (arith, y .long)) (y .each),
       c .before .before .before .before .before .before .before .before .before .if1 .left ∙ n,
     )
 
@@ -62,7 +62,7 @@ returns-2 c =
     rw (c .none .ensures)
     (λ s w e. runs-made s w (now (a .order)) (now (a .memory)) (plannedIn (a .a) st) e (i .if1 .left ∙ n) _ (x .result)
     (x .ensures (workIn (a .a) st) (step s w)
-    (given-in (a .a) st p _ _ (bs .result .firsts) ld (l .0) (l .1) (omega (arith, y .long)) (y .each) s w e)))
+    (calling-in (a .a) st p _ _ (bs .result .firsts) ld (l .0) (l .1) (omega (arith, y .long)) (y .each) s w e)))
 
 pub run-planned-spec : {M : Type 1} → statement M
 run-planned-spec =
