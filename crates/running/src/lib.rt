@@ -101,8 +101,7 @@ fn close(
     let mut counts = from;
     let mut left = most;
     while 0 < left {
-        let done = counts.done;
-        let b = barriers::lowest_ready(&done, ends, processors, PHASES);
+        let b = barriers::lowest_ready(&counts.done, ends, processors, PHASES);
         if processors <= b {
             return;
         }

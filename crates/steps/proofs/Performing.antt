@@ -20,7 +20,7 @@ use Rattle.barriers.specs.Same.{before-is}
 use Rattle.stepping.specs.declared.Report.{Report}
 use Rattle.stepping.specs.declared.Report.the-variants.{Refused, Performed}
 use Rattle.stepping.specs.Step.{reportOf}
-use Rattle.steps.specs.Lent.{Phased, Listed}
+use Rattle.steps.specs.Lent.{Phased, Lent}
 use Rattle.steps.specs.Called.{called}
 use Rattle.steps.specs.Leaves.{Leaves}
 
@@ -37,19 +37,18 @@ reported (performs x) k i e = let p : k ≡ x .number = cc in let q : i ≡ x .i
 reported waits k i e = let z : _≡_ {A = ℕ} 0 1 = cc in absurd (omega arith)
 reported ends k i e = let z : _≡_ {A = ℕ} 0 1 = cc in absurd (omega arith)
 
-module _ {w : Work Iteration} {P b : ℕ} {es xs : List ℕ} {at : ℕ} {c : List ℕ} (p : Phased w P es) (h : Listed w b xs at c) (below : b < P)
-    (cs : List ℕ) where
+module _ {w : Work Iteration} {P b : ℕ} {es xs : List ℕ} {at : ℕ} {c bs : List ℕ} (h : Lent w P b es xs at c bs) (below : b < P) (cs : List ℕ) where
   proper : b < w .processors
-  proper = omega (arith, p .counted)
+  proper = omega (arith, h .phased .counted)
 
   performs-inside : (s : Said Iteration) (x : Iteration) → Turn (iteration 0 0) w b cs s → s ≡ performs x → Inside (tableIn c) x × (column cs b < 3200000)
   performs-inside s x (does n come opened more) e =
       let z : getD (w .list n b) (column cs b - before w n b) (iteration 0 0) ≡ x = cc in
       let i : column cs b - before w n b < length (w .list n b) = omega (arith, come .used) in
-      let t = p .two in
+      let t = h .phased .two in
       let few : suc n ≤ w .phases = come .proper in (
-        subst (Inside (tableIn c)) z (h .inside n _ (omega (arith, few, t)) (nth-mem (w .list n b) (iteration 0 0) (column cs b - before w n b) i)),
-        omega (arith, before-is (p .ended) (suc n) b few proper, p .ended .small (64 * n + b)),
+        subst (Inside (tableIn c)) z (h .listed below .inside n _ (omega (arith, few, t)) (nth-mem (w .list n b) (iteration 0 0) (column cs b - before w n b) i)),
+        omega (arith, before-is (h .phased .ended) (suc n) b few proper, h .phased .ended .small (64 * n + b)),
       )
   performs-inside s x (halts n come some which) e = let z : _≡_ {A = ℕ} 0 1 = cc in absurd (omega arith)
   performs-inside s x (stops used opened) e = let z : _≡_ {A = ℕ} 0 1 = cc in absurd (omega arith)
@@ -59,7 +58,7 @@ module _ {w : Work Iteration} {P b : ℕ} {es xs : List ℕ} {at : ℕ} {c : Lis
     pub performed-inside : (k i : ℕ) → r ≡ Performed k i → Inside (tableIn c) (iteration k i) × (column cs b < 3200000)
     performed-inside k i f =
         performs-inside (next (iteration 0 0) w b cs) (iteration k i)
-        (turn-is (iteration 0 0) w (omega (arith, p .two)) b cs) (reported (next (iteration 0 0) w b cs) k i (sym f ∙ told))
+        (turn-is (iteration 0 0) w (omega (arith, h .phased .two)) b cs) (reported (next (iteration 0 0) w b cs) k i (sym f ∙ told))
 
     module _ (m : List Float) where
       abbrev outcome : Said Iteration → After Iteration (List Float)

@@ -87,7 +87,7 @@ impl Counts {
     // One step of a plan that is laid out, whatever number b it names: 10 if that is not below P, else what processor b reports, performed.
     // The public step and every call of a run is one of this.
     pub fn step_laid(
-        self,
+        mut self,
         b: u32,
         processors: u32,
         ends: &Ends,
@@ -103,14 +103,13 @@ impl Counts {
         if processors <= b {
             return self.refused(Refusal::met(PROCESSORS, 0));
         }
-        let mut done = self.done;
-        let report = next_of(&done, b, processors, ends, lists, at, store);
+        let report = next_of(&self.done, b, processors, ends, lists, at, store);
         if let Report::Performed { number, index } = report {
             iterations::iterate(store, bases, number, index, memory);
-            done[wide(b)] += 1;
+            self.done[wide(b)] += 1;
         }
         Stepped {
-            counts: Counts { done },
+            counts: self,
             report,
         }
     }
@@ -127,8 +126,7 @@ impl Counts {
         }
         let mut ends = [0u32; ENDS];
         layouts::put_ends(a, store, &mut ends);
-        let done = self.done;
-        if barriers::wrong_state(&done, &ends, a.blocks, PHASES) {
+        if barriers::wrong_state(&self.done, &ends, a.blocks, PHASES) {
             return self.refused(Refusal::met(STATE, 0));
         }
         let mut lists = [0u32; LISTS];

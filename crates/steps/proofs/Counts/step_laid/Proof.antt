@@ -15,10 +15,10 @@ returns : tie.Need-returns
 returns c =
     let a = c .before .before .before .before .before .args in
     rw (c .refused .ensures, c .before .met .ensures)
-    (λ w h. leaves-past (h .phased) (now (a .store)) (a .self .done) (now (a .memory)) (c .before .before .if1 .taken))
+    (λ w h. leaves-past (h .phased) (now (a .store)) (a .t1 .done) (now (a .memory)) (c .before .before .if1 .taken))
 
 -- searched for where nothing else is in reach
-counts-long : (c : tie.Start) → length (c .args .self .done) ≡ 64
+counts-long : (c : tie.Start) → length (c .args .t1 .done) ≡ 64
 counts-long c = search (needs, c .good)
 
 next-of-requires : tie.Need-next-of-requires
@@ -38,45 +38,46 @@ iterate-requires c κs =
     let g = c .before .before .report .given in (
       tableIn (now (a .store)),
       h .loaded,
-      performed-inside (h .phased) (h .listed l) l (a .self .done) (x .result) (x .ensures w (h .phased) (h .listed l)) (g .0 .0) (g .0 .1 .0) (g .1) .0,
+      performed-inside h l (a .t1 .done) (x .result) (x .ensures w (h .phased) (h .listed l)) (g .0 .0) (g .0 .1 .0) (g .1) .0,
       p .1,
     )
 
-add-done : tie.Need-add-done
-add-done c =
-    let a = c .before .before .before .before .before .before .before .before .before .before .before .before .before .before .args in
-    let p = c .before .before .before .before .before .before .before .before .before .before .before .before .before .before .pre in
+add-self : tie.Need-add-self
+add-self c =
+    let a = c .before .before .before .before .before .before .before .before .before .before .before .before .before .before .before .args in
+    let p = c .before .before .before .before .before .before .before .before .before .before .before .before .before .before .before .pre in
     let h = p .0 .1 in
-    let l = c .before .before .before .before .before .before .before .before .before .before .before .if1 .left in
-    let x = c .before .before .before .before .before .before .before .before .next-of in
-    let g = c .before .before .before .before .before .before .report .given in
-    let e = ap (λ (k : ℕ). getD (a .self .done) k 0) (c .wide .ensures .0) in
-    let i = performed-inside (h .phased) (h .listed l) l (a .self .done) (x .result) (x .ensures (p .0 .0) (h .phased) (h .listed l)) (g .0 .0) (g .0 .1 .0) (g .1) .1 in
-    omega (arith, e, i)
+    let l = c .before .before .before .before .before .before .before .before .before .before .before .before .if1 .left in
+    let x = c .before .before .before .before .before .before .before .before .before .next-of in
+    let g = c .before .before .before .before .before .before .before .report .given in
+    let e = ap (λ (k : ℕ). getD (a .t1 .done) k 0) (c .before .wide .ensures .0) in
+    let i = performed-inside h l (a .t1 .done) (x .result) (x .ensures (p .0 .0) (h .phased) (h .listed l)) (g .0 .0) (g .0 .1 .0) (g .1) in
+    omega (arith, e, i .1)
 
 returns-2 : tie.Need-returns-2
 returns-2 c =
-    let a = c .before .before .before .before .before .before .before .before .before .before .before .before .before .before .args in
-    let l = c .before .before .before .before .before .before .before .before .before .before .before .if1 .left in
-    let x = c .before .before .before .before .before .before .before .before .next-of in
-    let g = c .before .before .before .before .before .before .report .given in
+    let a = c .before .before .before .before .before .before .before .before .before .before .before .before .before .before .before .args in
+    let l = c .before .before .before .before .before .before .before .before .before .before .before .before .if1 .left in
+    let x = c .before .before .before .before .before .before .before .before .before .next-of in
+    let g = c .before .before .before .before .before .before .before .report .given in
+    let own = c .before .wide in
+    let y = c .before .before .before .before .iterate in
     λ w h. let told = x .ensures w (h .phased) (h .listed l) in
-    leaves-performed (h .phased) (h .listed l) l (a .self .done) (Performed (g .0 .0) (g .0 .1 .0)) (sym (g .1) ∙ told) (now (a .memory))
-    (g .0 .0) (g .0 .1 .0) refl (c .wide .result) (c .wide .ensures .0) _
-    (c .before .before .before .iterate .ensures (tableIn (now (a .store))) (h .loaded)
-    (performed-inside (h .phased) (h .listed l) l (a .self .done) (x .result) told (g .0 .0) (g .0 .1 .0) (g .1) .0))
+    leaves-performed h l (a .t1 .done) (Performed (g .0 .0) (g .0 .1 .0)) (sym (g .1) ∙ told) (now (a .memory)) (g .0 .0) (g .0 .1 .0) refl
+    (own .result) (own .ensures .0) _
+    (y .ensures (tableIn (now (a .store))) (h .loaded) (performed-inside h l (a .t1 .done) (x .result) told (g .0 .0) (g .0 .1 .0) (g .1) .0))
 
 returns-3 : tie.Need-returns-3
 returns-3 c =
     let a = c .before .before .before .before .before .before .before .args in
     let l = c .before .before .before .before .if1 .left in
     let x = c .before .next-of in
-    λ w h. leaves-other (h .phased) (h .listed l) l (a .self .done) (x .result) (x .ensures w (h .phased) (h .listed l)) (now (a .memory))
+    λ w h. leaves-other h l (a .t1 .done) (x .result) (x .ensures w (h .phased) (h .listed l)) (now (a .memory))
     (λ k i q. ⊎-elim (λ z. omega (arith, z)) (⊎-elim (λ z. omega (arith, z)) (λ z. omega (arith, z))) (rw q at (c .match .keys2)))
 
 pub step-laid-spec : {M : Type 1} → statement M
 step-laid-spec =
     tie.close (tie.spec
     (λ c κs. search needs) (λ c κs. search needs) returns next-of-requires (λ c. search needs) iterate-requires
-    (λ c κs. search needs) (λ c. search needs) (λ c. search needs) add-done (λ c. search needs) (λ c. search needs)
+    (λ c κs. search needs) (λ c. search needs) (λ c. search needs) add-self (λ c. search needs) (λ c. search needs)
     returns-2 returns-3)
