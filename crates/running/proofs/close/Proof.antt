@@ -43,7 +43,7 @@ returns c =
     let a = c .before .before .before .before .before .before .before .before .args in
     let l = c .before .before .before .before .before .loop in
     λ w step g r. closing-stop g (a .most) (a .from .done) (now (a .memory)) (l .counts .done) (l .memory) (l .left) (l .inv w step g r)
-    (c .before .before .before .before .loop-test .taken) (c .before .lowest-ready .result) (c .before .lowest-ready .ensures) (c .if1 .taken)
+    (omega (arith, c .before .before .before .before .loop-test .taken)) (c .before .lowest-ready .result) (c .before .lowest-ready .ensures) (c .if1 .taken)
 
 mul-at : tie.Need-mul-at Inv-loop μ-loop
 mul-at c = omega (arith, phased (c .before .before .before .before .before .before .before .before .before .pre .0 .1 .1) .few, c .wide .ensures .0, c .before .if1 .left)
@@ -62,7 +62,7 @@ loop-again c =
     let b = c .before .before .before .before .before .before .before .lowest-ready in
     let x = c .before .before .before .step-laid in
     λ w step g r. closing-next g (a .most) (a .from .done) (now (a .memory)) (l .counts .done) (l .memory) (l .left) (l .inv w step g r)
-    (c .before .before .before .before .before .before .before .before .before .before .loop-test .taken) (b .result) (b .ensures) (c .before .before .before .before .before .before .if1 .left) _ _ (x .result .report)
+    (omega (arith, c .before .before .before .before .before .before .before .before .before .before .loop-test .taken)) (b .result) (b .ensures) (c .before .before .before .before .before .before .if1 .left) _ _ (x .result .report)
     (x .ensures w (lent-at g (b .result) (c .before .before .before .before .before .wide .result) (c .before .before .before .before .before .wide .ensures .0)))
 
 same-length-2 : tie.Need-same-length-2 Inv-loop μ-loop

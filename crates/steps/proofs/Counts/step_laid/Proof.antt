@@ -1,4 +1,4 @@
-use Prim.Native.Nat.{ℕ}
+use Prim.Native.Nat.{ℕ, _<_}
 use native.Mathlib.Omega.{arith}
 use mathlib.Core.Path.{_≡_, refl, sym, ap, _∙_}
 use mathlib.Core.Logic.{⊎-elim}
@@ -15,7 +15,7 @@ returns : tie.Need-returns
 returns c =
     let a = c .before .before .before .before .before .args in
     rw (c .refused .ensures, c .before .met .ensures)
-    (λ w h. leaves-past (h .phased) (now (a .store)) (a .t1 .done) (now (a .memory)) (c .before .before .if1 .taken))
+    (λ w h. leaves-past (h .phased) (now (a .store)) (a .t1 .done) (now (a .memory)) (omega (arith, h .phased .few, c .before .before .if1 .taken)))
 
 -- searched for where nothing else is in reach
 counts-long : (c : tie.Start) → length (c .args .t1 .done) ≡ 64
@@ -23,8 +23,9 @@ counts-long c = search (needs, c .good)
 
 next-of-requires : tie.Need-next-of-requires
 next-of-requires c κs =
+    let a = c .before .before .before .before .before .args in
     let p = c .before .before .before .before .before .pre in
-    let l = c .before .before .if1 .left in
+    let l : a .b < a .processors = omega (arith, c .before .before .if1 .left) in
     ((p .0 .0, p .0 .1 .phased, p .0 .1 .listed l), l, counts-long (c .before .before .before .before .before))
 
 iterate-requires : tie.Need-iterate-requires
@@ -33,7 +34,7 @@ iterate-requires c κs =
     let p = c .before .before .before .before .before .before .before .before .before .before .pre in
     let w = p .0 .0 in
     let h = p .0 .1 in
-    let l = c .before .before .before .before .before .before .before .if1 .left in
+    let l : a .b < a .processors = omega (arith, c .before .before .before .before .before .before .before .if1 .left) in
     let x = c .before .before .before .before .next-of in
     let g = c .before .before .report .given in (
       tableIn (now (a .store)),
@@ -47,7 +48,7 @@ add-self c =
     let a = c .before .before .before .before .before .before .before .before .before .before .before .before .before .before .before .args in
     let p = c .before .before .before .before .before .before .before .before .before .before .before .before .before .before .before .pre in
     let h = p .0 .1 in
-    let l = c .before .before .before .before .before .before .before .before .before .before .before .before .if1 .left in
+    let l : a .b < a .processors = omega (arith, c .before .before .before .before .before .before .before .before .before .before .before .before .if1 .left) in
     let x = c .before .before .before .before .before .before .before .before .before .next-of in
     let g = c .before .before .before .before .before .before .before .report .given in
     let e = ap (λ (k : ℕ). getD (a .t1 .done) k 0) (c .before .wide .ensures .0) in
@@ -57,7 +58,7 @@ add-self c =
 returns-2 : tie.Need-returns-2
 returns-2 c =
     let a = c .before .before .before .before .before .before .before .before .before .before .before .before .before .before .before .args in
-    let l = c .before .before .before .before .before .before .before .before .before .before .before .before .if1 .left in
+    let l : a .b < a .processors = omega (arith, c .before .before .before .before .before .before .before .before .before .before .before .before .if1 .left) in
     let x = c .before .before .before .before .before .before .before .before .before .next-of in
     let g = c .before .before .before .before .before .before .before .report .given in
     let own = c .before .wide in
@@ -70,7 +71,7 @@ returns-2 c =
 returns-3 : tie.Need-returns-3
 returns-3 c =
     let a = c .before .before .before .before .before .before .before .args in
-    let l = c .before .before .before .before .if1 .left in
+    let l : a .b < a .processors = omega (arith, c .before .before .before .before .if1 .left) in
     let x = c .before .next-of in
     λ w h. leaves-other h l (a .t1 .done) (x .result) (x .ensures w (h .phased) (h .listed l)) (now (a .memory))
     (λ k i q. ⊎-elim (λ z. omega (arith, z)) (⊎-elim (λ z. omega (arith, z)) (λ z. omega (arith, z))) (rw q at (c .match .keys2)))
