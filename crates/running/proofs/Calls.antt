@@ -39,7 +39,8 @@ idling-small Waiting = omega arith
 idling-small Finished = omega arith
 
 -- no turn changes the memory's length
-turn-long : (w : Work Iteration) (c : List ℕ) (b : ℕ) (cs : List ℕ) (m : List Float) → length (turn (iteration 0 0) w (run (tableIn c)) b cs m .memory) ≡ length m
+turn-long : (w : Work Iteration) (c : List ℕ) (b : ℕ) (cs : List ℕ) (m : List Float)
+    → length (turn (iteration 0 0) w (run (tableIn c)) b cs m .memory) ≡ length m
 unfolding turn
 turn-long w c b cs m = go (next (iteration 0 0) w b cs)
   where

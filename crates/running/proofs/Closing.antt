@@ -15,7 +15,8 @@ use Rattle.model.specs.Bodies.{run}
 use Rattle.reader.specs.Store.{tableIn}
 use Rattle.iterations.specs.Memory.{total}
 use Rattle.turns.specs.Turn.{Work, After, turn}
-use Rattle.turns.specs.Row.{noneDone, reports, countsAfter, memoryAfter, performing, idle, lowest, canStep, closing, listed, rowOf, lowest-same, lowest-holds, memory-append, idle-append}
+use Rattle.turns.specs.Row.{noneDone, reports, countsAfter, memoryAfter, performing, idle, lowest, canStep, closing, listed, rowOf}
+use Rattle.turns.specs.Row.{lowest-same, lowest-holds, memory-append, idle-append}
 use Rattle.turns.specs.Reach.{Reachable}
 use Rattle.turns.specs.Meaning.{turn-said}
 use Rattle.barriers.specs.Code.{readyBy, listedBy}
@@ -117,7 +118,9 @@ pub rowed : {w : Work Iteration} {step : Step} {P : ℕ} {es xs c bs order cs : 
 unfolding rowOf
 rowed {w} {step} {P} {es} {order} {cs} {m} {mid} g o most e q = record {
   memory-is = q ∙ rw (same, o .counts-are, o .memory-is) (sym (memory-append step order (closing step P (listed w) counts memory) noneDone m));
-  idle-is = o .idle-is ∙ omega (arith, idle-append step order (closing step P (listed w) counts memory) noneDone m, closing-busy step P (listed w) counts memory);
+  idle-is =
+      let last = closing step P (listed w) counts memory in
+      o .idle-is ∙ omega (arith, idle-append step order last noneDone m, closing-busy step P (listed w) counts memory);
 }
   where
     counts : List ℕ

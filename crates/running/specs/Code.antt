@@ -23,7 +23,7 @@ pub record Calling (w : Work Iteration) (step : Step) (P : ℕ) (ends xs c bs : 
   pub calls : (b : ℕ) (cs : List ℕ) (m : List Float) → length m ≡ total (tableIn c) → Reachable w cs → step b cs m ≡ called w (tableIn c) b cs m
 
 -- what the calls of an order leave, from counts of 0 and the memory m
-pub record Ordered (w : Work Iteration) (step : Step) (c : List ℕ) (order : List ℕ) (m : List Float) (counts : List ℕ) (left : List Float) (n : ℕ) : Type 0 where
+pub record Ordered (w : Work Iteration) (step : Step) (c order : List ℕ) (m : List Float) (counts : List ℕ) (left : List Float) (n : ℕ) : Type 0 where
   pub counts-are : counts ≡ countsAfter step order noneDone m
   pub memory-is : left ≡ memoryAfter step order noneDone m
   pub idle-is : n ≡ idle (reports step order noneDone m)

@@ -13,9 +13,7 @@ use Rattle.refusals.specs.Refusals.{met}
 use Rattle.refusals.specs.Answers.{accepted, told-refused}
 use Rattle.reader.specs.Store.{tableIn}
 use Rattle.blocks.specs.declared.Axis.{Axis}
-use Rattle.bodies.specs.Workable.{Based}
 use Rattle.iterations.specs.Memory.{total, remembered, remembered-as-long, remembered-unlike}
-use Rattle.iterations.specs.Loaded.{Loaded}
 use Rattle.turns.specs.Turn.{After, turn, stepped, wrongState}
 use Rattle.barriers.specs.Code.{Ended, wrongBy}
 use Rattle.barriers.specs.Same.{wrong-by-open}
@@ -31,10 +29,6 @@ use Rattle.steps.specs.declared.Counts.{Counts}
 use Rattle.steps.specs.declared.Stepped.{Stepped}
 use Rattle.steps.specs.Called.{called}
 use Rattle.steps.specs.Leaves.{Leaves}
-
-module _ (a : Axis) (c : List ℕ) (h : Laid a c) where
-  pub loaded-in : (bs : List ℕ) → Based bs (tableIn c .lengths) → Loaded (tableIn c) c bs
-  loaded-in bs based = record { holds = h .held; valid = h .fit .valid; based = based }
 
 -- A STEP OF A PLAN
 module _ (a : Axis) (c : List ℕ) (b : ℕ) (cs : List ℕ) (m : List Float) where

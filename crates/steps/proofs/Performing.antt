@@ -20,6 +20,7 @@ use Rattle.barriers.specs.Same.{before-is}
 use Rattle.stepping.specs.declared.Report.{Report}
 use Rattle.stepping.specs.declared.Report.the-variants.{Refused, Performed}
 use Rattle.stepping.specs.Step.{reportOf}
+use Rattle.stepping.specs.Meaning.{said-performs}
 use Rattle.steps.specs.Lent.{Phased, Lent}
 use Rattle.steps.specs.Called.{called}
 use Rattle.steps.specs.Leaves.{Leaves}
@@ -31,12 +32,6 @@ leaves-past {w} {P} {b} p c cs m past =
     rw (le-ltb b (w .processors) (omega (arith, p .counted))) (record { counts-are = refl; memory-is = refl; report-is = refl })
 
 -- ONE BELOW P
-reported : (s : Said Iteration) (k i : ℕ) → Performed k i ≡ reportOf s → s ≡ performs (iteration k i)
-reported (refuses q) k i e = let z : _≡_ {A = ℕ} 0 1 = cc in absurd (omega arith)
-reported (performs x) k i e = let p : k ≡ x .number = cc in let q : i ≡ x .index = cc in rw (p, q)
-reported waits k i e = let z : _≡_ {A = ℕ} 0 1 = cc in absurd (omega arith)
-reported ends k i e = let z : _≡_ {A = ℕ} 0 1 = cc in absurd (omega arith)
-
 module _ {w : Work Iteration} {P b : ℕ} {es xs : List ℕ} {at : ℕ} {c bs : List ℕ} (h : Lent w P b es xs at c bs) (below : b < P) (cs : List ℕ) where
   proper : b < w .processors
   proper = omega (arith, h .phased .counted)
@@ -46,8 +41,9 @@ module _ {w : Work Iteration} {P b : ℕ} {es xs : List ℕ} {at : ℕ} {c bs : 
       let z : getD (w .list n b) (column cs b - before w n b) (iteration 0 0) ≡ x = cc in
       let i : column cs b - before w n b < length (w .list n b) = omega (arith, come .used) in
       let t = h .phased .two in
+      let m = nth-mem (w .list n b) (iteration 0 0) (column cs b - before w n b) i in
       let few : suc n ≤ w .phases = come .proper in (
-        subst (Inside (tableIn c)) z (h .listed below .inside n _ (omega (arith, few, t)) (nth-mem (w .list n b) (iteration 0 0) (column cs b - before w n b) i)),
+        subst (Inside (tableIn c)) z (h .listed below .inside n _ (omega (arith, few, t)) m),
         omega (arith, before-is (h .phased .ended) (suc n) b few proper, h .phased .ended .small (64 * n + b)),
       )
   performs-inside s x (halts n come some which) e = let z : _≡_ {A = ℕ} 0 1 = cc in absurd (omega arith)
@@ -58,7 +54,7 @@ module _ {w : Work Iteration} {P b : ℕ} {es xs : List ℕ} {at : ℕ} {c bs : 
     pub performed-inside : (k i : ℕ) → r ≡ Performed k i → Inside (tableIn c) (iteration k i) × (column cs b < 3200000)
     performed-inside k i f =
         performs-inside (next (iteration 0 0) w b cs) (iteration k i)
-        (turn-is (iteration 0 0) w (omega (arith, h .phased .two)) b cs) (reported (next (iteration 0 0) w b cs) k i (sym f ∙ told))
+        (turn-is (iteration 0 0) w (omega (arith, h .phased .two)) b cs) (said-performs (next (iteration 0 0) w b cs) k i (sym told ∙ f))
 
     module _ (m : List Float) where
       abbrev outcome : Said Iteration → After Iteration (List Float)
@@ -73,7 +69,7 @@ module _ {w : Work Iteration} {P b : ℕ} {es xs : List ℕ} {at : ℕ} {c bs : 
       pub leaves-performed : (k i : ℕ) → r ≡ Performed k i → (own : ℕ) → own ≡ b → (o : List Float) → o ≡ run (tableIn c) (iteration k i) m
           → Leaves (called w (tableIn c) b cs m) (set cs own (column cs own + 1)) o r
       leaves-performed k i f own e o q =
-          leaves (performs (iteration k i)) (reported (next (iteration 0 0) w b cs) k i (sym f ∙ told)) (set cs own (column cs own + 1)) o
+          leaves (performs (iteration k i)) (said-performs (next (iteration 0 0) w b cs) k i (sym told ∙ f)) (set cs own (column cs own + 1)) o
           (rw (e, add-one (column cs b))) q refl
 
       pub leaves-other : ((k i : ℕ) → r ≡ Performed k i → ⊥) → Leaves (called w (tableIn c) b cs m) cs m r

@@ -6,11 +6,15 @@ use lib.ListN.{length}
 use Rattle.reader.specs.Store.{tableIn}
 use Rattle.blocks.specs.declared.Axis.{Axis}
 use Rattle.barriers.specs.Code.{Ended}
+use Rattle.bodies.specs.Workable.{Based}
 use Rattle.iterations.specs.Loaded.{Loaded}
 use Rattle.plans.specs.Code.{Laid}
 use Rattle.ranges.specs.Listed.{few-loops, few-blocks}
 use Rattle.layouts.specs.Layout.{workIn, Stands, stands-list, work-inside}
 use Rattle.steps.specs.Lent.{Phased, Listed, Lent}
+
+pub loaded-in : {a : Axis} {c : List ℕ} → Laid a c → (bs : List ℕ) → Based bs (tableIn c .lengths) → Loaded (tableIn c) c bs
+loaded-in h bs based = record { holds = h .held; valid = h .fit .valid; based = based }
 
 module _ (a : Axis) (c : List ℕ) (h : Laid a c) (ends : List ℕ) (ended : Ended (workIn a c) ends) (long : length ends ≡ 192) where
   pub phased-in : Phased (workIn a c) (a .blocks) ends

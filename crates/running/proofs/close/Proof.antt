@@ -46,24 +46,31 @@ returns c =
     (omega (arith, c .before .before .before .before .loop-test .taken)) (c .before .lowest-ready .result) (c .before .lowest-ready .ensures) (c .if1 .taken)
 
 mul-at : tie.Need-mul-at Inv-loop μ-loop
-mul-at c = omega (arith, phased (c .before .before .before .before .before .before .before .before .before .pre .0 .1 .1) .few, c .wide .ensures .0, c .before .if1 .left)
+mul-at c =
+    let h = phased (c .before .before .before .before .before .before .before .before .before .pre .0 .1 .1) in
+    omega (arith, h .few, c .wide .ensures .0, c .before .if1 .left)
 
 step-laid-requires : tie.Need-step-laid-requires Inv-loop μ-loop
 step-laid-requires c κs =
     let p = c .before .before .before .before .before .before .before .before .before .before .pre in
     let w = p .0 .0 in
     let g = p .0 .1 .1 in
-    ((w, lent-at g (c .before .before .before .lowest-ready .result) (c .before .wide .result) (c .before .wide .ensures .0)), c .before .before .before .before .before .before .before .loop .inv w (p .0 .1 .0) g (p .0 .1 .2) .long)
+    let own = c .before .wide in
+    let i = c .before .before .before .before .before .before .before .loop .inv w (p .0 .1 .0) g (p .0 .1 .2) in
+    ((w, lent-at g (c .before .before .before .lowest-ready .result) (own .result) (own .ensures .0)), i .long)
 
 loop-again : tie.Need-loop-again Inv-loop μ-loop
 loop-again c =
     let a = c .before .before .before .before .before .before .before .before .before .before .before .before .before .before .args in
-    let l = c .before .before .before .before .before .before .before .before .before .before .before .loop in
-    let b = c .before .before .before .before .before .before .before .lowest-ready in
     let x = c .before .before .before .step-laid in
+    let own = c .before .before .before .before .before .wide in
+    let tested = c .before .before .before .before .before .before in
+    let b = tested .before .lowest-ready in
+    let t = tested .before .before .before .before in
+    let l = t .before .loop in
     λ w step g r. closing-next g (a .most) (a .from .done) (now (a .memory)) (l .counts .done) (l .memory) (l .left) (l .inv w step g r)
-    (omega (arith, c .before .before .before .before .before .before .before .before .before .before .loop-test .taken)) (b .result) (b .ensures) (c .before .before .before .before .before .before .if1 .left) _ _ (x .result .report)
-    (x .ensures w (lent-at g (b .result) (c .before .before .before .before .before .wide .result) (c .before .before .before .before .before .wide .ensures .0)))
+    (omega (arith, t .loop-test .taken)) (b .result) (b .ensures) (tested .if1 .left) _ _ (x .result .report)
+    (x .ensures w (lent-at g (b .result) (own .result) (own .ensures .0)))
 
 same-length-2 : tie.Need-same-length-2 Inv-loop μ-loop
 same-length-2 c =

@@ -22,7 +22,8 @@ close-requires c κs =
 returns : tie.Need-returns
 returns c =
     let x = c .before .before .before .before .before .listed in
-    λ w step g. let o = c .before .before .before .before .before .before .before .before .take-order .ensures w step g in rowed g o (x .result) (x .ensures) (c .before .before .close .ensures w step g (o .reachable))
+    let t = c .before .before .before .before .before .before .before .before .take-order in
+    λ w step g. let o = t .ensures w step g in rowed g o (x .result) (x .ensures) (c .before .before .close .ensures w step g (o .reachable))
 
 pub run-row-spec : {M : Type 1} → statement M
 run-row-spec =

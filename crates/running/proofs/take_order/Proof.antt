@@ -38,17 +38,20 @@ step-laid-requires c κs =
 add-idle : tie.Need-add-idle Inv-loop μ-loop
 add-idle c =
     let p = c .before .before .before .before .before .before .before .before .before .before .before .before .before .pre in
-    let i = c .before .before .before .before .before .before .before .before .before .loop .inv (p .0 .0) (p .0 .1 .0) (p .0 .1 .1) in
-    omega (arith, i .few, c .before .before .before .before .before .before .before .before .loop-test .taken, c .idle-of .ensures, idling-small (c .before .before .before .before .step-laid .result .report))
+    let t = c .before .before .before .before .before .before .before .before in
+    let i = t .before .loop .inv (p .0 .0) (p .0 .1 .0) (p .0 .1 .1) in
+    omega (arith, i .few, t .loop-test .taken, c .idle-of .ensures, idling-small (c .before .before .before .before .step-laid .result .report))
 
 loop-again : tie.Need-loop-again Inv-loop μ-loop
 loop-again c =
     let a = c .before .before .before .before .before .before .before .before .before .before .before .before .before .args in
-    let l = c .before .before .before .before .before .before .before .before .before .loop in
     let x = c .before .before .before .before .step-laid in
+    let own = c .before .before .before .before .before .before .wide in
+    let t = c .before .before .before .before .before .before .before .before in
+    let l = t .before .loop in
     λ w step g. rw (c .idle-of .ensures)
     (going-next w step (now (a .store)) (now (a .order)) (now (a .memory)) g (l .counts .done) _ (l .memory) _ (l .idle) (l .k) (x .result .report)
-    (l .inv w step g) (c .before .before .before .before .before .before .before .before .loop-test .taken) (x .ensures w (lent-at g _ (c .before .before .before .before .before .before .wide .result) (c .before .before .before .before .before .before .wide .ensures .0))))
+    (l .inv w step g) (t .loop-test .taken) (x .ensures w (lent-at g _ (own .result) (own .ensures .0))))
 
 same-length : tie.Need-same-length Inv-loop μ-loop
 same-length c =

@@ -6,8 +6,8 @@ use lib.ListN.{length}
 use Rattle.barriers.specs.Same.{zeros-small}
 use Rattle.iterations.specs.Loaded.{loaded-total}
 use Rattle.layouts.specs.Layout.{workIn}
-use Rattle.steps.specs.Laid.{lent-in}
-use Rattle.steps.proofs.Laws.{loaded-in, leaves-unlike, leaves-wrong, leaves-called}
+use Rattle.steps.specs.Laid.{loaded-in, lent-in}
+use Rattle.steps.proofs.Laws.{leaves-unlike, leaves-wrong, leaves-called}
 use borrow.Author.Needs.{needs}
 use Rattle.steps.proofs.Counts.step_planned.Statement.{statement}
 use Rattle.steps.proofs.Counts.step_planned.Tie as tie
@@ -20,7 +20,7 @@ returns c =
     let a = g .args in
     let p = g .pre in
     let st = now (a .store) in
-    let ld = loaded-in (a .a) st (p .0) (f .bases-of .result .firsts) (f .bases-of .ensures) in
+    let ld = loaded-in (p .0) (f .bases-of .result .firsts) (f .bases-of .ensures) in
     let n = loaded-total ld (d .wide .result) (d .wide .ensures .0) in
     rw (c .refused .ensures, c .before .met .ensures)
     (leaves-unlike (a .a) st (a .b) (a .t1 .done) (now (a .memory)) (λ e. c .before .before .if1 .taken (e ∙ sym n)))
@@ -37,7 +37,7 @@ returns-2 c =
     let a = g .args in
     let p = g .pre in
     let st = now (a .store) in
-    let ld = loaded-in (a .a) st (p .0) (f .bases-of .result .firsts) (f .bases-of .ensures) in
+    let ld = loaded-in (p .0) (f .bases-of .result .firsts) (f .bases-of .ensures) in
     let n = loaded-total ld (e .wide .result) (e .wide .ensures .0) in
     rw (c .refused2 .ensures, c .before .met2 .ensures)
     (leaves-wrong (a .a) st (a .b) (a .t1 .done) (now (a .memory)) (d .before .before .before .before .before .before .if1 .left ∙ n) _
@@ -52,7 +52,7 @@ step-laid-requires c κs =
     let a = g .before .before .args in
     let p = g .before .before .pre in
     let st = now (a .store) in
-    let ld = loaded-in (a .a) st (p .0) _ (g .bases-of .ensures) in
+    let ld = loaded-in (p .0) (g .bases-of .result .firsts) (g .bases-of .ensures) in
     let l = e .put-ends .ensures in
     let y = d .put-lists .ensures in
     let room : 0 + 96 ≤ length (d .put-lists .last .1 .1 .1 .0) = omega (arith, y .1 .long) in (
@@ -70,7 +70,7 @@ returns-3 c =
     let a = g .before .before .args in
     let p = g .before .before .pre in
     let st = now (a .store) in
-    let ld = loaded-in (a .a) st (p .0) _ (g .bases-of .ensures) in
+    let ld = loaded-in (p .0) (g .bases-of .result .firsts) (g .bases-of .ensures) in
     let n = loaded-total ld _ (f .wide .ensures .0) in
     let l = e .put-ends .ensures in
     let y = d .put-lists .ensures in
