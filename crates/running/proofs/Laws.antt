@@ -5,7 +5,6 @@ use mathlib.Core.Path.{_≡_, refl, sym, ap, _∙_}
 use mathlib.Core.List.{List}
 use lib.ListN.{length}
 use lib.Ieee.{Float}
-use borrow.Author.Tests.{lt-ltb, le-ltb}
 use Rattle.refusals.specs.declared.Refusal.{Refusal}
 use Rattle.refusals.specs.Refusals.{met, none}
 use Rattle.refusals.specs.Answers.{accepted, refused, refusalOf, told-refused}
@@ -14,10 +13,8 @@ use Rattle.blocks.specs.declared.Axis.{Axis}
 use Rattle.iterations.specs.Memory.{total, remembered, remembered-as-long, remembered-unlike}
 use Rattle.iterations.specs.Loaded.{Loaded}
 use Rattle.model.specs.declared.Iteration.{Iteration}
-use Rattle.model.specs.Table.{iteration}
-use Rattle.model.specs.Bodies.{run}
-use Rattle.turns.specs.Turn.{Work, refuses, stays, turn}
-use Rattle.turns.specs.Reachable.{Reachable}
+use Rattle.turns.specs.Turn.{Work}
+use Rattle.turns.specs.Reach.{Reachable}
 use Rattle.barriers.specs.Code.{Ended}
 use Rattle.plans.specs.Plans.{Settings, Planned, planned}
 use Rattle.plans.specs.Code.{plannedIn, Laid}
@@ -25,43 +22,31 @@ use Rattle.ranges.specs.Listed.{few-blocks}
 use Rattle.layouts.specs.Layout.{workIn, Stands}
 use Rattle.stepping.specs.Step.{workOf, elements, step}
 use Rattle.stepping.specs.Run.{runAnswer, runMemory, runIdle}
-use Rattle.stepping.specs.Reach.{step-turn, step-past}
-use Rattle.steps.specs.Ready.{ready-in}
-use Rattle.running.specs.Code.{Step, called, Given, Rowed}
+use Rattle.steps.specs.Laid.{lent-in}
+use Rattle.steps.specs.Called.{called}
+use Rattle.steps.specs.Same.{step-called}
+use Rattle.running.specs.Code.{Step, Calling, Rowed}
 use Rattle.running.specs.Runs.{Runs}
 
 -- WHAT THE CODE IS LENT, where the plan is laid out
 module _ (a : Axis) (c : List ℕ) (h : Laid a c) (es xs bs : List ℕ) (loaded : Loaded (tableIn c) c bs) (ended : Ended (workIn a c) es)
     (long : length es ≡ 192) (room : 6144 ≤ length xs) (stands : (b : ℕ) → b < a .blocks → Stands a c xs (96 * b) b) where
-  given-by : (step : Step)
-      → ((b : ℕ) (cs : List ℕ) (m : List Float) → length m ≡ total (tableIn c) → Reachable (workIn a c) cs → b < a .blocks
-      → step b cs m ≡ turn (iteration 0 0) (workIn a c) (run (tableIn c)) b cs m)
-      → ((b : ℕ) (cs : List ℕ) (m : List Float) → a .blocks ≤ b → step b cs m ≡ stays cs m (refuses (met 10 0)))
-      → Given (workIn a c) step (a .blocks) es xs c bs
-  given-by step turns past = record {
-    counted = refl;
-    few = few-blocks a c h;
-    two = refl;
-    ended = ended;
-    ends-long = long;
-    ready = λ b l.
-        ready-in a b es xs (96 * b) c bs h l ended long (omega (arith, few-blocks a c h)) (stands b l) loaded;
-    turns = turns;
-    past = past;
+  calling-by : (step : Step) → ((b : ℕ) (cs : List ℕ) (m : List Float) → length m ≡ total (tableIn c) → Reachable (workIn a c) cs
+      → step b cs m ≡ called (workIn a c) (tableIn c) b cs m) → Calling (workIn a c) step (a .blocks) es xs c bs
+  calling-by step calls = record {
+    lent = λ b. lent-in a c h es ended long b xs (96 * b) bs (λ l. (omega (arith, few-blocks a c h), stands b l)) loaded;
+    calls = calls;
   }
 
   -- for the bytes of an accepted table
-  pub given-in : (s : List ℕ) (w : Settings) → planned s w ≡ accepted (plannedIn a c) → Given (workIn a c) (step s w) (a .blocks) es xs c bs
-  given-in s w e = given-by (step s w) (step-turn s w (plannedIn a c) e) (step-past s w (plannedIn a c) e)
+  pub calling-in : (s : List ℕ) (w : Settings) → planned s w ≡ accepted (plannedIn a c) → Calling (workIn a c) (step s w) (a .blocks) es xs c bs
+  calling-in s w e = calling-by (step s w) (step-called s w (plannedIn a c) e)
 
   -- and where no bytes are at hand
-  pub given-some : (w : Work Iteration) × ((step : Step) × Given w step (a .blocks) es xs c bs)
-  given-some = (
+  pub calling-some : (w : Work Iteration) × ((step : Step) × Calling w step (a .blocks) es xs c bs)
+  calling-some = (
     workIn a c,
-    (
-      called (workIn a c) (a .blocks) c,
-      given-by (called (workIn a c) (a .blocks) c) (λ b cs m l r i. rw (lt-ltb b (a .blocks) i)) (λ b cs m l. rw (le-ltb b (a .blocks) l)),
-    ),
+    (called (workIn a c) (tableIn c), calling-by (called (workIn a c) (tableIn c)) (λ b cs m l r. refl)),
   )
 
 -- THE RUN

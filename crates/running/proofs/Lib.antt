@@ -1,4 +1,8 @@
--- calls one after the other: those of an order, then those that use up the lists
+-- one call
 pub mod Calls
--- what a run of them leaves
+-- the calls of an order
+pub mod Order
+-- the calls that use up the lists
+pub mod Closing
+-- a run of an accepted plan
 pub mod Laws

@@ -11,8 +11,9 @@ use records::Store;
 use refusals::MEMORY;
 use refusals::Refusal;
 use stepping::Report;
+use steps::Counts;
 ghost use mathlib.Core.Path.{_≡_};
-ghost use Prim.Native.Nat.{ℕ, _≤_, _<_};
+ghost use Prim.Native.Nat.{ℕ};
 ghost use mathlib.Core.List.{List};
 ghost use lib.ListN.{length};
 ghost use Rattle.model.specs.declared.Iteration.{Iteration};
@@ -20,11 +21,12 @@ ghost use Rattle.refusals.specs.Answers.{accepted};
 ghost use Rattle.reader.specs.Store.{tableIn};
 ghost use Rattle.iterations.specs.Memory.{total};
 ghost use Rattle.turns.specs.Turn.{Work};
-ghost use Rattle.turns.specs.Row.{noneDone, closing, memoryAfter};
-ghost use Rattle.turns.specs.Reachable.{Reachable};
+ghost use Rattle.turns.specs.Row.{closing, memoryAfter};
+ghost use Rattle.turns.specs.Reach.{Reachable};
 ghost use Rattle.plans.specs.Plans.{Settings, settings, planned};
 ghost use Rattle.plans.specs.Code.{Laid, plannedIn};
-ghost use Rattle.running.specs.Code.{Step, Idles, called, Readies, Given, Left, Ordered, Rowed};
+ghost use Rattle.running.specs.Code.{Step, Calling, Ordered, Rowed};
+ghost use Rattle.running.specs.Idle.{idling};
 ghost use Rattle.running.specs.Runs.{Runs};
 
 // What a run answers: what is refused, and how many calls were idle.
@@ -33,9 +35,15 @@ pub struct Ran {
     pub idle: usize,
 }
 
+// What the calls of an order leave: the counts, and how many of them were idle.
+struct Taken {
+    counts: Counts,
+    idle: usize,
+}
+
 // 1 for a call that waits, is finished or is refused.
 fn idle_of(report: Report) -> usize
-    ensures { λ r. ⌜ Idles r report ⌝ }
+    ensures { λ r. ⌜ r ≡ idling report ⌝ }
 {
     match report {
         Report::Refused(_) => 1,
@@ -48,41 +56,8 @@ fn idle_of(report: Report) -> usize
     }
 }
 
-// One call, which names any number: it is idle if that is not below P. Answers 1 where it is idle, else 0.
-fn call(
-    counts: &mut [u32; 64],
-    number: u8,
-    processors: u32,
-    ends: &Ends,
-    lists: &[u32],
-    store: &Store,
-    bases: &[u32; 17],
-    memory: &mut [f64],
-) -> usize
-    requires { ⌜ ((w : Work Iteration) × Readies w processors (now ends) (now lists) (now store) (now bases)) × (processors ≤ 64) × (length (now counts) ≡ 64) × (length (now memory) ≡ total (tableIn (now store))) ⌝ }
-    ensures { λ r. ⌜ ((w : Work Iteration) → Readies w processors (now (ends .entry)) (now (lists .entry)) (now (store .entry)) (now (bases .entry)) → Left (called w processors (now (store .entry)) number (now (counts .entry)) (now (memory .entry))) (now (counts .exit)) (now (memory .exit)) r) ⌝ }
-{
-    let b = number as u32;
-    if processors <= b {
-        return 1;
-    }
-    let report = steps::turn(
-        counts,
-        b,
-        processors,
-        ends,
-        lists,
-        LISTS * wide(b),
-        store,
-        bases,
-        memory,
-    );
-    idle_of(report)
-}
-
-// A call for each byte of the order, from counts of 0; answers how many were idle.
+// A step for each byte of the order, from counts of 0.
 fn take_order(
-    counts: &mut [u32; 64],
     order: &[u8],
     processors: u32,
     ends: &Ends,
@@ -90,31 +65,28 @@ fn take_order(
     store: &Store,
     bases: &[u32; 17],
     memory: &mut [f64],
-) -> usize
-    requires { ⌜ ((w : Work Iteration) × ((step : Step) × Given w step processors (now ends) (now lists) (now store) (now bases))) × (now counts ≡ noneDone) × (length (now memory) ≡ total (tableIn (now store))) ⌝ }
-    ensures { λ r. ⌜ ((w : Work Iteration) (step : Step) → Given w step processors (now (ends .entry)) (now (lists .entry)) (now (store .entry)) (now (bases .entry)) → Ordered w step (now (store .entry)) (now (order .entry)) (now (memory .entry)) (now (counts .exit)) (now (memory .exit)) r) ⌝ }
+) -> Taken
+    requires { ⌜ ((w : Work Iteration) × ((step : Step) × Calling w step processors (now ends) (now lists) (now store) (now bases))) × (length (now memory) ≡ total (tableIn (now store))) ⌝ }
+    ensures { λ r. ⌜ ((w : Work Iteration) (step : Step) → Calling w step processors (now (ends .entry)) (now (lists .entry)) (now (store .entry)) (now (bases .entry)) → Ordered w step (now (store .entry)) (now (order .entry)) (now (memory .entry)) (r .counts .done) (now (memory .exit)) (r .idle)) ⌝ }
 {
+    let mut counts = Counts { done: [0u32; 64] };
     let mut idle: usize = 0;
     let mut k: usize = 0;
     while k < order.len() {
-        idle += call(
-            counts,
-            order[k],
-            processors,
-            ends,
-            lists,
-            store,
-            bases,
-            memory,
-        );
+        let b = order[k] as u32;
+        let at = LISTS * wide(b);
+        let r = counts.step_laid(b, processors, ends, lists, at, store, bases, memory);
+        let report = r.report;
+        counts = r.counts;
+        idle += idle_of(report);
         k += 1;
     }
-    idle
+    Taken { counts, idle }
 }
 
-// Calls for the lowest-numbered processor that can step, until there is none, and no more than `most`.
+// Steps of the lowest-numbered processor that can step, until there is none, and no more than `most`.
 fn close(
-    counts: &mut [u32; 64],
+    from: Counts,
     most: u32,
     processors: u32,
     ends: &Ends,
@@ -123,26 +95,19 @@ fn close(
     bases: &[u32; 17],
     memory: &mut [f64],
 )
-    requires { ⌜ ((w : Work Iteration) × ((step : Step) × Given w step processors (now ends) (now lists) (now store) (now bases) × Reachable w (now counts))) × (length (now memory) ≡ total (tableIn (now store))) ⌝ }
-    ensures { λ _. ⌜ ((w : Work Iteration) (step : Step) → Given w step processors (now (ends .entry)) (now (lists .entry)) (now (store .entry)) (now (bases .entry)) → Reachable w (now (counts .entry)) → now (memory .exit) ≡ memoryAfter step (closing step processors most (now (counts .entry)) (now (memory .entry))) (now (counts .entry)) (now (memory .entry))) ⌝ }
+    requires { ⌜ ((w : Work Iteration) × ((step : Step) × Calling w step processors (now ends) (now lists) (now store) (now bases) × Reachable w (from .done))) × (length (now memory) ≡ total (tableIn (now store))) ⌝ }
+    ensures { λ _. ⌜ ((w : Work Iteration) (step : Step) → Calling w step processors (now (ends .entry)) (now (lists .entry)) (now (store .entry)) (now (bases .entry)) → Reachable w (from .done) → now (memory .exit) ≡ memoryAfter step (closing step processors most (from .done) (now (memory .entry))) (from .done) (now (memory .entry))) ⌝ }
 {
+    let mut counts = from;
     let mut left = most;
     while 0 < left {
-        let b = barriers::lowest_ready(counts, ends, processors, PHASES);
+        let b = barriers::lowest_ready(&counts.done, ends, processors, PHASES);
         if processors <= b {
             return;
         }
-        steps::turn(
-            counts,
-            b,
-            processors,
-            ends,
-            lists,
-            LISTS * wide(b),
-            store,
-            bases,
-            memory,
-        );
+        let at = LISTS * wide(b);
+        let r = counts.step_laid(b, processors, ends, lists, at, store, bases, memory);
+        counts = r.counts;
         left -= 1;
     }
 }
@@ -157,32 +122,14 @@ fn run_row(
     bases: &[u32; 17],
     memory: &mut [f64],
 ) -> usize
-    requires { ⌜ ((w : Work Iteration) × ((step : Step) × Given w step processors (now ends) (now lists) (now store) (now bases))) × (length (now memory) ≡ total (tableIn (now store))) ⌝ }
-    ensures { λ r. ⌜ ((w : Work Iteration) (step : Step) → Given w step processors (now (ends .entry)) (now (lists .entry)) (now (store .entry)) (now (bases .entry)) → Rowed w step processors (now (order .entry)) (now (memory .entry)) (now (memory .exit)) r) ⌝ }
+    requires { ⌜ ((w : Work Iteration) × ((step : Step) × Calling w step processors (now ends) (now lists) (now store) (now bases))) × (length (now memory) ≡ total (tableIn (now store))) ⌝ }
+    ensures { λ r. ⌜ ((w : Work Iteration) (step : Step) → Calling w step processors (now (ends .entry)) (now (lists .entry)) (now (store .entry)) (now (bases .entry)) → Rowed w step processors (now (order .entry)) (now (memory .entry)) (now (memory .exit)) r) ⌝ }
 {
-    let mut counts = [0u32; 64];
-    let idle = take_order(
-        &mut counts,
-        order,
-        processors,
-        ends,
-        lists,
-        store,
-        bases,
-        memory,
-    );
+    let taken = take_order(order, processors, ends, lists, store, bases, memory);
     let most = barriers::listed(ends, processors, PHASES);
-    close(
-        &mut counts,
-        most,
-        processors,
-        ends,
-        lists,
-        store,
-        bases,
-        memory,
-    );
-    idle
+    let counts = taken.counts;
+    close(counts, most, processors, ends, lists, store, bases, memory);
+    taken.idle
 }
 
 // The run of an accepted plan: 12, then the calls.

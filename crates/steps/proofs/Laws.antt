@@ -1,10 +1,11 @@
--- A step of an accepted plan: 12, 15, or the turn.
+-- A step of an accepted plan: 12, 15, or the step of the plan as it is laid out.
 use Prim.Native.Nat.{ℕ, _<_}
 use mathlib.Core.Path.{_≡_, refl, sym, _∙_}
 use mathlib.Core.Bool.{Bool, true, false}
 use mathlib.Core.List.{List}
 use lib.ListN.{length}
 use lib.Ieee.{Float}
+use borrow.Author.Tests.{lt-ltb}
 use Rattle.model.specs.declared.Iteration.{Iteration}
 use Rattle.model.specs.Table.{iteration}
 use Rattle.model.specs.Bodies.{run}
@@ -12,9 +13,7 @@ use Rattle.refusals.specs.Refusals.{met}
 use Rattle.refusals.specs.Answers.{accepted, told-refused}
 use Rattle.reader.specs.Store.{tableIn}
 use Rattle.blocks.specs.declared.Axis.{Axis}
-use Rattle.bodies.specs.Workable.{Based}
 use Rattle.iterations.specs.Memory.{total, remembered, remembered-as-long, remembered-unlike}
-use Rattle.iterations.specs.Loaded.{Loaded}
 use Rattle.turns.specs.Turn.{After, turn, stepped, wrongState}
 use Rattle.barriers.specs.Code.{Ended, wrongBy}
 use Rattle.barriers.specs.Same.{wrong-by-open}
@@ -28,11 +27,8 @@ use Rattle.stepping.specs.declared.Report.the-variants.{Refused}
 use Rattle.stepping.specs.Step.{elements, steppedBy, step}
 use Rattle.steps.specs.declared.Counts.{Counts}
 use Rattle.steps.specs.declared.Stepped.{Stepped}
-use Rattle.steps.specs.Ready.{Leaves}
-
-module _ (a : Axis) (c : List ℕ) (h : Laid a c) where
-  pub loaded-in : (bs : List ℕ) → Based bs (tableIn c .lengths) → Loaded (tableIn c) c bs
-  loaded-in bs based = record { holds = h .held; valid = h .fit .valid; based = based }
+use Rattle.steps.specs.Called.{called}
+use Rattle.steps.specs.Leaves.{Leaves}
 
 -- A STEP OF A PLAN
 module _ (a : Axis) (c : List ℕ) (b : ℕ) (cs : List ℕ) (m : List Float) where
@@ -55,10 +51,12 @@ module _ (a : Axis) (c : List ℕ) (b : ℕ) (cs : List ℕ) (m : List Float) wh
     leaves-wrong e =
         rw (remembered-as-long elements (length m) (plannedIn a c) long, wrong ∙ e) (record { counts-are = refl; memory-is = refl; report-is = refl })
 
-    pub leaves-turn : x ≡ false → (ds : List ℕ) (o : List Float) (r : Report)
-        → Leaves (turn (iteration 0 0) (workIn a c) (run (tableIn c)) b cs m) ds o r → Leaves outcome ds o r
+    -- or what is called
+    pub leaves-called : x ≡ false → b < a .blocks → (ds : List ℕ) (o : List Float) (r : Report) → Leaves (called (workIn a c) (tableIn c) b cs m) ds o r
+        → Leaves outcome ds o r
     unfolding steppedBy stepped
-    leaves-turn e ds o r l = rw (remembered-as-long elements (length m) (plannedIn a c) long, wrong ∙ e) l
+    leaves-called e proper ds o r l =
+        rw (remembered-as-long elements (length m) (plannedIn a c) long, wrong ∙ e) (rw (lt-ltb b (a .blocks) proper) at l)
 
 -- A STEP FROM BYTES
 module _ (s : List ℕ) (w : Settings) (b : ℕ) (p : Plan) (c : List ℕ) (h : Plans (plannedFor s w b) p c) (k : Counts) (m : List Float) where

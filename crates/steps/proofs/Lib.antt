@@ -1,4 +1,6 @@
--- what the next call reports, and what performing it leaves
+-- what the next call reports
 pub mod Next
+-- what performing it leaves
+pub mod Performing
 -- a step of an accepted plan
 pub mod Laws

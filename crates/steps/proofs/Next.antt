@@ -1,4 +1,4 @@
--- What the next call of a processor reports, from where its phases end and its lists; and what performing it leaves.
+-- What the next call of a processor reports, from where its phases end and its lists.
 use Prim.Native.Nat.{ℕ, zero, suc, _+_, _-_, _*_, _≤_, _<_}
 use native.Mathlib.Omega.{arith}
 use native.Mathlib.Numerals.{add-one}
@@ -23,7 +23,9 @@ use Rattle.ranges.specs.Code.{listOf}
 use Rattle.stepping.specs.declared.Report.{Report}
 use Rattle.stepping.specs.declared.Report.the-variants.{Performed, Waiting, Finished}
 use Rattle.stepping.specs.Step.{reportOf}
-use Rattle.steps.specs.Ready.{Listed, Ready, Leaves}
+use Rattle.steps.specs.Lent.{Phased, Listed, Lent}
+use Rattle.steps.specs.Called.{called}
+use Rattle.steps.specs.Leaves.{Leaves}
 
 -- a phase that a processor has come to is behind it no further than what it has done
 pub come-used : (es : List ℕ) (b done m : ℕ) → beforeBy es (comeBy es b done m) b ≤ done
@@ -35,29 +37,28 @@ come-used es b done (suc m) = go (leb (beforeBy es (suc m) b) done) refl (come-u
     go true e ih = leb-true (beforeBy es (suc m) b) done e
     go false e ih = ih
 
--- THE NEXT REPORT
-module _ {w : Work Iteration} {P b : ℕ} {es xs : List ℕ} {at : ℕ} {c : List ℕ} (h : Listed w P b es xs at c) (cs : List ℕ) (n : ℕ)
-    (found : n ≡ phaseBy es 2 b (column cs b)) (small : n < 2) where
+module _ {w : Work Iteration} {P b : ℕ} {es xs : List ℕ} {at : ℕ} {c : List ℕ} (p : Phased w P es) (h : Listed w b xs at c) (below : b < P)
+    (cs : List ℕ) (n : ℕ) (found : n ≡ phaseBy es 2 b (column cs b)) (small : n < 2) where
   abbrev done : ℕ
   done = column cs b
 
   proper : b < w .processors
-  proper = omega (arith, h .counted, h .proper)
+  proper = omega (arith, p .counted)
 
   come : n ≡ phaseOf w b done
-  come = found ∙ ap (λ (m : ℕ). phaseBy es m b done) (sym (h .two)) ∙ phase-is (h .ended) b done proper
+  come = found ∙ ap (λ (m : ℕ). phaseBy es m b done) (sym (p .two)) ∙ phase-is (p .ended) b done proper
 
   early : beforeBy es n b ≡ before w n b
-  early = before-is (h .ended) n b (omega (arith, h .two)) proper
+  early = before-is (p .ended) n b (omega (arith, p .two)) proper
 
   late : beforeBy es (n + 1) b ≡ before w (suc n) b
-  late = rw (add-one n) (before-is (h .ended) (suc n) b (omega (arith, h .two)) proper)
+  late = rw (add-one n) (before-is (p .ended) (suc n) b (omega (arith, p .two)) proper)
 
   pub used : beforeBy es n b ≤ done
   used = subst (λ (m : ℕ). beforeBy es m b ≤ done) (sym found) (come-used es b done 1)
 
   opens : (x : Bool) → x ≡ closedBy P es cs n → closed w cs n ≡ x
-  opens x e = sym (closed-is (h .ended) cs n (omega (arith, h .two))) ∙ ap (λ (p : ℕ). closedBy p es cs n) (h .counted) ∙ sym e
+  opens x e = sym (closed-is (p .ended) cs n (omega (arith, p .two))) ∙ ap (λ (k : ℕ). closedBy k es cs n) (p .counted) ∙ sym e
 
   pub says-waits : true ≡ closedBy P es cs n → Waiting ≡ reportOf (next (iteration 0 0) w b cs)
   unfolding next
@@ -90,52 +91,3 @@ module _ {w : Work Iteration} {P b : ℕ} {es xs : List ℕ} {at : ℕ} {c : Lis
     pub nth-says : false ≡ closedBy P es cs n → (x : Iteration) → x ≡ getD (listOf xs place loops n) m (iteration 0 0)
         → Performed (x .number) (x .index) ≡ reportOf (next (iteration 0 0) w b cs)
     nth-says e x q = says-performs e more x (rw (at-phase, loops-are, m-is) at q)
-
--- WHAT PERFORMING IT LEAVES
-reported : (s : Said Iteration) (k i : ℕ) → Performed k i ≡ reportOf s → s ≡ performs (iteration k i)
-reported (refuses q) k i e = let z : _≡_ {A = ℕ} 0 1 = cc in absurd (omega arith)
-reported (performs x) k i e = let p : k ≡ x .number = cc in let q : i ≡ x .index = cc in rw (p, q)
-reported waits k i e = let z : _≡_ {A = ℕ} 0 1 = cc in absurd (omega arith)
-reported ends k i e = let z : _≡_ {A = ℕ} 0 1 = cc in absurd (omega arith)
-
-module _ {w : Work Iteration} {P b : ℕ} {es xs : List ℕ} {at : ℕ} {c bs : List ℕ} (h : Ready w P b es xs at c bs) (cs : List ℕ) where
-  performs-inside : (s : Said Iteration) (x : Iteration) → Turn (iteration 0 0) w b cs s → s ≡ performs x → Inside (tableIn c) x × (column cs b < 3200000)
-  performs-inside s x (does n come opened more) e =
-      let z : getD (w .list n b) (column cs b - before w n b) (iteration 0 0) ≡ x = cc in
-      let i : column cs b - before w n b < length (w .list n b) = omega (arith, come .used) in
-      let t = h .listed .two in
-      let few : suc n ≤ w .phases = come .proper in (
-        subst (Inside (tableIn c)) z (h .inside n _ (omega (arith, few, t)) (nth-mem (w .list n b) (iteration 0 0) (column cs b - before w n b) i)),
-        omega (arith, before-is (h .listed .ended) (suc n) b few (omega (arith, h .listed .counted, h .listed .proper)), h .listed .ended .small (64 * n + b)),
-      )
-  performs-inside s x (halts n come some which) e = let z : _≡_ {A = ℕ} 0 1 = cc in absurd (omega arith)
-  performs-inside s x (stops used opened) e = let z : _≡_ {A = ℕ} 0 1 = cc in absurd (omega arith)
-
-  -- the iteration that is reported is one of the table, and its count has room
-  pub performed-inside : (k i : ℕ) (r : Report) → r ≡ reportOf (next (iteration 0 0) w b cs) → r ≡ Performed k i
-      → Inside (tableIn c) (iteration k i) × (column cs b < 3200000)
-  performed-inside k i r e f =
-      performs-inside (next (iteration 0 0) w b cs) (iteration k i)
-      (turn-is (iteration 0 0) w (omega (arith, h .listed .two)) b cs) (reported (next (iteration 0 0) w b cs) k i (sym f ∙ e))
-
-  module _ (m : List Float) (r : Report) (told : r ≡ reportOf (next (iteration 0 0) w b cs)) where
-    leaves : (s : Said Iteration) → next (iteration 0 0) w b cs ≡ s → (ds : List ℕ) (o : List Float) → ds ≡ after (run (tableIn c)) b cs m s .counts
-        → o ≡ after (run (tableIn c)) b cs m s .memory → reportOf (after (run (tableIn c)) b cs m s .said) ≡ reportOf s
-        → Leaves (turn (iteration 0 0) w (run (tableIn c)) b cs m) ds o r
-    unfolding turn
-    leaves s e ds o p q g = rw e (record { counts-are = p; memory-is = q; report-is = told ∙ ap reportOf e ∙ sym g })
-
-    pub leaves-performed : (k i : ℕ) → r ≡ Performed k i → (own : ℕ) → own ≡ b → (o : List Float) → o ≡ run (tableIn c) (iteration k i) m
-        → Leaves (turn (iteration 0 0) w (run (tableIn c)) b cs m) (set cs own (column cs own + 1)) o r
-    leaves-performed k i f own e o q =
-        leaves (performs (iteration k i)) (reported (next (iteration 0 0) w b cs) k i (sym f ∙ told)) (set cs own (column cs own + 1)) o
-        (rw (e, add-one (column cs b))) q refl
-
-    pub leaves-other : ((k i : ℕ) → r ≡ Performed k i → ⊥) → Leaves (turn (iteration 0 0) w (run (tableIn c)) b cs m) cs m r
-    leaves-other n = go (next (iteration 0 0) w b cs) refl
-      where
-        go : (s : Said Iteration) → next (iteration 0 0) w b cs ≡ s → Leaves (turn (iteration 0 0) w (run (tableIn c)) b cs m) cs m r
-        go (refuses q) e = leaves (refuses q) e cs m refl refl refl
-        go (performs x) e = absurd (n (x .number) (x .index) (told ∙ ap reportOf e))
-        go waits e = leaves waits e cs m refl refl refl
-        go ends e = leaves ends e cs m refl refl refl

@@ -1,4 +1,12 @@
--- what the code of a turn is lent, and what it leaves
-pub mod Ready
+-- what the code of a step is lent
+pub mod Lent
+-- so it is of a plan that is laid out
+pub mod Laid
+-- a step of a plan that is laid out, whatever number it names
+pub mod Called
+-- it is the step from the table's bytes
+pub mod Same
+-- what a step leaves
+pub mod Leaves
 -- what a refused call hands back
 pub mod Refusing

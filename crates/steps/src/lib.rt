@@ -9,6 +9,7 @@ use ranges::PHASES;
 use records::STORE;
 use records::Store;
 use refusals::MEMORY;
+use refusals::PROCESSORS;
 use refusals::Refusal;
 use refusals::STATE;
 use stepping::Report;
@@ -16,7 +17,6 @@ ghost use mathlib.Core.Path.{_≡_};
 ghost use Prim.Native.Nat.{_<_};
 ghost use lib.ListN.{length};
 ghost use Rattle.model.specs.Table.{iteration};
-ghost use Rattle.model.specs.Bodies.{run};
 ghost use Rattle.model.specs.declared.Iteration.{Iteration};
 ghost use Rattle.refusals.specs.Answers.{accepted};
 ghost use Rattle.reader.specs.Store.{tableIn};
@@ -26,7 +26,9 @@ ghost use Rattle.turns.specs.Turn.{Work};
 ghost use Rattle.plans.specs.Plans.{settings};
 ghost use Rattle.plans.specs.Code.{Laid, plannedIn};
 ghost use Rattle.stepping.specs.Step.{reportOf, elements, steppedBy, step};
-ghost use Rattle.steps.specs.Ready.{Listed, Ready, Leaves};
+ghost use Rattle.steps.specs.Lent.{Phased, Listed, Lent};
+ghost use Rattle.steps.specs.Called.{called};
+ghost use Rattle.steps.specs.Leaves.{Leaves};
 ghost use Rattle.steps.specs.Refusing.{refusing};
 
 // How many iterations each processor has done.
@@ -50,8 +52,8 @@ fn next_of(
     at: usize,
     store: &Store,
 ) -> Report
-    requires { ⌜ ((w : Work Iteration) × Listed w processors b (now ends) (now lists) at (now store)) × (length (now counts) ≡ 64) ⌝ }
-    ensures { λ r. ⌜ ((w : Work Iteration) → Listed w processors b (now (ends .entry)) (now (lists .entry)) at (now (store .entry)) → r ≡ reportOf (turns.next (iteration 0 0) w b (now (counts .entry)))) ⌝ }
+    requires { ⌜ ((w : Work Iteration) × Phased w processors (now ends) × Listed w b (now lists) at (now store)) × (b < processors) × (length (now counts) ≡ 64) ⌝ }
+    ensures { λ r. ⌜ ((w : Work Iteration) → Phased w processors (now (ends .entry)) → Listed w b (now (lists .entry)) at (now (store .entry)) → r ≡ reportOf (turns.next (iteration 0 0) w b (now (counts .entry)))) ⌝ }
 {
     let done = counts[wide(b)];
     let phase = barriers::phase_of(ends, PHASES, b, done);
@@ -71,29 +73,6 @@ fn next_of(
     }
 }
 
-// One step of processor b: what it reports, performed.
-pub fn turn(
-    counts: &mut [u32; 64],
-    b: u32,
-    processors: u32,
-    ends: &Ends,
-    lists: &[u32],
-    at: usize,
-    store: &Store,
-    bases: &[u32; 17],
-    memory: &mut [f64],
-) -> Report
-    requires { ⌜ ((w : Work Iteration) × Ready w processors b (now ends) (now lists) at (now store) (now bases)) × (length (now counts) ≡ 64) × (length (now memory) ≡ total (tableIn (now store))) ⌝ }
-    ensures { λ r. ⌜ ((w : Work Iteration) → Ready w processors b (now (ends .entry)) (now (lists .entry)) at (now (store .entry)) (now (bases .entry)) → Leaves (turns.turn (iteration 0 0) w (run (tableIn (now (store .entry)))) b (now (counts .entry)) (now (memory .entry))) (now (counts .exit)) (now (memory .exit)) r) ⌝ }
-{
-    let report = next_of(counts, b, processors, ends, lists, at, store);
-    if let Report::Performed { number, index } = report {
-        iterations::iterate(store, bases, number, index, memory);
-        counts[wide(b)] += 1;
-    }
-    report
-}
-
 impl Counts {
     // A refused call hands back the counts as found.
     fn refused(self, r: Refusal) -> Stepped
@@ -105,7 +84,37 @@ impl Counts {
         }
     }
 
-    // One step of processor b of an accepted plan: 12, 15, then the turn.
+    // One step of a plan that is laid out, whatever number b it names: 10 if that is not below P, else what processor b reports, performed.
+    // The public step and every call of a run is one of this.
+    pub fn step_laid(
+        mut self,
+        b: u32,
+        processors: u32,
+        ends: &Ends,
+        lists: &[u32],
+        at: usize,
+        store: &Store,
+        bases: &[u32; 17],
+        memory: &mut [f64],
+    ) -> Stepped
+        requires { ⌜ ((w : Work Iteration) × Lent w processors b (now ends) (now lists) at (now store) (now bases)) × (length (now memory) ≡ total (tableIn (now store))) ⌝ }
+        ensures { λ r. ⌜ ((w : Work Iteration) → Lent w processors b (now (ends .entry)) (now (lists .entry)) at (now (store .entry)) (now (bases .entry)) → Leaves (called w (tableIn (now (store .entry))) b (self .done) (now (memory .entry))) (r .counts .done) (now (memory .exit)) (r .report)) ⌝ }
+    {
+        if processors <= b {
+            return self.refused(Refusal::met(PROCESSORS, 0));
+        }
+        let report = next_of(&self.done, b, processors, ends, lists, at, store);
+        if let Report::Performed { number, index } = report {
+            iterations::iterate(store, bases, number, index, memory);
+            self.done[wide(b)] += 1;
+        }
+        Stepped {
+            counts: self,
+            report,
+        }
+    }
+
+    // One step of processor b of an accepted plan: 12, 15, then the step of the plan as it is laid out.
     fn step_planned(self, a: Axis, b: u32, store: &Store, memory: &mut [f64]) -> Stepped
         requires { ⌜ Laid a (now store) × (b < a .blocks) ⌝ }
         ensures { λ r. ⌜ Leaves (steppedBy b (self .done) (now (memory .entry)) (remembered elements (length (now (memory .entry))) (accepted (plannedIn a (now (store .entry)))))) (r .counts .done) (now (memory .exit)) (r .report) ⌝ }
@@ -117,27 +126,12 @@ impl Counts {
         }
         let mut ends = [0u32; ENDS];
         layouts::put_ends(a, store, &mut ends);
-        let mut done = self.done;
-        if barriers::wrong_state(&done, &ends, a.blocks, PHASES) {
+        if barriers::wrong_state(&self.done, &ends, a.blocks, PHASES) {
             return self.refused(Refusal::met(STATE, 0));
         }
         let mut lists = [0u32; LISTS];
         layouts::put_lists(a, b, store, &mut lists[..], 0);
-        let report = turn(
-            &mut done,
-            b,
-            a.blocks,
-            &ends,
-            &lists[..],
-            0,
-            store,
-            &firsts,
-            memory,
-        );
-        Stepped {
-            counts: Counts { done },
-            report,
-        }
+        self.step_laid(b, a.blocks, &ends, &lists[..], 0, store, &firsts, memory)
     }
 
     // One step of a processor.

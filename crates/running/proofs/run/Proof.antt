@@ -22,7 +22,8 @@ returns-2 : tie.Need-returns-2
 returns-2 c =
     let x = c .before .before .before .before .before .before .before .before .before .plan-table in
     let a = c .before .before .before .before .before .before .before .before .before .before .before .before .before .before .args in
-    c .before .before .run-planned .ensures (now (a .s)) (settings (a .processors)) (x .ensures .made (c .before .before .before .before .before .before .if1 .left) .is)
+    let made = x .ensures .made (c .before .before .before .before .before .before .if1 .left) in
+    c .before .before .run-planned .ensures (now (a .s)) (settings (a .processors)) (made .is)
 
 pub run-spec : {M : Type 1} → statement M
 run-spec = tie.close (tie.spec (λ c κs. search needs) returns run-planned-requires (λ c. search needs) returns-2)

@@ -1,13 +1,13 @@
 use native.Mathlib.Omega.{arith}
 use mathlib.Core.Path.{refl, sym, _∙_}
 use denote.Ref.{now}
-use Rattle.reader.specs.Store.{tableIn}
 use Rattle.barriers.specs.Same.{zeros-small}
-use Rattle.iterations.specs.Loaded.{Loaded, loaded-total}
+use Rattle.iterations.specs.Loaded.{loaded-total}
 use Rattle.plans.specs.Code.{plannedIn}
 use Rattle.layouts.specs.Layout.{workIn}
 use Rattle.stepping.specs.Step.{step}
-use Rattle.running.proofs.Laws.{given-in, given-some, runs-unlike, runs-made}
+use Rattle.steps.specs.Laid.{loaded-in}
+use Rattle.running.proofs.Laws.{calling-in, calling-some, runs-unlike, runs-made}
 use borrow.Author.Needs.{needs}
 use Rattle.running.proofs.run_planned.Statement.{statement}
 use Rattle.running.proofs.run_planned.Tie as tie
@@ -20,7 +20,7 @@ returns c =
     let p = d .pre in
     let st = now (a .store) in
     let bs = b .before .before .bases-of in
-    let ld : Loaded (tableIn st) st (bs .result .firsts) = record { holds = p .held; valid = p .fit .valid; based = bs .ensures } in
+    let ld = loaded-in p (bs .result .firsts) (bs .ensures) in
     let n = loaded-total ld (b .wide .result) (b .wide .ensures .0) in
     rw (c .met .ensures)
     (λ s w e. runs-unlike s w (now (a .order)) (now (a .memory)) (plannedIn (a .a) st) e (λ z. c .before .if1 .taken (z ∙ sym n)))
@@ -36,11 +36,11 @@ run-row-requires c κs =
     let p = d .pre in
     let st = now (a .store) in
     let bs = b .before .before .bases-of in
-    let ld : Loaded (tableIn st) st (bs .result .firsts) = record { holds = p .held; valid = p .fit .valid; based = bs .ensures } in
+    let ld = loaded-in p (bs .result .firsts) (bs .ensures) in
     let n = loaded-total ld (b .wide .result) (b .wide .ensures .0) in
     let l = c .before .before .before .before .before .before .before .put-ends .ensures in
     let y = c .before .before .before .before .before .put-all-lists .ensures in (
-      given-some (a .a) st p _ _ (bs .result .firsts) ld (l .0) (l .1) (omega (arith, y .long)) (y .each),
+      calling-some (a .a) st p _ _ (bs .result .firsts) ld (l .0) (l .1) (omega (arith, y .long)) (y .each),
       c .before .before .before .before .before .before .before .before .before .if1 .left ∙ n,
     )
 
@@ -54,7 +54,7 @@ returns-2 c =
     let p = d .pre in
     let st = now (a .store) in
     let bs = b .before .before .bases-of in
-    let ld : Loaded (tableIn st) st (bs .result .firsts) = record { holds = p .held; valid = p .fit .valid; based = bs .ensures } in
+    let ld = loaded-in p (bs .result .firsts) (bs .ensures) in
     let n = loaded-total ld (b .wide .result) (b .wide .ensures .0) in
     let l = r .before .before .before .before .before .before .before .before .put-ends .ensures in
     let y = r .before .before .before .before .before .before .put-all-lists .ensures in
@@ -62,7 +62,7 @@ returns-2 c =
     rw (c .none .ensures)
     (λ s w e. runs-made s w (now (a .order)) (now (a .memory)) (plannedIn (a .a) st) e (i .if1 .left ∙ n) _ (x .result)
     (x .ensures (workIn (a .a) st) (step s w)
-    (given-in (a .a) st p _ _ (bs .result .firsts) ld (l .0) (l .1) (omega (arith, y .long)) (y .each) s w e)))
+    (calling-in (a .a) st p _ _ (bs .result .firsts) ld (l .0) (l .1) (omega (arith, y .long)) (y .each) s w e)))
 
 pub run-planned-spec : {M : Type 1} → statement M
 run-planned-spec =
