@@ -8,6 +8,7 @@ use Rattle.refusals.specs.Answers.{refused}
 use Rattle.serial.specs.Serial.{table}
 use Rattle.plans.specs.Plans.{Settings, fitting, planned, plannedFor}
 use Rattle.entries.specs.Entries.{amounts, thresholds, sweepsGiven, blocksGiven, listGiven}
+use Rattle.printing.specs.Printing.{listingGiven}
 use Rattle.iterations.specs.Memory.{remembered}
 use Rattle.plain.specs.Plain.{plainAnswer}
 use Rattle.turns.specs.Turn.{refuses, stays}
@@ -30,6 +31,10 @@ module _ (s : List ℕ) (r : Refusal) (e : table s ≡ refused r) where
   pub blocks-decided : (w : Settings) (room : ℕ) → blocksGiven s w room ≡ refused r
   unfolding blocksGiven planned fitting
   blocks-decided w room = rw e
+
+  pub listing-decided : (w : Settings) (room : ℕ) → listingGiven s w room ≡ refused r
+  unfolding listingGiven planned fitting
+  listing-decided w room = rw e
 
   pub list-decided : (phase : ℕ) (w : Settings) (b room : ℕ) → listGiven phase s w b room ≡ refused r
   unfolding listGiven plannedFor fitting

@@ -22,6 +22,7 @@ use Rattle.outputs.specs.Given.{fitted}
 use Rattle.plans.specs.Plans.{Settings, Planned, planOf, thresholdOf, shortFor, badProcessors, badNumber, fits, fitting, planned, plannedFor}
 use Rattle.sweeps.specs.Sweeps as Sweeps
 use Rattle.entries.specs.Entries.{amountsOf, blocksOf, listedOf, amounts, thresholds, sweepsGiven, blocksGiven, listGiven}
+use Rattle.printing.specs.Printing.{listingOf, listingGiven}
 use Rattle.iterations.specs.Memory.{total, remembered}
 use Rattle.plain.specs.Plain.{plainAnswer}
 use Rattle.turns.specs.Turn.{Said, refuses, next, stepped, wrongState}
@@ -112,6 +113,10 @@ module _ (s : List ℕ) where
     pub blocks-refused : (room : ℕ) → Only (OutputRefused (planned s w) (PlanRefused s w) (λ q. encoded (blocksOf (q .plan))) room) (blocksGiven s w room)
     unfolding blocksGiven
     blocks-refused = fitted-only (planned s w) (PlanRefused s w) plan-refused (λ q. encoded (blocksOf (q .plan)))
+
+    pub listing-refused : (room : ℕ) → Only (OutputRefused (planned s w) (PlanRefused s w) listingOf room) (listingGiven s w room)
+    unfolding listingGiven
+    listing-refused = fitted-only (planned s w) (PlanRefused s w) plan-refused listingOf
 
     -- both lists
     pub list-refused : (phase b room : ℕ)

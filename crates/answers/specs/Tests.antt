@@ -16,7 +16,8 @@ use Rattle.blocks.specs.Blocks.{short-given, short-not}
 use Rattle.turns.specs.Turn.{closed, wrongCount, wrongState}
 use Rattle.turns.specs.TwoPhases.{closed-second}
 use Rattle.plans.specs.Plans.{Settings, Planned, thresholdOf, badProcessors, badNumber, shortFor}
-use Rattle.stepping.specs.Step.{workOf, fused, peeled, wrong-is, barrier-is}
+use Rattle.stepping.specs.Step.{workOf, fused, peeled}
+use Rattle.stepping.specs.Paper.{wrong-is, barrier-is}
 use Rattle.answers.specs.Statements.{BadProcessors, BadNumber, Short, AboveLists, BeforeBarrier, BadCount, above, early, beyond, BadState}
 
 -- a test and a statement say the same

@@ -20,7 +20,8 @@ use Rattle.chains.specs.Threshold.{threshold}
 use Rattle.blocks.specs.declared.Axis.{Axis}
 use Rattle.blocks.specs.Sums.{column}
 use Rattle.lists.specs.Fusion.{fusionIn, work}
-use Rattle.text.specs.Written.{Put, put-none, put-then, put-most, written-front}
+use Rattle.text.specs.Lent.{Put}
+use Rattle.text.specs.Written.{put-none, put-then, put-most, written-front}
 use Rattle.outputs.specs.declared.Outcome.{Outcome}
 use Rattle.outputs.specs.Given.{Given, fitted}
 use Rattle.outputs.specs.Gives.{refusing, writing, Gives, after-refuses, after-gives, gives-short, gives-written}

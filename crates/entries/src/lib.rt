@@ -24,7 +24,7 @@ ghost use Rattle.grounds.specs.Accepted.{Valid};
 ghost use Rattle.blocks.specs.Sums.{column};
 ghost use Rattle.blocks.specs.Blocks.{edge};
 ghost use Rattle.lists.specs.Fusion.{fusionIn, work};
-ghost use Rattle.text.specs.Written.{Put};
+ghost use Rattle.text.specs.Lent.{Put};
 ghost use Rattle.numbers.specs.Numbers.{four, encoded};
 ghost use Rattle.outputs.specs.Given.{fitted};
 ghost use Rattle.outputs.specs.Gives.{Gives};

@@ -5,7 +5,7 @@ use mathlib.Core.List.{List, [], _∷_, _++_}
 use Rattle.records.specs.Bytes.{two, four, offset, kindOf, bodyLength, recordOf, recordAt}
 use Rattle.records.specs.Grounds.{early, edge, fields, ground, passed, tested}
 use Rattle.records.specs.History.{operands, withArray, withLoop, withItem, advanced, blank, summary, lengths}
-use Rattle.records.specs.Encoding.{inTwo, inFour, signed, encode, encodeAll}
+use Rattle.records.specs.Encoding.{inTwo, inFour, inOffset, encode, encodeAll}
 use Rattle.model.specs.Table.{constant, Table}
 use Rattle.model.specs.Table.{Loop as LoopOf}
 use Rattle.refusals.specs.Refusals.{met, naming}
@@ -70,7 +70,7 @@ pub record Example : Type 0 where
   pub serial : joining (tableWith 3 ones) (tableWith 3 (twos ++ sums)) 40 ≡ refused (naming 9 1 1 0)
 
 pub example : Example
-unfolding joining alike joinedRecords fitted arrayRecords itemRecords loopRecords inTwo inFour signed encode encodeAll table through serialFrom
+unfolding joining alike joinedRecords fitted arrayRecords itemRecords loopRecords inTwo inFour inOffset encode encodeAll table through serialFrom
     loopHit hit collides reading readFrom follow loopsOf tested ground early fields passed edge two four offset kindOf bodyLength recordOf
     recordAt operands withArray withLoop withItem advanced blank summary lengths
 example = record {

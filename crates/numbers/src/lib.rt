@@ -1,7 +1,7 @@
 // Numbers in lent bytes: four bytes each, little-endian.
 ghost use mathlib.Core.List.{_++_};
 ghost use Prim.Native.Nat.{_+_, _<_, _^_};
-ghost use Rattle.text.specs.Written.{Put};
+ghost use Rattle.text.specs.Lent.{Put};
 ghost use Rattle.numbers.specs.Numbers.{four};
 
 // One number.

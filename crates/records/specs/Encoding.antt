@@ -13,15 +13,15 @@ unfoldable pub inFour : ℕ → List ℕ
 inFour n = inTwo (n % 65536) ++ inTwo (n / 65536)
 
 -- an offset o is kept as o + 255, and written as o in two's complement: where o is below 0 as 65,536 + o
-unfoldable pub signed : ℕ → List ℕ
-signed o = inTwo ((o + 65281) % 65536)
+unfoldable pub inOffset : ℕ → List ℕ
+inOffset o = inTwo ((o + 65281) % 65536)
 
 -- the kinds 1 to 6, each with its fields in order. (Unknown stands for every byte that is no kind: 0 is one.)
 unfoldable pub encode : Record → List ℕ
 encode Unknown = 0 ∷ []
 encode (Array n) = 1 ∷ inFour n
-encode (Loop first last array offset) = 2 ∷ (inFour first ++ (inFour last ++ (array ∷ signed offset)))
-encode (Read array offset) = 3 ∷ array ∷ signed offset
+encode (Loop first last array offset) = 2 ∷ (inFour first ++ (inFour last ++ (array ∷ inOffset offset)))
+encode (Read array offset) = 3 ∷ array ∷ inOffset offset
 encode (Constant n) = 4 ∷ inFour n
 encode (Operation o) = 5 ∷ o ∷ []
 encode End = 6 ∷ []

@@ -12,7 +12,7 @@ use Rattle.records.specs.Bytes.{byte, two, four, offset, kindOf, bodyLen
 use Rattle.records.specs.Clear.{Clear, spanOf}
 use Rattle.records.specs.Outcome.{Whole}
 use Rattle.records.specs.Same.{kindIn, record-same, record-length}
-use Rattle.records.specs.Encoding.{inTwo, inFour, signed, encode, encodeAll, OffsetFits}
+use Rattle.records.specs.Encoding.{inTwo, inFour, inOffset, encode, encodeAll, OffsetFits}
 
 -- NUMBERS are read as they are written
 two-read : (n : ℕ) (b : List ℕ) → two (inTwo n ++ b) 0 ≡ n
@@ -23,26 +23,26 @@ four-read : (n : ℕ) (b : List ℕ) → four (inFour n ++ b) 0 ≡ n
 unfolding four inFour two inTwo
 four-read n b = omega arith
 
-signed-read : (o : ℕ) (b : List ℕ) → o < 65536 → offset (signed o ++ b) 0 ≡ o
-unfolding offset signed two inTwo
-signed-read o b h = omega arith
+offset-read : (o : ℕ) (b : List ℕ) → o < 65536 → offset (inOffset o ++ b) 0 ≡ o
+unfolding offset inOffset two inTwo
+offset-read o b h = omega arith
 
 -- THE ENCODING IS READ AS THE RECORD
 same-loop : {f g l m o p : ℕ} (q : ℕ) → f ≡ g → l ≡ m → o ≡ p → Loop f l q o ≡ Loop g m q p
 same-loop q e h k = cc
 
 pub encode-first : (r : Record) (b : List ℕ) → OffsetFits r → recordAt (encode r ++ b) 0 ≡ r
-unfolding recordAt recordOf kindOf encode inFour inTwo signed two four offset
+unfolding recordAt recordOf kindOf encode inFour inTwo inOffset two four offset
 encode-first Unknown b h = refl
 encode-first (Array n) b h = ap Array (four-read n b)
-encode-first (Loop f l q o) b h = same-loop q (four-read f b) (four-read l b) (signed-read o b h)
-encode-first (Read q o) b h = ap (Read q) (signed-read o b h)
+encode-first (Loop f l q o) b h = same-loop q (four-read f b) (four-read l b) (offset-read o b h)
+encode-first (Read q o) b h = ap (Read q) (offset-read o b h)
 encode-first (Constant n) b h = ap Constant (four-read n b)
 encode-first (Operation o) b h = refl
 encode-first End b h = refl
 
 pub encode-length : (r : Record) → length (encode r) ≡ 1 + spanOf (kindIn r)
-unfolding encode inFour inTwo signed
+unfolding encode inFour inTwo inOffset
 encode-length Unknown = refl
 encode-length (Array n) = refl
 encode-length (Loop f l q o) = refl

@@ -5,7 +5,7 @@ use mathlib.Core.Path.{_≡_, refl, sym, ap, subst, _∙_}
 use mathlib.Core.List.{List, [], _∷_, _++_, append-assoc, List·Memᴰ, List·Memᴰ·head, List·Memᴰ·tail}
 use Rattle.records.specs.declared.Record.{Record}
 use Rattle.records.specs.declared.Record.the-variants.{Unknown, Array, Loop, Read, Constant, Operation, End}
-use Rattle.records.specs.Encoding.{inTwo, inFour, signed, encode, encodeAll, Bytes, FieldsFit}
+use Rattle.records.specs.Encoding.{inTwo, inFour, inOffset, encode, encodeAll, Bytes, FieldsFit}
 
 cons-bytes : (x : ℕ) (l : List ℕ) → x < 256 → Bytes l → Bytes (x ∷ l)
 cons-bytes x l h b zero = h
@@ -22,20 +22,20 @@ four-bytes n l h b =
     (two-bytes (n % 65536) (inTwo (n / 65536) ++ l) (omega arith) (two-bytes (n / 65536) l (omega arith) b))
 
 record-bytes : (r : Record) (l : List ℕ) → FieldsFit r → Bytes l → Bytes (encode r ++ l)
-unfolding encode signed
+unfolding encode inOffset
 record-bytes Unknown l h b = cons-bytes 0 l (omega arith) b
 record-bytes (Array n) l h b = cons-bytes 1 (inFour n ++ l) (omega arith) (four-bytes n l h b)
 record-bytes (Loop f m q o) l h b =
-    let rest = q ∷ signed o in
-    let own : Bytes (rest ++ l) = cons-bytes q (signed o ++ l) (h .2) (two-bytes ((o + 65281) % 65536) l (omega arith) b) in
+    let rest = q ∷ inOffset o in
+    let own : Bytes (rest ++ l) = cons-bytes q (inOffset o ++ l) (h .2) (two-bytes ((o + 65281) % 65536) l (omega arith) b) in
     let split : inFour f ++ (inFour m ++ rest) ++ l ≡ inFour f ++ (inFour m ++ (rest ++ l)) =
     append-assoc (inFour f) (inFour m ++ rest) l ∙ ap (λ (z : List ℕ). inFour f ++ z) (append-assoc (inFour m) rest l) in
     subst Bytes (ap (λ (z : List ℕ). 2 ∷ z) (sym split))
     (cons-bytes 2 (inFour f ++ (inFour m ++ (rest ++ l))) (omega arith)
     (four-bytes f (inFour m ++ (rest ++ l)) (h .0) (four-bytes m (rest ++ l) (h .1) own)))
 record-bytes (Read q o) l h b =
-    cons-bytes 3 (q ∷ (signed o ++ l)) (omega arith)
-    (cons-bytes q (signed o ++ l) h (two-bytes ((o + 65281) % 65536) l (omega arith) b))
+    cons-bytes 3 (q ∷ (inOffset o ++ l)) (omega arith)
+    (cons-bytes q (inOffset o ++ l) h (two-bytes ((o + 65281) % 65536) l (omega arith) b))
 record-bytes (Constant n) l h b = cons-bytes 4 (inFour n ++ l) (omega arith) (four-bytes n l h b)
 record-bytes (Operation o) l h b = cons-bytes 5 (o ∷ l) (omega arith) (cons-bytes o l h b)
 record-bytes End l h b = cons-bytes 6 l (omega arith) b

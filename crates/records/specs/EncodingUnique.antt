@@ -12,7 +12,7 @@ use Rattle.records.specs.declared.Summary.{Summary}
 use Rattle.records.specs.Bytes.{byte, two, four, offset, kindOf, bodyLength, recordOf, recordAt}
 use Rattle.records.specs.Clear.{Clear}
 use Rattle.records.specs.Outcome.{Whole}
-use Rattle.records.specs.Encoding.{inTwo, inFour, signed, encode, Bytes}
+use Rattle.records.specs.Encoding.{inTwo, inFour, inOffset, encode, Bytes}
 
 clear-known : (r : Record) (t : Summary) (ns : List ℕ) → Clear r t ns → r ≡ Unknown → ⊥
 clear-known r t ns c e = subst (λ (x : Record). Clear x t ns) e c
@@ -43,9 +43,9 @@ module _ (s : List ℕ) (bytes : Bytes s) where
       ∙ ap (λ (l : List ℕ). inTwo (two s p) ++ l) (two-back (p + 2) n (omega arith) h)
       ∙ sym (append-assoc (inTwo (two s p)) (inTwo (two s (p + 2))) (drop n s)))
 
-  signed-back : (p n : ℕ) → n ≡ p + 2 → n ≤ length s → drop p s ≡ signed (offset s p) ++ drop n s
-  unfolding signed offset
-  signed-back p n e h =
+  offset-back : (p n : ℕ) → n ≡ p + 2 → n ≤ length s → drop p s ≡ inOffset (offset s p) ++ drop n s
+  unfolding inOffset offset
+  offset-back p n e h =
       let own : ((two s p + 255) % 65536 + 65281) % 65536 ≡ two s p = omega (arith, two-below p) in
       rw own (two-back p n e h)
 
@@ -69,13 +69,13 @@ module _ (s : List ℕ) (bytes : Bytes s) where
         (four-back (b + 4) (b + 8) (omega arith) (omega arith)
         ∙ ap (λ (l : List ℕ). last ++ l)
         (one-back (b + 8) (b + 9) (omega arith) (omega arith)
-        ∙ ap (λ (l : List ℕ). byte s (b + 8) ∷ l) (signed-back (b + 9) n (omega arith) h))
-        ∙ sym (append-assoc last (byte s (b + 8) ∷ signed (offset s (b + 9))) (drop n s)))
-        ∙ sym (append-assoc first (last ++ (byte s (b + 8) ∷ signed (offset s (b + 9)))) (drop n s)))
+        ∙ ap (λ (l : List ℕ). byte s (b + 8) ∷ l) (offset-back (b + 9) n (omega arith) h))
+        ∙ sym (append-assoc last (byte s (b + 8) ∷ inOffset (offset s (b + 9))) (drop n s)))
+        ∙ sym (append-assoc first (last ++ (byte s (b + 8) ∷ inOffset (offset s (b + 9)))) (drop n s)))
     body-back (suc (suc (suc zero))) n e h some =
         let b = at + 1 in
         ap (λ (l : List ℕ). 3 ∷ l)
-        (one-back b (b + 1) refl (omega arith) ∙ ap (λ (l : List ℕ). byte s b ∷ l) (signed-back (b + 1) n (omega arith) h))
+        (one-back b (b + 1) refl (omega arith) ∙ ap (λ (l : List ℕ). byte s b ∷ l) (offset-back (b + 1) n (omega arith) h))
     body-back (suc (suc (suc (suc zero)))) n e h some = ap (λ (l : List ℕ). 4 ∷ l) (four-back (at + 1) n e h)
     body-back (suc (suc (suc (suc (suc zero))))) n e h some = ap (λ (l : List ℕ). 5 ∷ l) (one-back (at + 1) n e h)
     body-back (suc (suc (suc (suc (suc (suc zero)))))) n e h some =

@@ -15,7 +15,8 @@ use Rattle.reader.specs.Store.{tableIn}
 use Rattle.iterations.specs.Memory.{total, run-length}
 use Rattle.turns.specs.Turn.{Work, Said, refuses, performs, waits, ends, After, after, next, turn}
 use Rattle.turns.specs.Row.{reports, countsAfter, memoryAfter, performing, idle}
-use Rattle.turns.specs.Reach.{Reachable, turn-reachable}
+use Rattle.turns.specs.Reachable.{Reachable}
+use Rattle.turns.specs.Reach.{turn-reachable}
 use Rattle.stepping.specs.declared.Report.{Report}
 use Rattle.stepping.specs.declared.Report.the-variants.{Refused, Performed, Waiting, Finished}
 use Rattle.stepping.specs.Step.{reportOf}

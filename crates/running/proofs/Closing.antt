@@ -16,8 +16,9 @@ use Rattle.reader.specs.Store.{tableIn}
 use Rattle.iterations.specs.Memory.{total}
 use Rattle.turns.specs.Turn.{Work, After, turn}
 use Rattle.turns.specs.Row.{noneDone, reports, countsAfter, memoryAfter, performing, idle, lowest, canStep, closing, listed, rowOf}
-use Rattle.turns.specs.Row.{lowest-same, lowest-holds, memory-append, idle-append}
-use Rattle.turns.specs.Reach.{Reachable}
+use Rattle.turns.specs.Lowest.{lowest-same, lowest-holds}
+use Rattle.turns.specs.RowLaws.{memory-append, idle-append}
+use Rattle.turns.specs.Reachable.{Reachable}
 use Rattle.turns.specs.Meaning.{turn-said}
 use Rattle.barriers.specs.Code.{readyBy, listedBy}
 use Rattle.barriers.specs.Same.{ready-is, listed-is}

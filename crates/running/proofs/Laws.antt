@@ -14,7 +14,7 @@ use Rattle.iterations.specs.Memory.{total, remembered, remembered-as-long, reme
 use Rattle.iterations.specs.Loaded.{Loaded}
 use Rattle.model.specs.declared.Iteration.{Iteration}
 use Rattle.turns.specs.Turn.{Work}
-use Rattle.turns.specs.Reach.{Reachable}
+use Rattle.turns.specs.Reachable.{Reachable}
 use Rattle.barriers.specs.Code.{Ended}
 use Rattle.plans.specs.Plans.{Settings, Planned, planned}
 use Rattle.plans.specs.Code.{plannedIn, Laid}

@@ -12,7 +12,8 @@ use Rattle.reader.specs.Store.{tableIn}
 use Rattle.iterations.specs.Memory.{total}
 use Rattle.turns.specs.Turn.{Work}
 use Rattle.turns.specs.Row.{noneDone, reports, countsAfter, memoryAfter, idle}
-use Rattle.turns.specs.Reach.{Reachable, none-reachable}
+use Rattle.turns.specs.Reachable.{Reachable}
+use Rattle.turns.specs.Reach.{none-reachable}
 use Rattle.stepping.specs.declared.Report.{Report}
 use Rattle.steps.specs.Called.{called}
 use Rattle.steps.specs.Leaves.{Leaves}

@@ -9,7 +9,7 @@ use Rattle.reader.specs.Store.{tableIn}
 use Rattle.iterations.specs.Memory.{total}
 use Rattle.turns.specs.Turn.{Work, After}
 use Rattle.turns.specs.Row.{noneDone, reports, countsAfter, memoryAfter, idle, listed, rowOf}
-use Rattle.turns.specs.Reach.{Reachable}
+use Rattle.turns.specs.Reachable.{Reachable}
 use Rattle.steps.specs.Lent.{Lent}
 use Rattle.steps.specs.Called.{called}
 

@@ -22,7 +22,7 @@ ghost use Rattle.reader.specs.Store.{tableIn};
 ghost use Rattle.iterations.specs.Memory.{total};
 ghost use Rattle.turns.specs.Turn.{Work};
 ghost use Rattle.turns.specs.Row.{closing, memoryAfter};
-ghost use Rattle.turns.specs.Reach.{Reachable};
+ghost use Rattle.turns.specs.Reachable.{Reachable};
 ghost use Rattle.plans.specs.Plans.{Settings, settings, planned};
 ghost use Rattle.plans.specs.Code.{Laid, plannedIn};
 ghost use Rattle.running.specs.Code.{Step, Calling, Ordered, Rowed};

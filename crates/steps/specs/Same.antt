@@ -9,7 +9,7 @@ use lib.ListN.{length}
 use lib.Ieee.{Float}
 use borrow.Author.Tests.{lt-ltb, le-ltb}
 use Rattle.refusals.specs.Answers.{accepted}
-use Rattle.turns.specs.Reach.{Reachable}
+use Rattle.turns.specs.Reachable.{Reachable}
 use Rattle.plans.specs.Plans.{Settings, Planned, planned}
 use Rattle.stepping.specs.Step.{workOf, elements, step}
 use Rattle.stepping.specs.Reach.{step-turn, step-past}

@@ -1,7 +1,5 @@
 -- what an exported function leaves in the answer's numbers
 pub mod Answers
--- what each exported function is refused with
-pub mod Refused
 -- the four numbers of an answer, by an example
 pub mod Example
 -- what the numbers of a step's answer say

@@ -3,7 +3,7 @@ use mathlib.Core.Path.{sym, _∙_}
 use denote.Ref.{now}
 use Rattle.model.specs.declared.Iteration.{Iteration}
 use Rattle.turns.specs.Turn.{Work}
-use Rattle.turns.specs.Reach.{Reachable}
+use Rattle.turns.specs.Reachable.{Reachable}
 use Rattle.running.specs.Code.{Step, Calling}
 use Rattle.running.proofs.Calls.{phased, lent-at}
 use Rattle.running.proofs.Closing.{Closing, closing-start, closing-next, closing-stop, closing-end}
