@@ -20,9 +20,12 @@ use Rattle.model.specs.Table.{Item, read, constant, operation, Table, count}
 use Rattle.model.specs.References.{reads, refs, allRefs}
 use Rattle.reader.specs.Store.{startAt, kindAt, arrayAt, itemsFrom, tableIn}
 use Rattle.reader.specs.Held.{Held, count-held, few-loops, opening-held}
-use Rattle.chains.specs.Dependence.{dependence, backward, forward, none-apart}
-use Rattle.chains.specs.Maximum.{maximum, maximum-append, maximum-none}
-use Rattle.chains.specs.Walk.{required, required-met, required-none, required-late, required-reads, walk, walk-append, walk-loop, numbers, zeros}
+use Rattle.chains.specs.Dependence.{dependence, backward, forward}
+use Rattle.chains.specs.DependenceLaws.{none-apart}
+use Rattle.chains.specs.Maximum.{maximum}
+use Rattle.chains.specs.MaximumLaws.{maximum-append, maximum-none}
+use Rattle.chains.specs.Walk.{required, walk, numbers}
+use Rattle.chains.specs.WalkLaws.{required-met, required-none, required-late, required-reads, walk-append, walk-loop, zeros}
 use Rattle.chains.specs.Bounds.{Small, AtMost, walk-small}
 use Rattle.chains.specs.Tables.{refs-number, refs-allRefs}
 use Rattle.amounts.specs.declared.Requirement.{Requirement}

@@ -11,7 +11,8 @@ use lib.Ieee.{Float}
 use borrow.Author.Tests.{ltb-true, eq-eqb}
 use Rattle.refusals.specs.declared.Refusal.{Refusal}
 use Rattle.refusals.specs.Refusals.{met}
-use Rattle.refusals.specs.Answers.{AnswerOf, accepted, refused, _if_else_, after, refusalOf, Only, accepted-only, if-only}
+use Rattle.refusals.specs.Answers.{AnswerOf, accepted, refused, _if_else_, after, refusalOf, Only}
+use Rattle.refusals.specs.AnswerLaws.{accepted-only, if-only}
 use Rattle.model.specs.declared.Iteration.{Iteration}
 use Rattle.model.specs.Table.{Table, iteration}
 use Rattle.model.specs.Bodies.{run}

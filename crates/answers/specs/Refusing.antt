@@ -7,7 +7,7 @@ use Rattle.refusals.specs.declared.Refusal.{Refusal}
 use Rattle.refusals.specs.Refusals.{met}
 use Rattle.refusals.specs.Answers.{AnswerOf, accepted}
 use Rattle.serial.specs.Serial.{table}
-use Rattle.tables.specs.Nine.{Told}
+use Rattle.tables.specs.Told.{Told}
 use Rattle.plans.specs.Plans.{Settings, Planned}
 use Rattle.answers.specs.Statements.{BadProcessors, BadNumber, Short, OtherLength, NoRoom, BadState}
 

@@ -10,9 +10,10 @@ use lib.ListN.{length}
 use borrow.Author.Tests.{ltb-true, ltb-false, leb-true, leb-false, eqb-true, eqb-false, lt-ltb, le-ltb, le-leb, lt-leb, eq-eqb, ne-eqb, not-false}
 use native.Mathlib.Decide.{decLt}
 use Rattle.model.specs.Table.{Table}
-use Rattle.blocks.specs.Sums.{column, some-which, some-here}
+use Rattle.blocks.specs.Sums.{column}
+use Rattle.blocks.specs.SumLaws.{some-which, some-here}
 use Rattle.blocks.specs.Span.{tableSpan}
-use Rattle.blocks.specs.Blocks.{short-given, short-not}
+use Rattle.blocks.specs.BlockLaws.{short-given, short-not}
 use Rattle.turns.specs.Turn.{closed, wrongCount, wrongState}
 use Rattle.turns.specs.TwoPhases.{closed-second}
 use Rattle.plans.specs.Plans.{Settings, Planned, thresholdOf, badProcessors, badNumber, shortFor}

@@ -8,7 +8,8 @@ use mathlib.Core.Bool.{Bool, true, false, not}
 use mathlib.Core.List.{List}
 use lib.Dec.{ltb}
 use borrow.Author.Tests.{lt-ltb, le-ltb, le-leb, lt-leb, not-true, not-false}
-use Rattle.blocks.specs.Sums.{column, some, some-here, some-none}
+use Rattle.blocks.specs.Sums.{column, some}
+use Rattle.blocks.specs.SumLaws.{some-here, some-none}
 use Rattle.turns.specs.Row.{lowest}
 use Rattle.turns.specs.Lowest.{lowest-holds, lowest-none}
 use Rattle.barriers.specs.Code.{beforeBy, comeBy, leftBy, closedBy, openBy, lastOpenBy, beyondBy, wrongBy, readyBy, EndsFit}

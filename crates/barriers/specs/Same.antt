@@ -8,7 +8,8 @@ use mathlib.Core.List.{List}
 use lib.Dec.{ltb}
 use lib.ListN.{replicate}
 use borrow.Author.Tests.{lt-ltb, le-ltb}
-use Rattle.blocks.specs.Sums.{column, some, total-same, some-here, some-none, some-same}
+use Rattle.blocks.specs.Sums.{column, some}
+use Rattle.blocks.specs.SumLaws.{total-same, some-here, some-none, some-same}
 use Rattle.turns.specs.Turn.{Work, Said, before, closed, comeTo, phaseOf, wrongCount, wrongState, next}
 use Rattle.turns.specs.TwoPhases.{closed-first}
 use Rattle.turns.specs.Row.{performing, listed}

@@ -16,7 +16,7 @@ use Rattle.refusals.specs.Answers.{accepted}
 use Rattle.chains.specs.Dependence.{Dependence}
 use Rattle.chains.specs.Tables.{meet-dependence}
 use Rattle.blocks.specs.Sums.{column}
-use Rattle.lists.specs.Fusion.{Once, once as in-one-list, owner, phase}
+use Rattle.lists.specs.FusionLaws.{Once, once as in-one-list, owner, phase}
 use Rattle.rows.specs.Theorem.{any-schedule}
 use Rattle.turns.specs.Turn.{Said, performs}
 use Rattle.turns.specs.Row as rows
@@ -28,7 +28,8 @@ use Rattle.turns.specs.Own as own
 use Rattle.turns.specs.Reached as reach
 use Rattle.plans.specs.Plans.{Settings, Planned, planned}
 use Rattle.plans.specs.Accepted.{planned-accepts}
-use Rattle.plain.specs.Plain.{plainMemory, plain-memory}
+use Rattle.plain.specs.Plain.{plainMemory}
+use Rattle.plain.specs.PlainLaws.{plain-memory}
 use Rattle.stepping.specs.declared.Report.the-variants.{Performed}
 use Rattle.stepping.specs.Step.{workOf, reportOf, fused, peeled, step}
 use Rattle.stepping.specs.Meaning.{said-performs}

@@ -7,7 +7,8 @@ use lib.Ieee.{Float}
 use Rattle.refusals.specs.Answers.{accepted}
 use Rattle.turns.specs.CallersOrder as turns
 use Rattle.plans.specs.Plans.{Settings, Planned, planned}
-use Rattle.iterations.specs.Memory.{remembered, remembered-as-long}
+use Rattle.iterations.specs.Memory.{remembered}
+use Rattle.iterations.specs.MemoryLaws.{remembered-as-long}
 use Rattle.plain.specs.Plain.{plainMemory}
 use Rattle.stepping.specs.Step.{elements}
 use Rattle.stepping.specs.Run.{runRow, memoryOf, runMemory}

@@ -8,11 +8,11 @@ use Rattle.model.specs.declared.Iteration.{Iteration}
 use Rattle.model.specs.Table.{iteration}
 use Rattle.model.specs.Bodies.{run}
 use Rattle.refusals.specs.Answers.{accepted}
-use Rattle.lists.specs.Fusion.{rows}
+use Rattle.lists.specs.FusionLaws.{rows}
 use Rattle.turns.specs.Calls.{Calls}
 use Rattle.plans.specs.Plans.{Settings, Planned, planned}
 use Rattle.plans.specs.Accepted.{Fit, planned-accepts}
-use Rattle.iterations.specs.Memory.{run-length}
+use Rattle.iterations.specs.MemoryLaws.{run-length}
 use Rattle.stepping.specs.Step.{step}
 use Rattle.stepping.specs.Reach.{step-turn, step-past}
 use Rattle.calls.specs.Rows.{Fits}

@@ -11,7 +11,7 @@ use Rattle.order.specs.Reorder.{runAll}
 use Rattle.model.specs.declared.Iteration.{Iteration}
 use Rattle.model.specs.Bodies.{run}
 use Rattle.refusals.specs.Answers.{accepted}
-use Rattle.lists.specs.Fusion.{owner, phase}
+use Rattle.lists.specs.FusionLaws.{owner, phase}
 use Rattle.turns.specs.Orders as turns
 use Rattle.turns.specs.EveryOrder.{rowFor, order-performed, order-complete-row, order-memory, row-order}
 use Rattle.plans.specs.Plans.{Settings, Planned, planned}

@@ -7,9 +7,12 @@ use native.Mathlib.Decide.{decLe}
 use native.Mathlib.Omega.{arith}
 use lib.ListN.{length, getD, List·getD-eq-default}
 use Rattle.model.specs.declared.Reference.{Reference}
-use Rattle.chains.specs.Dependence.{Dependence, backward, forward, earlier}
-use Rattle.chains.specs.Walk.{walk, walk-of, numbers, numbers-of, numbers-length, shifts, peels, Below}
-use Rattle.chains.specs.Threshold.{threshold, threshold-bound}
+use Rattle.chains.specs.Dependence.{Dependence, backward, forward}
+use Rattle.chains.specs.DependenceLaws.{earlier}
+use Rattle.chains.specs.Walk.{walk, numbers, shifts, peels, Below}
+use Rattle.chains.specs.WalkLaws.{walk-of, numbers-of, numbers-length}
+use Rattle.chains.specs.Threshold.{threshold}
+use Rattle.chains.specs.ThresholdLaws.{threshold-bound}
 
 -- the number of loop k is at most m times k
 abbrev pub Small : ℕ → List ℕ → Type 0

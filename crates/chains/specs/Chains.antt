@@ -1,15 +1,10 @@
 -- Chains of dependences, and the largest total over all chains that end at a loop.
 use Prim.Native.Nat.{ℕ, _+_, _≤_}
-use mathlib.Core.Path.{_≡_, refl}
-use mathlib.Core.Logic.{_⊎_, inl, inr, ⊎-elim}
-use mathlib.Core.Bool.{true, Bool-discrete}
-use mathlib.Core.List.{List, [], _∷_}
-use mathlib.Core.List.{List·Memᴰ as Mem, List·Memᴰ·head as mhere, List·Memᴰ·tail as mthere, List·Memᴰ·not-nil as not-nil}
-use native.Mathlib.Nat.{le-antisymm}
-use native.Mathlib.Decide.{ℕ-discrete}
-use native.Mathlib.Omega.{arith}
+use mathlib.Core.Path.{_≡_}
+use mathlib.Core.Logic.{_⊎_}
+use mathlib.Core.List.{List}
 use Rattle.model.specs.declared.Reference.{Reference}
-use Rattle.chains.specs.Dependence.{dependence, Dependence}
+use Rattle.chains.specs.Dependence.{Dependence}
 
 -- a row of dependences, each starting at the loop where the one before ended; `Chain rs k` ends at loop k
 pub data Chain (rs : List Reference) : ℕ → Type 0 where
@@ -25,62 +20,3 @@ total amount (more {x} {y} c d) = total amount c + amount x y
 pub record Largest (amount : Reference → Reference → ℕ) (rs : List Reference) (k n : ℕ) : Type 0 where
   pub bound : (c : Chain rs k) → total amount c ≤ n
   pub attained : ((c : Chain rs k) × (total amount c ≡ n)) ⊎ ((Chain rs k → ⊥) × (n ≡ 0))
-
--- that is one number
-pub largest-unique : (amount : Reference → Reference → ℕ) (rs : List Reference) (k m n : ℕ) → Largest amount rs k m → Largest amount rs k n → m ≡ n
-largest-unique amount rs k m n a b = le-antisymm (half m n a b) (half n m b a)
-  where
-    half : (m n : ℕ) → Largest amount rs k m → Largest amount rs k n → m ≤ n
-    half m n a b = ⊎-elim (λ t. omega (arith, b .bound (t .0))) (λ t. omega arith) (a .attained)
-
--- where each member has the one or the other, some member has the one, or all have the other
-some-or-all : {A : Type 0} {Q R : A → Type 0} → ((x : A) → Q x ⊎ R x) → (l : List A) → ((x : A) × Mem x l × Q x) ⊎ ((x : A) → Mem x l → R x)
-some-or-all f [] = inr (λ x m. absurd (not-nil m))
-some-or-all {A} {Q} {R} f (y ∷ l) = go (f y) (some-or-all f l)
-  where
-    go : Q y ⊎ R y → ((x : A) × Mem x l × Q x) ⊎ ((x : A) → Mem x l → R x) → ((x : A) × Mem x (y ∷ l) × Q x) ⊎ ((x : A) → Mem x (y ∷ l) → R x)
-    go (inl q) r = inl (y, mhere refl, q)
-    go (inr q) (inl (x, m, p)) = inl (x, mthere m, p)
-    go (inr q) (inr r) = inr λ x. elim [ mhere e ↦ rw e q | mthere m ↦ r x m ]
-
-pub last-dependence : {rs : List Reference} {k : ℕ} → Chain rs k → (x : Reference) × (y : Reference) × Dependence rs x y × (y .number ≡ k)
-last-dependence (one {x} {y} d) = (x, y, d, refl)
-last-dependence (more {x} {y} c d) = (x, y, d, refl)
-
-module _ (rs : List Reference) (k : ℕ) where
-  -- a dependence ends at loop k with the reference y, and none does
-  abbrev Ends : Reference → Type 0
-  Ends y = (y .number ≡ k) × ((x : Reference) × Mem x rs × (dependence x y ≡ true))
-
-  abbrev Free : Reference → Type 0
-  Free y = y .number ≡ k → (x : Reference) → Mem x rs → dependence x y ≡ true → ⊥
-
-  ends-or-free : (y : Reference) → Ends y ⊎ Free y
-  ends-or-free y = go (ℕ-discrete (y .number) k) (some-or-all joins rs)
-    where
-      joins : (x : Reference) → (dependence x y ≡ true) ⊎ (dependence x y ≡ true → ⊥)
-      joins x = elim (Bool-discrete (dependence x y) true) [ yes e ↦ inl e | no e ↦ inr e ]
-
-      go : Dec (y .number ≡ k) → ((x : Reference) × Mem x rs × (dependence x y ≡ true)) ⊎ ((x : Reference) → Mem x rs → dependence x y ≡ true → ⊥)
-          → Ends y ⊎ Free y
-      go (yes e) (inl d) = inl (e, d)
-      go (yes e) (inr f) = inr (λ e. f)
-      go (no n) d = inr (λ e. absurd (n e))
-
-  -- some chain ends at loop k, or none does
-  pub chain-or-none : Chain rs k ⊎ (Chain rs k → ⊥)
-  chain-or-none = ⊎-elim some none (some-or-all ends-or-free rs)
-    where
-      some : (y : Reference) × Mem y rs × Ends y → Chain rs k ⊎ (Chain rs k → ⊥)
-      some (y, to, (e, (x, from, joined))) = inl (rw (← e) (one (record { from = from; to = to; joined = joined })))
-
-      none : ((y : Reference) → Mem y rs → Free y) → Chain rs k ⊎ (Chain rs k → ⊥)
-      none free = inr λ c. let (x, y, d, e) = last-dependence c in free y (d .to) e x (d .from) (d .joined)
-
-  -- what no chain's total exceeds, and is 0 or some chain's total, is the largest
-  pub largest-of : (amount : Reference → Reference → ℕ) (n : ℕ) → ((c : Chain rs k) → total amount c ≤ n)
-      → (n ≡ 0) ⊎ ((c : Chain rs k) × (total amount c ≡ n)) → Largest amount rs k n
-  largest-of amount n bound reached = record { bound = bound; attained = ⊎-elim none inl reached }
-    where
-      none : n ≡ 0 → ((c : Chain rs k) × (total amount c ≡ n)) ⊎ ((Chain rs k → ⊥) × (n ≡ 0))
-      none e = ⊎-elim (λ c. inl (c, omega (arith, bound c))) (λ f. inr (f, e)) chain-or-none

@@ -7,8 +7,10 @@ use mathlib.Core.List.{List·Memᴰ as Mem}
 use native.Mathlib.Omega.{arith}
 use lib.ListN.{getD}
 use Rattle.model.specs.declared.Reference.{Reference}
-use Rattle.chains.specs.Dependence.{Dependence, earlier}
-use Rattle.chains.specs.Chains.{Chain, one, more, total, Largest, largest-unique}
+use Rattle.chains.specs.Dependence.{Dependence}
+use Rattle.chains.specs.DependenceLaws.{earlier}
+use Rattle.chains.specs.Chains.{Chain, one, more, total, Largest}
+use Rattle.chains.specs.ChainLaws.{largest-unique}
 use Rattle.chains.specs.Walk.{numbers, Ordered, Below}
 use Rattle.chains.specs.Largest.{numbers-largest}
 

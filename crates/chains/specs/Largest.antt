@@ -11,11 +11,16 @@ use native.Mathlib.Omega.{arith}
 use lib.ListN.{length, getD, replicate}
 use Rattle.order.specs.Lists.{bhere, bthere}
 use Rattle.model.specs.declared.Reference.{Reference}
-use Rattle.chains.specs.Dependence.{dependence, Dependence, earlier}
-use Rattle.chains.specs.Chains.{Chain, one, more, total, Largest, largest-of}
-use Rattle.chains.specs.Legal.{Legal, chain-below}
-use Rattle.chains.specs.Maximum.{maximum, maximum-upper}
-use Rattle.chains.specs.Walk.{required, required-met, raised, raised-same, raised-other, length-raised, walk, numbers, numbers-of, Ordered, Below}
+use Rattle.chains.specs.Dependence.{dependence, Dependence}
+use Rattle.chains.specs.DependenceLaws.{earlier}
+use Rattle.chains.specs.Chains.{Chain, one, more, total, Largest}
+use Rattle.chains.specs.ChainLaws.{largest-of}
+use Rattle.chains.specs.Legal.{Legal}
+use Rattle.chains.specs.LegalLaws.{chain-below}
+use Rattle.chains.specs.Maximum.{maximum}
+use Rattle.chains.specs.MaximumLaws.{maximum-upper}
+use Rattle.chains.specs.Walk.{required, raised, walk, numbers, Ordered, Below}
+use Rattle.chains.specs.WalkLaws.{required-met, raised-same, raised-other, length-raised, numbers-of}
 
 module _ (amount : Reference → Reference → ℕ) (rs : List Reference) where
   -- every dependence that ends at y is met

@@ -1,11 +1,9 @@
 -- Legal shifts and peels: those that meet every dependence.
 use Prim.Native.Nat.{ℕ, _+_, _≤_}
 use mathlib.Core.List.{List}
-use native.Mathlib.Omega.{arith}
 use lib.ListN.{getD}
 use Rattle.model.specs.declared.Reference.{Reference}
 use Rattle.chains.specs.Dependence.{Dependence, backward, forward}
-use Rattle.chains.specs.Chains.{Chain, one, more, total}
 
 -- for each dependence the later loop's number is at least the earlier's plus the amount; s has a number for each loop
 abbrev pub Legal : (Reference → Reference → ℕ) → List Reference → List ℕ → Type 0
@@ -14,9 +12,3 @@ Legal amount rs s = (x y : Reference) → Dependence rs x y → getD s (x .numbe
 -- a plan: shifts s and peels p
 abbrev pub LegalPlan : List Reference → List ℕ → List ℕ → Type 0
 LegalPlan rs s p = Legal backward rs s × Legal forward rs p
-
--- a chain's total is at most the number of the loop where it ends
-pub chain-below : (amount : Reference → Reference → ℕ) (rs : List Reference) (s : List ℕ) → Legal amount rs s → {k : ℕ} (c : Chain rs k)
-    → total amount c ≤ getD s k 0
-chain-below amount rs s h (one {x} {y} d) = omega (arith, h x y d)
-chain-below amount rs s h (more {x} {y} c d) = omega (arith, h x y d, chain-below amount rs s h c)

@@ -1,17 +1,29 @@
 -- which two references make a dependence, and its amounts
 pub mod Dependence
+-- dependences as propositions; which pairs make none
+pub mod DependenceLaws
 -- chains of dependences, and the largest total over those that end at a loop
 pub mod Chains
+-- the largest total is one number, and when there is none
+pub mod ChainLaws
 -- shifts and peels that meet every dependence
 pub mod Legal
+-- legal numbers are above every chain
+pub mod LegalLaws
 -- the largest of several numbers
 pub mod Maximum
+-- laws of it
+pub mod MaximumLaws
 -- the numbers that one walk over the references gives
 pub mod Walk
+-- laws of the walk
+pub mod WalkLaws
 -- they are the largest totals; they are legal, and no legal ones are smaller
 pub mod Largest
 -- the largest sum of shift and peel of one loop
 pub mod Threshold
+-- some loop attains it, none is above it
+pub mod ThresholdLaws
 -- how large shifts, peels and the threshold can be
 pub mod Bounds
 -- all of it for the references of a table

@@ -11,7 +11,8 @@ use Rattle.model.specs.declared.Reference.{Reference}
 use Rattle.model.specs.declared.Iteration.{Iteration}
 use Rattle.model.specs.Table.{Item, read, constant, operation, Statement, Table, count, loop, Inside}
 use Rattle.model.specs.References.{destination, reads, references, refs, allRefs, Meet}
-use Rattle.chains.specs.Dependence.{Dependence, backward, forward, dependence-touch}
+use Rattle.chains.specs.Dependence.{Dependence, backward, forward}
+use Rattle.chains.specs.DependenceLaws.{dependence-touch}
 use Rattle.chains.specs.Chains.{Largest}
 use Rattle.chains.specs.Legal.{LegalPlan}
 use Rattle.chains.specs.Walk.{shifts, peels, Ordered, Below}

@@ -11,7 +11,8 @@ use Rattle.model.specs.declared.Iteration.{Iteration}
 use Rattle.model.specs.References.{allRefs}
 use Rattle.refusals.specs.declared.Refusal.{Refusal}
 use Rattle.refusals.specs.Refusals.{met}
-use Rattle.refusals.specs.Answers.{AnswerOf, accepted, after, refusalOf, told-refused}
+use Rattle.refusals.specs.Answers.{AnswerOf, accepted, after, refusalOf}
+use Rattle.refusals.specs.AnswerLaws.{told-refused}
 use Rattle.reader.specs.Store.{loopsIn, tableIn}
 use Rattle.reader.specs.Held.{Held, count-held}
 use Rattle.grounds.specs.Accepted.{Valid}
@@ -24,8 +25,10 @@ use Rattle.text.specs.Lent.{Put}
 use Rattle.text.specs.Written.{put-none, put-then, put-most, written-front}
 use Rattle.outputs.specs.declared.Outcome.{Outcome}
 use Rattle.outputs.specs.Given.{Given, fitted}
-use Rattle.outputs.specs.Gives.{refusing, writing, Gives, after-refuses, after-gives, gives-short, gives-written}
-use Rattle.numbers.specs.Numbers.{four, encoded, encoded-length, encoded-append}
+use Rattle.outputs.specs.Gives.{refusing, writing, Gives}
+use Rattle.outputs.specs.GivesLaws.{after-refuses, after-gives, gives-short, gives-written}
+use Rattle.numbers.specs.Numbers.{four, encoded}
+use Rattle.numbers.specs.NumberLaws.{encoded-length, encoded-append}
 use Rattle.plans.specs.declared.Plan.{Plan}
 use Rattle.plans.specs.Plans.{Settings, thresholdOf, plannedFor}
 use Rattle.plans.specs.Accepted.{threshold-small, named-accepts}

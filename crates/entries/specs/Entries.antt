@@ -1,17 +1,15 @@
 -- The numbers that each entry gives, four bytes each, or the refusal: 1 to 9, then 10 and 11 where a plan is asked for, then 13.
-use Prim.Native.Nat.{ℕ, suc, _-_, _<_}
-use mathlib.Core.Path.{_≡_}
-use mathlib.Core.List.{List, [], _∷_}
+use Prim.Native.Nat.{ℕ, suc, _-_}
+use mathlib.Core.List.{List, _∷_}
 use Rattle.order.specs.Lists.{joined}
 use Rattle.model.specs.Table.{Table, count}
 use Rattle.model.specs.declared.Iteration.{Iteration}
-use Rattle.refusals.specs.Answers.{accepted, after}
+use Rattle.refusals.specs.Answers.{after}
 use Rattle.serial.specs.Serial.{table}
 use Rattle.lists.specs.Fusion.{Fusion, work}
 use Rattle.numbers.specs.Numbers.{encoded}
 use Rattle.outputs.specs.Given.{Given, fitted}
 use Rattle.plans.specs.Plans.{Settings, Planned, shiftOf, peelOf, thresholdOf, planned, plannedFor}
-use Rattle.plans.specs.Accepted.{planned-accepts}
 use Rattle.sweeps.specs.Sweeps.{before}
 use Rattle.sweeps.specs.Sweeps as Sweeps
 
@@ -58,9 +56,3 @@ fusedGiven = listGiven 0
 
 abbrev pub peeledGiven : List ℕ → Settings → ℕ → ℕ → Given
 peeledGiven = listGiven 1
-
--- LAWS
--- a block of an accepted plan has an index, so the one before the next block's first is its last
-pub block-some : (s : List ℕ) (w : Settings) (q : Planned) → planned s w ≡ accepted q
-    → (b : ℕ) → b < q .plan .processors → q .plan .edge b < q .plan .edge (suc b)
-block-some s w q e = planned-accepts s w q e .fit .rising

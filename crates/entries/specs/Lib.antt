@@ -1,4 +1,6 @@
 -- the numbers that each entry gives
 pub mod Entries
+-- no block is empty
+pub mod EntryLaws
 -- what the code below the entries asks and gives
 pub mod Code

@@ -1,4 +1,8 @@
 -- the memory's length, and ground 12
 pub mod Memory
+-- what 12 lets pass; no iteration changes the length
+pub mod MemoryLaws
 -- a table's statements in its store
 pub mod Loaded
+-- laws of it
+pub mod LoadedLaws

@@ -19,7 +19,8 @@ use Rattle.serial.specs.Serial.{table}
 use Rattle.serial.specs.Parallel.{accepted-parallel}
 use Rattle.outputs.specs.declared.Outcome.{Outcome}
 use Rattle.outputs.specs.Given.{Given, fitted}
-use Rattle.outputs.specs.Gives.{refusing, writing, Gives, gives-refused, after-refuses, after-gives, gives-short, gives-written}
+use Rattle.outputs.specs.Gives.{refusing, writing, Gives}
+use Rattle.outputs.specs.GivesLaws.{gives-refused, after-refuses, after-gives, gives-short, gives-written}
 use Rattle.joining.specs.Joining.{alike, joinedRecords, joining}
 use Rattle.joining.specs.Written.{alike-same}
 use Rattle.joining.specs.Copied.{bytes, bytes-length, bytes-joined}

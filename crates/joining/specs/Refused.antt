@@ -10,7 +10,7 @@ use Rattle.refusals.specs.declared.Refusal.{Refusal}
 use Rattle.refusals.specs.Refusals.{met}
 use Rattle.refusals.specs.Answers.{accepted}
 use Rattle.serial.specs.Serial.{table}
-use Rattle.tables.specs.Nine.{Told}
+use Rattle.tables.specs.Told.{Told}
 use Rattle.joining.specs.Joining.{joinedRecords}
 
 -- both tables are accepted

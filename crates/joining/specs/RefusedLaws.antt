@@ -12,7 +12,8 @@ use Rattle.records.specs.Encoding.{encodeAll}
 use Rattle.model.specs.Table.{Table, count}
 use Rattle.refusals.specs.declared.Refusal.{Refusal}
 use Rattle.refusals.specs.Refusals.{met}
-use Rattle.refusals.specs.Answers.{accepted, refused, _if_else_, after, refusalOf, Only, accepted-only}
+use Rattle.refusals.specs.Answers.{accepted, refused, _if_else_, after, refusalOf, Only}
+use Rattle.refusals.specs.AnswerLaws.{accepted-only}
 use Rattle.reader.specs.Reading.{Answer}
 use Rattle.serial.specs.Serial.{table}
 use Rattle.tables.specs.Nine.{told-some, refused-told}

@@ -11,7 +11,8 @@ use Rattle.model.specs.Table.{Inside}
 use Rattle.reader.specs.Store.{loopsIn, tableIn}
 use Rattle.blocks.specs.declared.Axis.{Axis}
 use Rattle.blocks.specs.Sums.{column}
-use Rattle.lists.specs.Fusion.{fusionIn, phases, work, fused-list, peeled-list}
+use Rattle.lists.specs.Fusion.{fusionIn, phases, work}
+use Rattle.lists.specs.FusionLaws.{fused-list, peeled-list}
 use Rattle.turns.specs.Turn.{Work, before}
 use Rattle.plans.specs.Code.{Laid}
 use Rattle.ranges.specs.Code.{rangeOf, listOf, RangesKept, Apart}

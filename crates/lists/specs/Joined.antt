@@ -8,7 +8,8 @@ use native.Mathlib.Omega.{arith}
 use lib.ListN.{length, getD, length-append, List·getD-append, List·getD-eq-default}
 use lib.Seq.{getD-append-add}
 use Rattle.order.specs.Lists.{Before, bhere, bthere, before-left, joined}
-use Rattle.blocks.specs.Sums.{total, total-up}
+use Rattle.blocks.specs.Sums.{total}
+use Rattle.blocks.specs.SumLaws.{total-up}
 
 module _ {A : Type 0} (f : ℕ → List A) where
   pub length-joined : (n : ℕ) → length (joined n f) ≡ total n (λ k. length (f k))

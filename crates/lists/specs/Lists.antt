@@ -1,7 +1,6 @@
 -- The orders of a fused and of a peeled list. K loops: loop k has the range r k, with an exclusive end, and the shift s k.
-use mathlib.Core.Path.{_≡_, refl}
 use mathlib.Core.Bool.{cond, _&&_}
-use mathlib.Core.List.{List, [], _∷_}
+use mathlib.Core.List.{List, _∷_}
 use Prim.Native.Nat.{ℕ, _+_, _-_}
 use lib.ListN.{length}
 use lib.Dec.{ltb, leb}
@@ -50,13 +49,3 @@ fusedColumns froms pasts shifts = bySums (length froms) (ranges froms pasts) (co
 
 abbrev pub peeledColumns : List ℕ → List ℕ → List Iteration
 peeledColumns froms pasts = byLoops (length froms) (ranges froms pasts)
-
--- KNOWN RESULTS, by computation. The lists of processor 0 in the example, two loops from 1 to 10 with shifts and peels 0 and 1, P = 2:
--- fused 0 0 1 5, fused 0 1 1 4, peeled 0 1 5 6; and a peeled list of two loops
-pub known : (fusedColumns (1 ∷ 1 ∷ []) (6 ∷ 5 ∷ []) (0 ∷ 1 ∷ []) ∷ peeledColumns (6 ∷ 5 ∷ []) (6 ∷ 7 ∷ []) ∷ peeledColumns (4 ∷ 3 ∷ []) (6 ∷ 5 ∷ []) ∷ [])
-    ≡ (iteration 0 1 ∷ iteration 0 2 ∷ iteration 1 1 ∷ iteration 0 3 ∷ iteration 1 2 ∷ iteration 0 4 ∷ iteration 1 3 ∷ iteration 0 5 ∷ iteration 1 4 ∷ [])
-    ∷ (iteration 1 5 ∷ iteration 1 6 ∷ [])
-    ∷ (iteration 0 4 ∷ iteration 0 5 ∷ iteration 1 3 ∷ iteration 1 4 ∷ [])
-    ∷ []
-unfolding loopAt sumAt sumBound bySums loopOver byLoops
-known = refl

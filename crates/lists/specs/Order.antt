@@ -12,8 +12,8 @@ use Rattle.order.specs.Lists.{Before, NoDup, before-left, before-right, joined,
 use Rattle.model.specs.declared.Iteration.{Iteration}
 use Rattle.model.specs.Table.{iteration}
 use Rattle.blocks.specs.declared.Range.{Range}
-use Rattle.blocks.specs.Sums.{largest-bound, largest-same}
-use Rattle.blocks.specs.Parts.{In}
+use Rattle.blocks.specs.SumLaws.{largest-bound, largest-same}
+use Rattle.blocks.specs.PartLaws.{In}
 use Rattle.lists.specs.Joined.{before-one}
 use Rattle.lists.specs.Lists.{loopAt, here, sumAt, sumBound, bySums, loopOver, over, byLoops}
 
@@ -130,9 +130,6 @@ module _ (K : ℕ) (r : ℕ → Range) (s : ℕ → ℕ) where
       (λ (t, l, h). inr (sum-at-mem t x (before-left h) .1 ∙ sym (sum-at-mem t y (before-right h) .1), sum-at-before t x y h))
       (λ (t, u, l, i, g, h). inl (omega (arith, sum-at-mem t x g .1, sum-at-mem u y h .1)))
       (before-joined (sumAt K r s) (sumBound K r s) b)
-
-  pub by-sums-once : NoDup (bySums K r s)
-  by-sums-once = less-once sum (λ x. x .number) (bySums K r s) by-sums-before
 
   -- it depends on the ranges and shifts of the K loops alone
   pub by-sums-same : (q : ℕ → Range) (u : ℕ → ℕ) → ((k : ℕ) → k < K → q k ≡ r k) → ((k : ℕ) → k < K → u k ≡ s k)

@@ -6,6 +6,8 @@ pub mod References
 pub mod Bodies
 -- the plain run
 pub mod PlainRun
+-- a walk upward, turn by turn
+pub mod PlainRunLaws
 -- what holds of a table that is not refused
 pub mod Sound
 -- which iterations commute

@@ -1,9 +1,6 @@
 -- Numbers in lent bytes: four bytes each, little-endian, one after the other.
-use Prim.Native.Nat.{ℕ, _+_, _*_, _/_, _%_}
-use native.Mathlib.Omega.{arith}
-use mathlib.Core.Path.{_≡_, refl, ap, _∙_}
-use mathlib.Core.List.{List, [], _∷_, _++_, append-assoc}
-use lib.ListN.{length, length-append}
+use Prim.Native.Nat.{ℕ, _+_, _/_, _%_}
+use mathlib.Core.List.{List, _∷_, _++_}
 
 unfoldable pub four : ℕ → List ℕ
 four x = (x % 256) ∷ (x / 256 % 256) ∷ (x / 65536 % 256) ∷ (x / 16777216 % 256) ∷ []
@@ -12,17 +9,3 @@ four x = (x % 256) ∷ (x / 256 % 256) ∷ (x / 65536 % 256) ∷ (x / 16777216 %
 unfoldable pub encoded : List ℕ → List ℕ
 encoded [] = []
 encoded (x ∷ xs) = four x ++ encoded xs
-
-pub four-length : (x : ℕ) → length (four x) ≡ 4
-unfolding four
-four-length x = refl
-
-pub encoded-length : (xs : List ℕ) → length (encoded xs) ≡ 4 * length xs
-unfolding encoded
-encoded-length [] = refl
-encoded-length (x ∷ xs) = length-append (four x) (encoded xs) ∙ ap (λ (n : ℕ). n + length (encoded xs)) (four-length x) ∙ omega (arith, encoded-length xs)
-
-pub encoded-append : (xs ys : List ℕ) → encoded (xs ++ ys) ≡ encoded xs ++ encoded ys
-unfolding encoded
-encoded-append [] ys = refl
-encoded-append (x ∷ xs) ys = ap (λ (l : List ℕ). four x ++ l) (encoded-append xs ys) ∙ (rw append-assoc)

@@ -8,7 +8,8 @@ use lib.ListN.{length, getD}
 use lib.Ieee.{Float}
 use Rattle.model.specs.Table.{Table, count, first, last, iteration, Inside}
 use Rattle.model.specs.Bodies.{run}
-use Rattle.model.specs.PlainRun.{upward, looped, plainRun, upward-turn, upward-ended}
+use Rattle.model.specs.PlainRun.{upward, looped, plainRun}
+use Rattle.model.specs.PlainRunLaws.{upward-turn, upward-ended}
 use Rattle.refusals.specs.declared.Refusal.{Refusal}
 use Rattle.refusals.specs.Refusals.{met, none}
 use Rattle.refusals.specs.Answers.{accepted, refusalOf}
@@ -19,8 +20,10 @@ use Rattle.serial.specs.Serial.{table}
 use Rattle.grounds.specs.Accepted.{Valid, accepted-valid, valid-last}
 use Rattle.tables.specs.Nine.{accepted-read}
 use Rattle.bodies.specs.Workable.{Based}
-use Rattle.iterations.specs.Memory.{total, remembered, remembered-as-long, remembered-unlike, run-length, looped-length}
-use Rattle.iterations.specs.Loaded.{Loaded, based-total}
+use Rattle.iterations.specs.Memory.{total, remembered}
+use Rattle.iterations.specs.MemoryLaws.{remembered-as-long, remembered-unlike, run-length, looped-length}
+use Rattle.iterations.specs.Loaded.{Loaded}
+use Rattle.iterations.specs.LoadedLaws.{based-total}
 use Rattle.plain.specs.Plain.{plainAnswer, runOf, plainMemory}
 use Rattle.plain.specs.Running.{Running}
 

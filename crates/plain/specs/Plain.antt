@@ -1,11 +1,8 @@
 -- The plain run of a table's bytes: the answer, and what the memory then holds.
 use Prim.Native.Nat.{ℕ}
-use mathlib.Core.Path.{_≡_}
 use mathlib.Core.List.{List}
-use borrow.Author.Tests.{eq-eqb}
 use lib.ListN.{length}
 use lib.Ieee.{Float}
-use Rattle.model.specs.Table.{Table}
 use Rattle.model.specs.PlainRun.{plainRun}
 use Rattle.refusals.specs.Answers.{accepted, refused}
 use Rattle.reader.specs.Reading.{Answer}
@@ -23,8 +20,3 @@ runOf (accepted t) m = plainRun t m
 
 unfoldable pub plainMemory : List ℕ → List Float → List Float
 plainMemory s m = runOf (plainAnswer s (length m)) m
-
--- LAW: of an accepted table and a memory of its length it is the plain run of the table
-pub plain-memory : (s : List ℕ) (t : Table) (m : List Float) → table s ≡ accepted t → length m ≡ total t → plainMemory s m ≡ plainRun t m
-unfolding plainMemory runOf plainAnswer remembered
-plain-memory s t m e l = rw (e, eq-eqb (length m) (total t) l)

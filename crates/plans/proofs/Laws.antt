@@ -17,11 +17,13 @@ use Rattle.serial.specs.Serial.{table}
 use Rattle.grounds.specs.Accepted.{Valid, valid-last}
 use Rattle.amounts.specs.declared.Amounts.{Amounts}
 use Rattle.chains.specs.Dependence.{backward, forward}
-use Rattle.chains.specs.Walk.{shifts, peels, numbers-length}
+use Rattle.chains.specs.Walk.{shifts, peels}
+use Rattle.chains.specs.WalkLaws.{numbers-length}
 use Rattle.chains.specs.Threshold.{threshold}
 use Rattle.blocks.specs.declared.Span.{Span}
 use Rattle.blocks.specs.Sums.{least, largest}
-use Rattle.blocks.specs.Span.{spanOf, tableSpan, span-found, span-same}
+use Rattle.blocks.specs.Span.{spanOf, tableSpan}
+use Rattle.blocks.specs.SpanLaws.{span-found, span-same}
 use Rattle.blocks.specs.Blocks.{isShort}
 use Rattle.plans.specs.declared.Plan.{Plan}
 use Rattle.plans.specs.Plans.{Planned, settings, thresholdOf, planOf, shortFor, fits, fitting}

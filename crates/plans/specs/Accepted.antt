@@ -11,7 +11,8 @@ use Rattle.model.specs.Table.{Table, count, first, last}
 use Rattle.model.specs.References.{allRefs}
 use Rattle.model.specs.Sound.{Sound}
 use Rattle.refusals.specs.Refusals.{met}
-use Rattle.refusals.specs.Answers.{accepted, refused, if-accepted, after-accepted}
+use Rattle.refusals.specs.Answers.{accepted, refused}
+use Rattle.refusals.specs.AnswerLaws.{if-accepted, after-accepted}
 use Rattle.reader.specs.Reading.{Answer}
 use Rattle.serial.specs.Serial.{table}
 use Rattle.grounds.specs.Accepted.{Valid, accepted-valid, valid-last}
@@ -20,11 +21,13 @@ use Rattle.chains.specs.Dependence.{Dependence}
 use Rattle.chains.specs.Walk.{shifts, peels}
 use Rattle.chains.specs.Tables.{allRefs-refs, allRefs-below, refs-number, plan-legal}
 use Rattle.chains.specs.Bounds.{InRange, shifts-bound, peels-bound, plan-threshold-bound}
-use Rattle.chains.specs.Threshold.{threshold-upper}
-use Rattle.blocks.specs.Span.{tableSpan, span-most}
-use Rattle.blocks.specs.Sums.{neither}
-use Rattle.blocks.specs.Blocks.{start-next, start-up, start-last, size-least, short-not}
-use Rattle.lists.specs.Fusion.{Fusion, Wide, fusion-wide}
+use Rattle.chains.specs.ThresholdLaws.{threshold-upper}
+use Rattle.blocks.specs.Span.{tableSpan}
+use Rattle.blocks.specs.SpanLaws.{span-most}
+use Rattle.blocks.specs.SumLaws.{neither}
+use Rattle.blocks.specs.BlockLaws.{start-next, start-up, start-last, size-least, short-not}
+use Rattle.lists.specs.Fusion.{Fusion}
+use Rattle.lists.specs.FusionLaws.{Wide, fusion-wide}
 use Rattle.rows.specs.Legal.{Legal}
 use Rattle.plans.specs.Plans.{Settings, Planned, shiftOf, peelOf, thresholdOf, planOf, shortFor, badProcessors, badNumber, fits, fitting, planned, plannedFor}
 

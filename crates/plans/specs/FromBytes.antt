@@ -15,12 +15,14 @@ use Rattle.model.specs.References.{allRefs}
 use Rattle.refusals.specs.Answers.{accepted}
 use Rattle.serial.specs.Serial.{table}
 use Rattle.chains.specs.Dependence.{backward, forward}
-use Rattle.chains.specs.Chains.{Chain, Largest, last-dependence}
+use Rattle.chains.specs.Chains.{Chain, Largest}
+use Rattle.chains.specs.ChainLaws.{last-dependence}
 use Rattle.chains.specs.Tables.{shift-largest, peel-largest, allRefs-refs, plan-least}
 use Rattle.chains.specs.Legal.{LegalPlan}
 use Rattle.chains.specs.Walk.{shifts, peels}
-use Rattle.chains.specs.Threshold.{threshold-attained, threshold-upper}
-use Rattle.lists.specs.Fusion.{work, fusedList, peeledList, Once, once, owner, phase}
+use Rattle.chains.specs.ThresholdLaws.{threshold-attained, threshold-upper}
+use Rattle.lists.specs.Fusion.{work, fusedList, peeledList}
+use Rattle.lists.specs.FusionLaws.{Once, once, owner, phase}
 use Rattle.lists.specs.EachOnce.{EachOnce}
 use Rattle.plans.specs.Plans.{Settings, Planned, shiftOf, peelOf, thresholdOf, planned}
 use Rattle.plans.specs.Accepted.{AcceptedPlan, valid, planned-accepts}

@@ -2,3 +2,5 @@
 pub mod Search
 -- the sums where all loops are at work
 pub mod Lines
+-- laws of it
+pub mod LineLaws

@@ -15,7 +15,8 @@ use Rattle.blocks.specs.Sums.{total, largest, column}
 use Rattle.lists.specs.Joined.{length-ones, walk-here, walk-next, walk-out}
 use Rattle.lists.specs.Lists.{here, sumAt, sumBound, loopOver, over, byLoops, ranges, fusedColumns}
 use Rattle.lists.specs.Order.{loop-at}
-use Rattle.lists.specs.Below.{weighted, below, by-sums-nth, by-sums-below}
+use Rattle.lists.specs.Below.{weighted, below}
+use Rattle.lists.specs.BelowLaws.{by-sums-nth, by-sums-below}
 use Rattle.positions.specs.declared.Position.{Position}
 use Rattle.positions.specs.declared.Search.{Search}
 

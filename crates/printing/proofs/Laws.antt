@@ -7,7 +7,8 @@ use mathlib.Core.List.{List, [], _++_}
 use lib.Dec.{ltb}
 use lib.ListN.{length, drop, length-append}
 use Rattle.refusals.specs.Refusals.{met}
-use Rattle.refusals.specs.Answers.{accepted, refused, _if_else_, told-refused}
+use Rattle.refusals.specs.Answers.{accepted, refused, _if_else_}
+use Rattle.refusals.specs.AnswerLaws.{told-refused}
 use Rattle.reader.specs.Store.{tableIn}
 use Rattle.lists.specs.Fusion.{fusionIn}
 use Rattle.blocks.specs.declared.Axis.{Axis}
@@ -18,7 +19,8 @@ use Rattle.sweeps.specs.declared.Sweeps.{Sweeps}
 use Rattle.sweeps.specs.Sweeps.{sweeps}
 use Rattle.outputs.specs.declared.Outcome.{Outcome}
 use Rattle.outputs.specs.Given.{Given, fitted, final, countOf}
-use Rattle.outputs.specs.Gives.{refusing, writing, Gives, gives-refused, gives-short, gives-written}
+use Rattle.outputs.specs.Gives.{refusing, writing, Gives}
+use Rattle.outputs.specs.GivesLaws.{gives-refused, gives-short, gives-written}
 use Rattle.text.specs.Lent.{Whole}
 use Rattle.text.specs.Written.{written-front, written-nowhere}
 use Rattle.listing.specs.Listing.{listing, refusalLine}

@@ -18,7 +18,8 @@ use Rattle.text.specs.Line.{line}
 use Rattle.text.specs.Lengths.{two-most, three-most, four-most}
 use Rattle.grounds.specs.Accepted.{valid-last}
 use Rattle.blocks.specs.declared.Range.{Range}
-use Rattle.blocks.specs.Sums.{total, total-up}
+use Rattle.blocks.specs.Sums.{total}
+use Rattle.blocks.specs.SumLaws.{total-up}
 use Rattle.blocks.specs.Blocks.{blockAt}
 use Rattle.blocks.specs.Parts.{fusedPart, peeledPart}
 use Rattle.lists.specs.Fusion.{Fusion, own, fusedRange, peeledRange}

@@ -6,7 +6,8 @@ use mathlib.Core.Path.{_≡_, ap, _∙_}
 use mathlib.Core.List.{List}
 use lib.ListN.{length}
 use borrow.Author.Tests.{le-ltb}
-use Rattle.marks.specs.Marks.{size, size-most}
+use Rattle.marks.specs.Marks.{size}
+use Rattle.marks.specs.MarkLaws.{size-most}
 use Rattle.model.specs.Table.{Table, count}
 use Rattle.model.specs.References.{allRefs}
 use Rattle.chains.specs.Dependence.{backward, forward}

@@ -8,7 +8,8 @@ use lib.ListN.{length, drop}
 use borrow.Author.Tests.{le-ltb}
 use Rattle.refusals.specs.declared.Refusal.{Refusal}
 use Rattle.refusals.specs.Refusals.{met}
-use Rattle.refusals.specs.Answers.{accepted, refused, if-accepted, after-accepted}
+use Rattle.refusals.specs.Answers.{accepted, refused}
+use Rattle.refusals.specs.AnswerLaws.{if-accepted, after-accepted}
 use Rattle.serial.specs.Serial.{table}
 use Rattle.outputs.specs.declared.Outcome.{Outcome}
 use Rattle.outputs.specs.Given.{fitted, final}

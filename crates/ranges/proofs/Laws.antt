@@ -14,8 +14,8 @@ use Rattle.blocks.specs.declared.Range.{Range}
 use Rattle.blocks.specs.Code.{partOf}
 use Rattle.reader.specs.Store.{firstAt, lastAt, loopsIn}
 use Rattle.plans.specs.Code.{Laid}
-use Rattle.blocks.specs.Sums.{total-next}
-use Rattle.lists.specs.Below.{lengths}
+use Rattle.blocks.specs.SumLaws.{total-next}
+use Rattle.lists.specs.BelowLaws.{lengths}
 use Rattle.lists.specs.Lists.{fusedColumns, peeledColumns}
 use Rattle.positions.specs.Search.{Aligned}
 use Rattle.ranges.specs.Code.{partIn, rangeOf, Along, cut, listOf, RangesKept, Apart}

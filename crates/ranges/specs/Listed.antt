@@ -20,13 +20,16 @@ use Rattle.blocks.specs.declared.Axis.{Axis}
 use Rattle.blocks.specs.declared.Part.{Part}
 use Rattle.blocks.specs.declared.Part.the-variants.{Fused, Peeled}
 use Rattle.blocks.specs.declared.Range.{Range}
-use Rattle.blocks.specs.Sums.{column, total-same}
-use Rattle.blocks.specs.Blocks.{block, start-last}
+use Rattle.blocks.specs.Sums.{column}
+use Rattle.blocks.specs.SumLaws.{total-same}
+use Rattle.blocks.specs.Blocks.{block}
+use Rattle.blocks.specs.BlockLaws.{start-last}
 use Rattle.blocks.specs.Parts.{fusedPart, peeledPart}
 use Rattle.blocks.specs.Code.{partOf}
 use Rattle.lists.specs.Lists.{ranges}
-use Rattle.lists.specs.Below.{lengths, by-sums-length, by-loops-length}
-use Rattle.lists.specs.Fusion.{fusionIn, fusedRange, peeledRange, work, fused-list, peeled-list, fused-columns, peeled-columns}
+use Rattle.lists.specs.BelowLaws.{lengths, by-sums-length, by-loops-length}
+use Rattle.lists.specs.Fusion.{fusionIn, fusedRange, peeledRange, work}
+use Rattle.lists.specs.FusionLaws.{fused-list, peeled-list, fused-columns, peeled-columns}
 use Rattle.positions.specs.Search.{Aligned}
 use Rattle.plans.specs.Code.{Laid}
 use Rattle.ranges.specs.Code.{partIn, rangeOf, cut, listOf, RangesKept, Apart}

@@ -18,7 +18,8 @@ use Rattle.records.specs.Passing.{whole-passed, whole-ended}
 use Rattle.records.specs.Same.{record-length}
 use Rattle.model.specs.Table.{Item, read, constant, operation, Table}
 use Rattle.refusals.specs.Refusals.{met}
-use Rattle.refusals.specs.Answers.{accepted, refused, _if_else_, not-both}
+use Rattle.refusals.specs.Answers.{accepted, refused, _if_else_}
+use Rattle.refusals.specs.AnswerLaws.{not-both}
 use Rattle.reader.specs.Reading.{follow, readFrom, reading, tableOf, loopsOf}
 
 -- from a place on, after the records rs: all is what has been read where the reading ends

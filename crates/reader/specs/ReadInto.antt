@@ -4,7 +4,8 @@ use mathlib.Core.Path.{_≡_, sym, ap}
 use mathlib.Core.List.{List}
 use Rattle.refusals.specs.declared.Refusal.{Refusal}
 use Rattle.refusals.specs.Refusals.{none}
-use Rattle.refusals.specs.Answers.{accepted, refused, refusalOf, told-refused}
+use Rattle.refusals.specs.Answers.{accepted, refused, refusalOf}
+use Rattle.refusals.specs.AnswerLaws.{told-refused}
 use Rattle.reader.specs.Reading.{Answer}
 use Rattle.reader.specs.Store.{tableIn}
 use Rattle.reader.specs.Held.{Held}

@@ -21,7 +21,8 @@ use Rattle.model.specs.Sound.{Sound}
 use Rattle.model.specs.Commute.{Clash, commutes}
 use Rattle.blocks.specs.Index.{same-part}
 use Rattle.lists.specs.Order.{Less, less-key}
-use Rattle.lists.specs.Fusion.{Fusion, Wide, phases, work, owner, phase, key, rank, pastAll, index-below, rows, once}
+use Rattle.lists.specs.Fusion.{Fusion, phases, work}
+use Rattle.lists.specs.FusionLaws.{Wide, owner, phase, key, rank, pastAll, index-below, rows, once}
 use Rattle.rows.specs.PlainOrder.{plain, plain-mem, plain-before, plain-once, plain-run}
 use Rattle.rows.specs.Legal.{Depends, NoneMissed, Legal}
 use Rattle.rows.specs.Contained.{contained}

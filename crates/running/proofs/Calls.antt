@@ -12,7 +12,8 @@ use Rattle.model.specs.declared.Iteration.{Iteration}
 use Rattle.model.specs.Table.{iteration}
 use Rattle.model.specs.Bodies.{run}
 use Rattle.reader.specs.Store.{tableIn}
-use Rattle.iterations.specs.Memory.{total, run-length}
+use Rattle.iterations.specs.Memory.{total}
+use Rattle.iterations.specs.MemoryLaws.{run-length}
 use Rattle.turns.specs.Turn.{Work, Said, refuses, performs, waits, ends, After, after, next, turn}
 use Rattle.turns.specs.Row.{reports, countsAfter, memoryAfter, performing, idle}
 use Rattle.turns.specs.Reachable.{Reachable}

@@ -7,10 +7,12 @@ use lib.ListN.{length}
 use lib.Ieee.{Float}
 use Rattle.refusals.specs.declared.Refusal.{Refusal}
 use Rattle.refusals.specs.Refusals.{met, none}
-use Rattle.refusals.specs.Answers.{accepted, refused, refusalOf, told-refused}
+use Rattle.refusals.specs.Answers.{accepted, refused, refusalOf}
+use Rattle.refusals.specs.AnswerLaws.{told-refused}
 use Rattle.reader.specs.Store.{tableIn}
 use Rattle.blocks.specs.declared.Axis.{Axis}
-use Rattle.iterations.specs.Memory.{total, remembered, remembered-as-long, remembered-unlike}
+use Rattle.iterations.specs.Memory.{total, remembered}
+use Rattle.iterations.specs.MemoryLaws.{remembered-as-long, remembered-unlike}
 use Rattle.iterations.specs.Loaded.{Loaded}
 use Rattle.model.specs.declared.Iteration.{Iteration}
 use Rattle.turns.specs.Turn.{Work}

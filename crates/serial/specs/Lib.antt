@@ -2,5 +2,7 @@
 pub mod Serial
 -- ground 9: the statement, and that the test decides it
 pub mod Meeting
+-- the test decides it, and names the lowest read
+pub mod MeetingLaws
 -- a table is accepted where no loop collides
 pub mod Parallel

@@ -5,7 +5,8 @@ use native.Mathlib.Decide.{ℕ-discrete}
 use mathlib.Core.Path.{_≡_, refl, ap, subst, _∙_}
 use mathlib.Core.List.{List}
 use Rattle.model.specs.Table.{Table, loop, count}
-use Rattle.refusals.specs.Answers.{accepted, refused, not-both}
+use Rattle.refusals.specs.Answers.{accepted, refused}
+use Rattle.refusals.specs.AnswerLaws.{not-both}
 use Rattle.reader.specs.Reading.{Answer, reading}
 use Rattle.serial.specs.declared.Collision.{Collision}
 use Rattle.serial.specs.declared.Collision.the-variants.{Nothing, Read}

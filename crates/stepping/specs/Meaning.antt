@@ -16,12 +16,13 @@ use Rattle.refusals.specs.Refusals.{met}
 use Rattle.refusals.specs.Answers.{AnswerOf, accepted, refused}
 use Rattle.grounds.specs.Accepted.{valid-last}
 use Rattle.blocks.specs.Sums.{column}
-use Rattle.lists.specs.Fusion.{once}
+use Rattle.lists.specs.FusionLaws.{once}
 use Rattle.turns.specs.Turn.{Said, refuses, performs, waits, ends, After, stays, wrongState, next, turn, stepped, own}
 use Rattle.turns.specs.Meaning.{turn-said, performs-says, waits-says, ends-says}
 use Rattle.plans.specs.Plans.{Settings, Planned, planned, plannedFor}
 use Rattle.plans.specs.Accepted.{planned-accepts, named-accepts}
-use Rattle.iterations.specs.Memory.{remembered, remembered-accepted}
+use Rattle.iterations.specs.Memory.{remembered}
+use Rattle.iterations.specs.MemoryLaws.{remembered-accepted}
 use Rattle.stepping.specs.declared.Report.{Report}
 use Rattle.stepping.specs.declared.Report.the-variants.{Performed, Waiting, Finished}
 use Rattle.stepping.specs.Step.{workOf, reportOf, elements, steppedBy, step, fused, peeled}

@@ -13,7 +13,8 @@ use Rattle.turns.specs.Reach.{stepped-turn}
 use Rattle.turns.specs.Reachable.{Reachable}
 use Rattle.plans.specs.Plans.{Settings, Planned, planned}
 use Rattle.plans.specs.Accepted.{named-below, named-past}
-use Rattle.iterations.specs.Memory.{remembered, remembered-as-long}
+use Rattle.iterations.specs.Memory.{remembered}
+use Rattle.iterations.specs.MemoryLaws.{remembered-as-long}
 use Rattle.stepping.specs.Step.{workOf, elements, steppedBy, step}
 
 module _ (s : List ℕ) (w : Settings) (q : Planned) (planned-is : planned s w ≡ accepted q) (b : ℕ) (cs : List ℕ) (m : List Float) where

@@ -10,10 +10,12 @@ use Rattle.model.specs.declared.Iteration.{Iteration}
 use Rattle.model.specs.Table.{iteration}
 use Rattle.model.specs.Bodies.{run}
 use Rattle.refusals.specs.Refusals.{met}
-use Rattle.refusals.specs.Answers.{accepted, told-refused}
+use Rattle.refusals.specs.Answers.{accepted}
+use Rattle.refusals.specs.AnswerLaws.{told-refused}
 use Rattle.reader.specs.Store.{tableIn}
 use Rattle.blocks.specs.declared.Axis.{Axis}
-use Rattle.iterations.specs.Memory.{total, remembered, remembered-as-long, remembered-unlike}
+use Rattle.iterations.specs.Memory.{total, remembered}
+use Rattle.iterations.specs.MemoryLaws.{remembered-as-long, remembered-unlike}
 use Rattle.turns.specs.Turn.{After, turn, stepped, wrongState}
 use Rattle.barriers.specs.Code.{Ended, wrongBy}
 use Rattle.barriers.specs.Same.{wrong-by-open}

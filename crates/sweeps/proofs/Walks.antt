@@ -6,9 +6,10 @@ use mathlib.Core.Path.{_≡_, sym, ap, ap₂, subst, _∙_, fun-ext}
 use mathlib.Core.Bool.{Bool, false, or-assoc, or-false, _&&_, _||_}
 use mathlib.Core.List.{List}
 use lib.Dec.{eqb}
-use Rattle.marks.specs.Marks.{marked, size, size-most, size-same, none-marked}
+use Rattle.marks.specs.Marks.{marked, size}
+use Rattle.marks.specs.MarkLaws.{size-most, size-same, none-marked}
 use Rattle.model.specs.Table.{Table, count}
-use Rattle.model.specs.PlainRun.{upward-turn, upward-ended}
+use Rattle.model.specs.PlainRunLaws.{upward-turn, upward-ended}
 use Rattle.reader.specs.Store.{startAt, kindAt, arrayAt, loopsIn, tableIn}
 use Rattle.reader.specs.Held.{Held, count-held, few-loops, rows-rise, few-rows}
 use Rattle.sweeps.specs.declared.Totals.{Totals}

@@ -15,16 +15,19 @@ use Rattle.model.specs.Table.{Table, Statement, loop, count}
 use Rattle.model.specs.Sound.{Sound}
 use Rattle.refusals.specs.declared.Refusal.{Refusal}
 use Rattle.refusals.specs.Refusals.{met, naming}
-use Rattle.refusals.specs.Answers.{accepted, refused, refusalOf, not-both, after-refused}
+use Rattle.refusals.specs.Answers.{accepted, refused, refusalOf}
+use Rattle.refusals.specs.AnswerLaws.{not-both, after-refused}
 use Rattle.reader.specs.Reading.{Answer, reading}
 use Rattle.serial.specs.declared.Collision.{Collision}
 use Rattle.serial.specs.declared.Collision.the-variants.{Nothing, Read}
 use Rattle.serial.specs.Serial.{loopHit, afterLoop, serialFrom, through, table}
-use Rattle.serial.specs.Meeting.{Serial, Collides, FirstMeeting, allReads, hit-collides, lower-apart, none-parallel}
+use Rattle.serial.specs.Meeting.{Serial, Collides, FirstMeeting, allReads}
+use Rattle.serial.specs.MeetingLaws.{hit-collides, lower-apart, none-parallel}
 use Rattle.serial.specs.Parallel.{accepted-parallel}
 use Rattle.grounds.specs.Statements.{Ground}
 use Rattle.grounds.specs.StatementLaws.{ground-number}
 use Rattle.grounds.specs.Theorems.{refused-ground, refused-unnamed, accepted-none}
+use Rattle.tables.specs.Told.{Told, ground, serial}
 use Rattle.grounds.specs.Accepted.{accepted-valid, valid-known, valid-within}
 
 -- a walk over the loops that stops: a loop collides, and no earlier one from k on, of n, does
@@ -77,12 +80,6 @@ read-in t k n d st body l =
     rw body (mthere (nth-mem (reads k (st .items) ++ []) d n (rw body at l)))
 
 -- THE THEOREMS
--- each ground of 1 to 9 where it is told: 1 to 8 at a place of the bytes, naming nothing; 9 at the lowest loop of the table that meets, naming
--- its lowest read that collides
-pub data Told : Refusal → List ℕ → Type 0 where
-  ground : {n p : ℕ} {s : List ℕ} → Ground n s p → Told (met n p) s
-  serial : {p n : ℕ} {s : List ℕ} (t : Table) → reading s ≡ accepted t → FirstMeeting t p n → Told (naming 9 p n 0) s
-
 module _ (s : List ℕ) where
   -- a read that collides makes two iterations meet
   collides-serial : (t : Table) (k n : ℕ) → (st : Statement) → loop t k .body ≡ st ∷ [] → Collides t k n → Serial t k

@@ -13,7 +13,8 @@ use Rattle.order.specs.Lists.{if-yes, pick-length, perm-length}
 use Rattle.order.specs.Machine.{left, left-size, left-rest, left-next, rest, rest-next, next, next-open, bump, count, trace, final, start, runs, run-perm}
 use Rattle.order.specs.Exists.{Able, some-able, nothing}
 use Rattle.order.specs.Rows.{Rows, plan, whole}
-use Rattle.blocks.specs.Sums.{column, total-same}
+use Rattle.blocks.specs.Sums.{column}
+use Rattle.blocks.specs.SumLaws.{total-same}
 use Rattle.lists.specs.Joined.{length-joined}
 use Rattle.turns.specs.Turn.{Said, refuses, performs, waits, ends, After, before}
 use Rattle.turns.specs.Row.{actionIn, noneDone, countsAfter, memoryAfter, performing, lowest, canStep, closing, listed, rowOf, Complete}

@@ -10,7 +10,8 @@ use lib.Dec.{ltb}
 use borrow.Author.Tests.{ltb-true, ltb-false, lt-ltb, le-ltb, le-leb, lt-leb}
 use lib.ListN.{length, getD, length-set}
 use lib.Seq.{getD-set-same, getD-set-other}
-use Rattle.blocks.specs.Sums.{column, some, neither, total-up, some-none, some-which, some-each}
+use Rattle.blocks.specs.Sums.{column, some}
+use Rattle.blocks.specs.SumLaws.{neither, total-up, some-none, some-which, some-each}
 use Rattle.turns.specs.Turn.{Work, Said, performs, waits, ends, before, closed, comeTo, phaseOf, wrongCount, wrongState}
 use Rattle.turns.specs.Turn.{next, counted, after, turn, stepped}
 use Rattle.turns.specs.Row.{noneDone}

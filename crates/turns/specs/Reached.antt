@@ -11,7 +11,8 @@ use borrow.Author.Tests.{ltb-true, ltb-false}
 use lib.ListN.{length, getD, set, length-set}
 use lib.Seq.{getD-set-same, getD-set-other, set-set, set-getD, ext-getD}
 use Rattle.order.specs.Rows.{Rows}
-use Rattle.blocks.specs.Sums.{column, total, total-less, some, some-which, some-each}
+use Rattle.blocks.specs.Sums.{column, total, some}
+use Rattle.blocks.specs.SumLaws.{total-less, some-which, some-each}
 use Rattle.turns.specs.Turn.{Work, Said, After, before, next, after, turn}
 use Rattle.turns.specs.Row.{noneDone, countsAfter, memoryAfter}
 use Rattle.turns.specs.RowLaws.{none-done, counts-append}

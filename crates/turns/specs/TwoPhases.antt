@@ -8,7 +8,8 @@ use mathlib.Core.List.{List}
 use lib.Dec.{ltb}
 use borrow.Author.Tests.{lt-ltb, le-ltb, le-leb, lt-leb}
 use lib.ListN.{length, getD}
-use Rattle.blocks.specs.Sums.{column, some, some-none, some-same}
+use Rattle.blocks.specs.Sums.{column, some}
+use Rattle.blocks.specs.SumLaws.{some-none, some-same}
 use Rattle.turns.specs.Turn.{Work, Said, performs, waits, ends, closed, next, wrongCount}
 
 module _ {A : Type 0} (w : Work A) (counts : List ℕ) where

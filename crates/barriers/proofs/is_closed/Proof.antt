@@ -2,7 +2,8 @@ use native.Mathlib.Omega.{arith}
 use mathlib.Core.Path.{sym}
 use denote.Ref.{now}
 use borrow.Author.Tests.{le-ltb}
-use Rattle.blocks.specs.Sums.{column, some-none}
+use Rattle.blocks.specs.Sums.{column}
+use Rattle.blocks.specs.SumLaws.{some-none}
 use Rattle.barriers.specs.Code.{leftBy}
 use Rattle.barriers.proofs.Laws.{lowest-some}
 use borrow.Author.Needs.{needs}

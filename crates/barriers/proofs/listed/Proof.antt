@@ -3,7 +3,8 @@ use denote.Ref.{now}
 use native.Mathlib.Omega.{arith}
 use mathlib.Core.Path.{_≡_, refl, ap, _∙_}
 use borrow.Author.Needs.{needs}
-use Rattle.blocks.specs.Sums.{total, total-next}
+use Rattle.blocks.specs.Sums.{total}
+use Rattle.blocks.specs.SumLaws.{total-next}
 use Rattle.barriers.specs.Code.{beforeBy}
 use Rattle.barriers.proofs.Laws.{before-small}
 use Rattle.barriers.proofs.listed.Statement.{statement}

@@ -1,6 +1,6 @@
 -- `blocks::short` meets its contract: of the blocks the smallest alone has to be tested. Assumes nothing.
 use borrow.Author.Tests.{lt-ltb, le-ltb, le-leb, lt-leb}
-use Rattle.blocks.specs.Blocks.{short-at}
+use Rattle.blocks.specs.BlockLaws.{short-at}
 use borrow.Author.Needs.{needs}
 use Rattle.blocks.proofs.short.Statement.{statement}
 use Rattle.blocks.proofs.short.Tie as tie

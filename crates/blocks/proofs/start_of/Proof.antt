@@ -1,6 +1,6 @@
 -- `blocks::start_of` meets its contract: each block before b has T / P indices, and the first (T mod P) have one more. Assumes nothing.
 use native.Mathlib.Omega.{arith}
-use Rattle.blocks.specs.Blocks.{start-fits, start-at}
+use Rattle.blocks.specs.BlockLaws.{start-fits, start-at}
 use borrow.Author.Needs.{needs}
 use Rattle.blocks.proofs.start_of.Statement.{statement}
 use Rattle.blocks.proofs.start_of.Tie as tie

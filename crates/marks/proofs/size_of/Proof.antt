@@ -1,6 +1,7 @@
 use Prim.Native.Nat.{_/_, _^_, _<_}
 use native.Mathlib.Nat.{div-one}
-use Rattle.marks.specs.Marks.{marked, size-most}
+use Rattle.marks.specs.Marks.{marked}
+use Rattle.marks.specs.MarkLaws.{size-most}
 use Rattle.marks.proofs.Laws.{size-from}
 use Rattle.marks.proofs.size_of.Statement.{statement}
 use Rattle.marks.proofs.size_of.Tie as tie

@@ -6,7 +6,8 @@ use denote.Ref.{now}
 use borrow.Author.Needs.{needs}
 use Rattle.reader.specs.Store.{firstAt, lastAt}
 use Rattle.reader.specs.Held.{few-loops}
-use Rattle.blocks.specs.Sums.{least, largest, least-next, largest-next}
+use Rattle.blocks.specs.Sums.{least, largest}
+use Rattle.blocks.specs.SumLaws.{least-next, largest-next}
 use Rattle.plans.proofs.Laws.{last-small, span-end}
 use Rattle.plans.proofs.span_of.Statement.{statement}
 use Rattle.plans.proofs.span_of.Tie as tie

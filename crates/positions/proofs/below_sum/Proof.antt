@@ -4,7 +4,8 @@ use Prim.Native.Nat.{_≤_, _-_, _*_, _^_}
 use native.Mathlib.Omega.{arith}
 use denote.Ref.{now}
 use lib.ListN.{length}
-use Rattle.blocks.specs.Sums.{column, total, total-next}
+use Rattle.blocks.specs.Sums.{column, total}
+use Rattle.blocks.specs.SumLaws.{total-next}
 use Rattle.lists.specs.Lists.{ranges}
 use Rattle.lists.specs.Below.{weighted}
 use Rattle.positions.specs.Search.{below-all}

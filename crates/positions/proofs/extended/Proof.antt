@@ -3,7 +3,7 @@ use mathlib.Core.Path.{refl}
 use Prim.Native.Nat.{_+_, _^_}
 use native.Mathlib.Omega.{arith}
 use Rattle.positions.specs.Search.{weight-product}
-use Rattle.positions.specs.Lines.{extended-none, extended-more}
+use Rattle.positions.specs.LineLaws.{extended-none, extended-more}
 use Rattle.positions.proofs.extended.Statement.{statement}
 use Rattle.positions.proofs.extended.Tie as tie
 

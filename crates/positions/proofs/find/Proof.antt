@@ -6,7 +6,7 @@ use denote.Ref.{now}
 use lib.ListN.{length}
 use Rattle.blocks.specs.Sums.{column}
 use Rattle.lists.specs.Lists.{ranges}
-use Rattle.lists.specs.Below.{below-zero, below-first}
+use Rattle.lists.specs.BelowLaws.{below-zero, below-first}
 use Rattle.positions.specs.Search.{Bracket}
 use Rattle.positions.proofs.find.Statement.{statement}
 use Rattle.positions.proofs.find.Tie as tie

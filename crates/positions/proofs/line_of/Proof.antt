@@ -6,7 +6,8 @@ use lib.ListN.{length}
 use Rattle.blocks.specs.Sums.{column, total}
 use Rattle.lists.specs.Lists.{ranges}
 use Rattle.lists.specs.Below.{weighted}
-use Rattle.positions.specs.Lines.{Counted, line-next, line-end}
+use Rattle.positions.specs.Lines.{Counted}
+use Rattle.positions.specs.LineLaws.{line-next, line-end}
 use Rattle.positions.proofs.line_of.Statement.{statement}
 use Rattle.positions.proofs.line_of.Tie as tie
 

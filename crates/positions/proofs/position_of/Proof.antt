@@ -2,7 +2,7 @@
 use native.Mathlib.Omega.{arith}
 use denote.Ref.{now}
 use Rattle.positions.specs.Search.{boundColumns}
-use Rattle.positions.specs.Lines.{line-located}
+use Rattle.positions.specs.LineLaws.{line-located}
 use borrow.Author.Needs.{needs}
 use Rattle.positions.proofs.position_of.Statement.{statement}
 use Rattle.positions.proofs.position_of.Tie as tie

@@ -4,7 +4,8 @@ use Prim.Native.Nat.{_≤_, _<_, _-_, _+_, _^_}
 use native.Mathlib.Omega.{arith}
 use denote.Ref.{now}
 use lib.ListN.{length}
-use Rattle.blocks.specs.Sums.{column, largest, largest-next}
+use Rattle.blocks.specs.Sums.{column, largest}
+use Rattle.blocks.specs.SumLaws.{largest-next}
 use Rattle.lists.specs.Lists.{ranges}
 use Rattle.positions.specs.Search.{bound-all}
 use Rattle.positions.proofs.sum_bound.Statement.{statement}

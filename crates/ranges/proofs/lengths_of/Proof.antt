@@ -4,7 +4,7 @@ use mathlib.Core.Path.{_≡_, refl, ap, _∙_}
 use denote.Ref.{now}
 use Rattle.reader.specs.Store.{loopsIn}
 use Rattle.blocks.specs.declared.Axis.{Axis}
-use Rattle.lists.specs.Below.{lengths}
+use Rattle.lists.specs.BelowLaws.{lengths}
 use Rattle.plans.specs.Code.{Laid}
 use Rattle.ranges.specs.Code.{rangeOf, Along}
 use Rattle.ranges.specs.Listed.{few-loops, lengths-in}

@@ -5,7 +5,7 @@ use denote.Ref.{now}
 use Rattle.reader.specs.Store.{loopsIn}
 use Rattle.blocks.specs.declared.Range.{Range}
 use Rattle.blocks.specs.Sums.{column}
-use Rattle.lists.specs.Below.{lengths}
+use Rattle.lists.specs.BelowLaws.{lengths}
 use Rattle.ranges.specs.Code.{rangeOf}
 use Rattle.ranges.specs.Listed.{few-loops, span-fits, range-small, lengths-in}
 use Rattle.ranges.proofs.Laws.{Filled, filled-none, filled-next}

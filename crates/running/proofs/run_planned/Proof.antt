@@ -2,7 +2,7 @@ use native.Mathlib.Omega.{arith}
 use mathlib.Core.Path.{refl, sym, _∙_}
 use denote.Ref.{now}
 use Rattle.barriers.specs.Same.{zeros-small}
-use Rattle.iterations.specs.Loaded.{loaded-total}
+use Rattle.iterations.specs.LoadedLaws.{loaded-total}
 use Rattle.plans.specs.Code.{plannedIn}
 use Rattle.layouts.specs.Layout.{workIn}
 use Rattle.stepping.specs.Step.{step}

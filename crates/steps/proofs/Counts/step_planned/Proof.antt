@@ -4,7 +4,7 @@ use mathlib.Core.Path.{_≡_, refl, sym, _∙_}
 use denote.Ref.{now}
 use lib.ListN.{length}
 use Rattle.barriers.specs.Same.{zeros-small}
-use Rattle.iterations.specs.Loaded.{loaded-total}
+use Rattle.iterations.specs.LoadedLaws.{loaded-total}
 use Rattle.layouts.specs.Layout.{workIn}
 use Rattle.steps.specs.Laid.{loaded-in, lent-in}
 use Rattle.steps.proofs.Laws.{leaves-unlike, leaves-wrong, leaves-called}
