@@ -27,32 +27,32 @@ module _ (s : List ℕ) (w : Settings) (q : Planned) (planned-is : planned s w �
   by-phases : {l : List Iteration} → Order q l → turns.Order (workOf q) l
   by-phases {l} o = record {
     each = λ n b x i j m. o .each x (home s w q planned-is .alone n b x i j m .0);
-    listed = λ x m.
-        let (i, j, h) = home s w q planned-is .listed x (o .inside x m) in
+    nothing-else = λ x m.
+        let (i, j, h) = home s w q planned-is .listed x (o .nothing-else x m) in
         (phase (q .table) (q .plan) x, owner (q .table) (q .plan) x, j, i, h);
     single = o .single;
-    own = own;
-    barrier = barrier;
+    own-order = own-order;
+    by-phase = by-phase;
   }
     where
-      own : (n b : ℕ) (x y : Iteration) → n < 2 → b < q .plan .processors → Before x y (workOf q .list n b) → Before x y l
-      own zero b x y i j h = o .own-fused b x y (omega arith) h
-      own (suc n) b x y i j h = o .own-peeled b x y (omega arith) h
+      own-order : (n b : ℕ) (x y : Iteration) → n < 2 → b < q .plan .processors → Before x y (workOf q .list n b) → Before x y l
+      own-order zero b x y i j h = o .own-fused b x y (omega arith) h
+      own-order (suc n) b x y i j h = o .own-peeled b x y (omega arith) h
 
-      barrier : (i j a b : ℕ) (x y : Iteration) → i < j → j < 2 → a < q .plan .processors → b < q .plan .processors
+      by-phase : (i j a b : ℕ) (x y : Iteration) → i < j → j < 2 → a < q .plan .processors → b < q .plan .processors
           → Mem x (workOf q .list j b) → Mem y (workOf q .list i a) → Before x y l → ⊥
-      barrier zero (suc j) a b x y e f g h u v k = o .barrier b a x y (omega arith) (omega arith) u v k
-      barrier zero zero a b x y e f g h u v k = omega arith
-      barrier (suc i) j a b x y e f g h u v k = omega arith
+      by-phase zero (suc j) a b x y e f g h u v k = o .fused-first b a x y (omega arith) (omega arith) u v k
+      by-phase zero zero a b x y e f g h u v k = omega arith
+      by-phase (suc i) j a b x y e f g h u v k = omega arith
 
   of-phases : {l : List Iteration} → turns.Order (workOf q) l → Order q l
   of-phases o = record {
     each = λ x i. let (j, n, h) = home s w q planned-is .listed x i in o .each (phase (q .table) (q .plan) x) (owner (q .table) (q .plan) x) x n j h;
-    inside = λ x m. let (n, b, i, j, h) = o .listed x m in home s w q planned-is .alone n b x i j h .0;
+    nothing-else = λ x m. let (n, b, i, j, h) = o .nothing-else x m in home s w q planned-is .alone n b x i j h .0;
     single = o .single;
-    own-fused = λ b x y l h. o .own 0 b x y (omega arith) l h;
-    own-peeled = λ b x y l h. o .own 1 b x y (omega arith) l h;
-    barrier = λ a b x y i j u v h. o .barrier 0 1 b a x y (omega arith) (omega arith) j i u v h;
+    own-fused = λ b x y l h. o .own-order 0 b x y (omega arith) l h;
+    own-peeled = λ b x y l h. o .own-order 1 b x y (omega arith) l h;
+    fused-first = λ a b x y i j u v h. o .by-phase 0 1 b a x y (omega arith) (omega arith) j i u v h;
   }
 
   module _ (m : List Float) (fits : Fits q m) where

@@ -12,11 +12,11 @@ module _ (q : Planned) where
   pub record Order (l : List Iteration) : Type 0 where
     -- each iteration of every loop stands in it, nothing else, none twice
     pub each : (x : Iteration) → Inside (q .table) x → Mem x l
-    pub inside : (x : Iteration) → Mem x l → Inside (q .table) x
+    pub nothing-else : (x : Iteration) → Mem x l → Inside (q .table) x
     pub single : NoDup l
     -- each processor's iterations keep its list's order
     pub own-fused : (b : ℕ) (x y : Iteration) → b < q .plan .processors → Before x y (fused q b) → Before x y l
     pub own-peeled : (b : ℕ) (x y : Iteration) → b < q .plan .processors → Before x y (peeled q b) → Before x y l
     -- no peeled iteration stands before a fused one
-    pub barrier : (a b : ℕ) (x y : Iteration) → a < q .plan .processors → b < q .plan .processors → Mem x (peeled q a) → Mem y (fused q b)
+    pub fused-first : (a b : ℕ) (x y : Iteration) → a < q .plan .processors → b < q .plan .processors → Mem x (peeled q a) → Mem y (fused q b)
         → Before x y l → ⊥

@@ -28,7 +28,7 @@ module _ {A : Type 0} (r : Rows A) {l : List A} where
     covers = record { single = o .single; same = λ x. (to x, from x) }
       where
         to : (x : A) → Mem x l → Mem x (plan r .list (owner x))
-        to x m = let (n, b, i, j, h) = o .listed x m in rw (known n b x i j h .0) (plan-mem r n b x i j h)
+        to x m = let (n, b, i, j, h) = o .nothing-else x m in rw (known n b x i j h .0) (plan-mem r n b x i j h)
 
         from : (x : A) → Mem x (plan r .list (owner x)) → Mem x l
         from x m = let (n, i, j, h) = mem-plan r (owner x) x m in o .each n (owner x) x i j h
@@ -36,13 +36,13 @@ module _ {A : Type 0} (r : Rows A) {l : List A} where
     kept : (b : ℕ) (x y : A) → Before x y (plan r .list b) → Before x y l
     kept b x y h =
         let (i, g) = cut-before r b x y (decLt b size) h in
-        ⊎-elim (λ (n, j, k). o .own n b x y (omega arith) i k) (λ (m, n, j, k, u, v). later m n i j k u v) (before-joined (λ n. r .work n b) phases g)
+        ⊎-elim (λ (n, j, k). o .own-order n b x y (omega arith) i k) (λ (m, n, j, k, u, v). later m n i j k u v) (before-joined (λ n. r .work n b) phases g)
       where
         later : (m n : ℕ) → b < size → m < n → n < phases → Mem x (r .work m b) → Mem y (r .work n b) → Before x y l
         later m n i j k u v =
             ⊎-elim
             (λ (e : x ≡ y). absurd (omega (arith, ap phase e, known m b x (omega arith) i u .1, known n b y k i v .1)))
-            (⊎-elim (λ d. d) (λ d. absurd (o .barrier m n b b y x j (omega arith) i i v u d)))
+            (⊎-elim (λ d. d) (λ d. absurd (o .by-phase m n b b y x j (omega arith) i i v u d)))
             (before-total (o .each m b x (omega arith) i u) (o .each n b y k i v))
 
     rises : (x y : A) → Before x y l → phase x ≤ phase y
@@ -51,10 +51,10 @@ module _ {A : Type 0} (r : Rows A) {l : List A} where
         go : Dec (phase x ≤ phase y) → phase x ≤ phase y
         go (yes e) = e
         go (no e) =
-            let (n, b, i, j, u) = o .listed x (before-left h) in
-            let (m, a, f, g, v) = o .listed y (before-right h) in
+            let (n, b, i, j, u) = o .nothing-else x (before-left h) in
+            let (m, a, f, g, v) = o .nothing-else y (before-right h) in
             let p : m < n = omega (arith, known n b x i j u .1, known m a y f g v .1) in
-            absurd (o .barrier m n a b x y p (omega arith) g j u v h)
+            absurd (o .by-phase m n a b x y p (omega arith) g j u v h)
 
     order-in-order : InOrder (plan r) l
     order-in-order = in-order (plan r) covers kept rises
@@ -62,12 +62,12 @@ module _ {A : Type 0} (r : Rows A) {l : List A} where
   in-order-order : InOrder (plan r) l → Order (work r) l
   in-order-order o = record {
     each = λ n b x i j m. c .same x .1 (rw (known n b x i j m .0) (plan-mem r n b x i j m));
-    listed = λ x m. let (n, i, j, h) = mem-plan r (owner x) x (c .same x .0 m) in (n, owner x, i, j, h);
+    nothing-else = λ x m. let (n, i, j, h) = mem-plan r (owner x) x (c .same x .0 m) in (n, owner x, i, j, h);
     single = c .single;
-    own = λ n b x y i j h.
+    own-order = λ n b x y i j h.
         order-kept (plan r) o b x y
         (rw (if-yes (decLt b size) (whole r b) _ j) (joined-before (λ n. r .work n b) phases n i h));
-    barrier = λ i j a b x y e f g h u v k. absurd (omega (arith, o .phases x y k, known j b x f h u .1, known i a y (omega arith) g v .1));
+    by-phase = λ i j a b x y e f g h u v k. absurd (omega (arith, o .phases x y k, known j b x f h u .1, known i a y (omega arith) g v .1));
   }
     where
       c : Covers (plan r) l
