@@ -107,7 +107,9 @@ module _ (s : List ℕ) (n : ℕ) (enough : 2077 ≤ n) (long : n ≤ length s) 
   unfolding readFrom follow
   from-take zero g p rs before c h l = absurd (omega (arith, here p rs before c))
   from-take (suc f) zero p rs before c h l = absurd (omega (arith, here p rs before c))
-  from-take (suc f) (suc g) p rs before c h l = rw (tested-take p rs before c) (go (λ m r. from-take f g m (r ∷ rs)) (tested s p (summary rs) (lengths rs)) refl)
+  from-take (suc f) (suc g) p rs before c h l =
+      rw (tested-take p rs before c)
+      (go (λ m r. from-take f g m (r ∷ rs)) (tested s p (summary rs) (lengths rs)) refl)
     where
       past : (m : ℕ) → m < n
           → (refused (met 8 m) if ltb m (length (take n s)) else accepted (tableOf rs)) ≡ (refused (met 8 m) if ltb m (length s) else accepted (tableOf rs))

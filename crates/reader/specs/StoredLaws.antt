@@ -120,7 +120,8 @@ module _ (c d : List ℕ) (j rows kind q v : ℕ) (g : Grown c d j rows kind q v
           let m : r < rows = omega arith in
           record { offset = λ h. rw (← (g .agree .values r m)) (old r m .offset (rw (← (g .agree .kinds r m)) at h)) }
 
-  kept-grown : (a n : ℕ) → InPlace c a n rows → (startAt c j ≡ rows → kind ≡ 1) → j ≤ n → suc j ≤ 16 → rows < 528 → (kind < 2 → v ≤ 510) → InPlace d a (suc j) (rows + 1)
+  kept-grown : (a n : ℕ) → InPlace c a n rows → (startAt c j ≡ rows → kind ≡ 1) → j ≤ n → suc j ≤ 16 → rows < 528 → (kind < 2 → v ≤ 510)
+      → InPlace d a (suc j) (rows + 1)
   kept-grown a n h top l few room offset = record {
     few-arrays = h .few-arrays;
     few-loops = few;

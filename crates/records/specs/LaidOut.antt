@@ -1,4 +1,5 @@
--- The record at a place is the one that the paper's table says; and every offset from −255 to 255 can be written.
+-- The record at a place is the one that the paper's table says; what is kept of an offset tells whether it is one from −255 to 255, and
+-- every such offset can be written.
 use Prim.Native.Nat.{ℕ, zero, suc, _+_, _*_, _-_, _%_, _≤_, _<_}
 use native.Mathlib.Omega.{arith}
 use native.Mathlib.Decide.{decLt}
@@ -7,8 +8,8 @@ use mathlib.Core.Logic.{_⊎_, inl, inr}
 use mathlib.Core.Bool.{false}
 use mathlib.Core.List.{List, [], _∷_}
 use lib.Dec.{ltb, le→leb, lt→ltb, leb→le}
-use lib.IntN.{ℤ, pos, negsuc}
-use lib.Signed.{_≤ℤ_, leZ-yes, ltZ-yes}
+use lib.IntN.{ℤ, pos, negsuc, natAbs, _+ℤ_}
+use lib.Signed.{_≤ℤ_, leZ-yes, ltZ-yes, clashℤ}
 use borrow.Author.Tests.{lt-ltb, le-ltb}
 use Rattle.records.specs.declared.Kind.{Kind}
 use Rattle.records.specs.declared.Kind.the-variants as kind
@@ -133,6 +134,23 @@ module _ (s : List ℕ) (bytes : (i : ℕ) → byte s i < 256) where
       go kind.Constant h = (h, four-number s (p + 1))
       go kind.Operation h = (h, one-number s (p + 1))
       go kind.End h = h
+
+-- WHAT IS KEPT IS AT MOST 510 exactly where the offset is one from −255 to 255, and is then the offset with 255 added
+pub kept-near : (v : ℤ) (o : ℕ) → Kept v o → o ≤ 510 → (negsuc 254 ≤ℤ v) × (v ≤ℤ pos 255) × (pos o ≡ v +ℤ pos 255)
+kept-near v o (inl h) l = h
+kept-near v o (inr (h, far)) l = absurd (omega arith)
+
+pub near-kept : (v : ℤ) (o : ℕ) → Kept v o → negsuc 254 ≤ℤ v → v ≤ℤ pos 255 → o ≤ 510
+near-kept (pos n) o (inl (h, l, e)) low high =
+    let is : o ≡ n + 255 = ap natAbs e in
+    omega (arith, leb→le n 255 (high .le))
+near-kept (negsuc k) o (inl (h, l, e)) low high =
+    let small : k ≤ 254 = leb→le k 254 (low .le) in
+    let not-below : ltb 255 (suc k) ≡ false = le-ltb 255 (suc k) (omega arith) in
+    let is : o ≡ 255 - suc k = ap natAbs (rw not-below at e) in
+    omega arith
+near-kept v o (inr (inl below, far)) low high = clashℤ below low
+near-kept v o (inr (inr past, far)) low high = clashℤ past high
 
 -- EVERY OFFSET FROM −255 TO 255 CAN BE WRITTEN, in two bytes
 pub offset-written : (v : ℤ) → negsuc 254 ≤ℤ v → v ≤ℤ pos 255

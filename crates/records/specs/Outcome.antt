@@ -50,7 +50,8 @@ module _ (s : List ℕ) (at : ℕ) (t : Summary) (ns : List ℕ) where
       kinds (suc g) f l h = absurd (omega (arith, simp eqb·suc-zero at h))
 
       go : (b : Bool) → leb (length s) at ≡ b
-          → (1 if b else orElse (early (kindOf (byte s at)) t) (1 if ltb (length s) (at + 1 + bodyLength (byte s at)) else fields (recordAt s at) t ns)) ≡ 0 → Free
+          → (1 if b else orElse (early (kindOf (byte s at)) t) (1 if ltb (length s) (at + 1 + bodyLength (byte s at)) else fields (recordAt s at) t ns)) ≡ 0
+          → Free
       go true f h = absurd (omega (arith, h))
       go false f h = kinds (early (kindOf (byte s at)) t) refl (leb-false _ _ f) h
 
