@@ -99,6 +99,11 @@ impl Refusal {
     pub fn read(&self) -> Option<u64> {
         (self.ground == Ground::Serial).then_some(self.named[0])
     }
+
+    /// Whether joined tables have too many loops in all. No table by itself meets crowd at its first byte.
+    fn of_both(&self) -> bool {
+        self.ground == Ground::Crowd && self.place == 0
+    }
 }
 
 impl fmt::Display for Refusal {
@@ -106,7 +111,7 @@ impl fmt::Display for Refusal {
         write!(out, "refused {} {}", self.ground.number(), self.ground.word())?;
         if let Some(read) = self.read() {
             write!(out, " at loop {}, read {read}", self.place)?;
-        } else if self.ground.has_byte() {
+        } else if self.ground.has_byte() && !self.of_both() {
             write!(out, " at byte {}", self.place)?;
         }
         write!(out, ": {}", self.ground.text())

@@ -120,6 +120,15 @@ fn every_call_names_the_same_read() {
 }
 
 #[test]
+fn too_many_loops_in_all_have_no_byte() {
+    let one_loop = [2, 0, 0, 0, 0, 0, 0, 0, 0, 0, 0, 0, 4, 1, 0, 0, 0];
+    let nine = [&[1, 1, 0, 0, 0], &one_loop.repeat(9)[..], &[6]].concat();
+    let refusal = join(&nine, &nine).expect_err("refused");
+    assert_eq!((refusal.ground, refusal.place), (Ground::Crowd, 0));
+    assert_eq!(refusal.to_string(), "refused 4 crowd: one array, loop, item or element too many");
+}
+
+#[test]
 fn the_other_grounds_name_nothing() {
     let torn = check(&EXAMPLE[..60]).expect_err("refused");
     assert_eq!((torn.place, torn.named, torn.read()), (60, [0, 0], None));
