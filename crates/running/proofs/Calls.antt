@@ -7,14 +7,12 @@ use mathlib.Core.Bool.{cond}
 use mathlib.Core.List.{List, _∷_}
 use lib.ListN.{length}
 use lib.Ieee.{Float}
-use borrow.Author.Tests.{lt-ltb, le-ltb}
 use Rattle.model.specs.declared.Iteration.{Iteration}
 use Rattle.model.specs.Table.{iteration}
 use Rattle.model.specs.Bodies.{run}
 use Rattle.reader.specs.Store.{tableIn}
-use Rattle.iterations.specs.Memory.{total}
-use Rattle.iterations.specs.MemoryLaws.{run-length}
-use Rattle.turns.specs.Turn.{Work, Said, refuses, performs, waits, ends, After, after, next, turn}
+use Rattle.iterations.specs.Memory.{total, run-length}
+use Rattle.turns.specs.Turn.{Work, Said, refuses, performs, waits, ends, after, next, turn}
 use Rattle.turns.specs.Row.{reports, countsAfter, memoryAfter, performing, idle}
 use Rattle.turns.specs.Reachable.{Reachable}
 use Rattle.turns.specs.Reach.{turn-reachable}
@@ -23,6 +21,7 @@ use Rattle.stepping.specs.declared.Report.the-variants.{Refused, Performed, Wai
 use Rattle.stepping.specs.Step.{reportOf}
 use Rattle.steps.specs.Lent.{Phased, Lent}
 use Rattle.steps.specs.Called.{called}
+use Rattle.steps.specs.Same.{called-below, called-past}
 use Rattle.steps.specs.Leaves.{Leaves}
 use Rattle.running.specs.Code.{Step, Calling}
 use Rattle.running.specs.Idle.{idling}
@@ -66,11 +65,11 @@ module _ {w : Work Iteration} {step : Step} {P : ℕ} {es xs c bs : List ℕ} (g
     called-keeps = go (decLt b (w .processors))
       where
         go : Dec (b < w .processors) → Reachable w (called w (tableIn c) b cs m .counts) × (length (called w (tableIn c) b cs m .memory) ≡ total (tableIn c))
-        go (yes i) = rw (lt-ltb b (w .processors) i) (
+        go (yes i) = rw (called-below w (tableIn c) b cs m i) (
           turn-reachable (iteration 0 0) w (omega (arith, phased .two)) (run (tableIn c)) (omega (arith, phased .counted, phased .few)) cs r b i m,
           turn-long w c b cs m ∙ long,
         )
-        go (no i) = rw (le-ltb b (w .processors) (omega arith)) (r, long)
+        go (no i) = rw (called-past w (tableIn c) b cs m (omega arith)) (r, long)
 
     -- what such a call leaves
     module _ {ds : List ℕ} {o : List Float} {said : Report} (h : Leaves (called w (tableIn c) b cs m) ds o said) where

@@ -1,9 +1,9 @@
 -- The calls that use up the lists, after those of an order; and both together.
-use Prim.Native.Nat.{ℕ, zero, suc, _+_, _-_, _≤_, _<_}
+use Prim.Native.Nat.{ℕ, zero, suc, _-_, _≤_, _<_}
 use native.Mathlib.Omega.{arith}
 use native.Mathlib.Decide.{decLt}
 use mathlib.Core.Path.{_≡_, refl, sym, ap, _∙_}
-use mathlib.Core.Bool.{Bool, cond}
+use mathlib.Core.Bool.{cond}
 use mathlib.Core.List.{List, [], _∷_}
 use lib.Dec.{ltb}
 use lib.ListN.{length}
@@ -14,7 +14,7 @@ use Rattle.model.specs.Table.{iteration}
 use Rattle.model.specs.Bodies.{run}
 use Rattle.reader.specs.Store.{tableIn}
 use Rattle.iterations.specs.Memory.{total}
-use Rattle.turns.specs.Turn.{Work, After, turn}
+use Rattle.turns.specs.Turn.{Work, After}
 use Rattle.turns.specs.Row.{noneDone, reports, countsAfter, memoryAfter, performing, idle, lowest, canStep, closing, listed, rowOf}
 use Rattle.turns.specs.Lowest.{lowest-same, lowest-holds}
 use Rattle.turns.specs.RowLaws.{memory-append, idle-append}
@@ -24,6 +24,7 @@ use Rattle.barriers.specs.Code.{readyBy, listedBy}
 use Rattle.barriers.specs.Same.{ready-is, listed-is}
 use Rattle.stepping.specs.declared.Report.{Report}
 use Rattle.steps.specs.Called.{called}
+use Rattle.steps.specs.Same.{called-below}
 use Rattle.steps.specs.Leaves.{Leaves}
 use Rattle.running.specs.Code.{Step, Calling, Ordered, Rowed}
 use Rattle.running.proofs.Calls.{phased, leaves-reachable, leaves-long, then-memory}
@@ -48,10 +49,9 @@ module _ {w : Work Iteration} {step : Step} {P : ℕ} {es xs c bs : List ℕ} (g
           let l : b < w .processors = omega (arith, h .counted) in
           let e = ready-is (h .ended) cs (iteration 0 0) b l in
           let f = ap (λ (n : ℕ). readyBy n es cs (w .phases) b) (sym (h .counted)) in
-          let t : called w (tableIn c) b cs m ≡ turn (iteration 0 0) w (run (tableIn c)) b cs m = rw (lt-ltb b (w .processors) l) in
           ap (λ (n : ℕ). readyBy P es cs n b) (sym (h .two)) ∙ f ∙ e
           ∙ ap performing (sym (turn-said (iteration 0 0) w (run (tableIn c)) b cs m))
-          ∙ ap (λ (a : After Iteration (List Float)). performing (a .said)) (sym (g .calls b cs m long r ∙ t))
+          ∙ ap (λ (a : After Iteration (List Float)). performing (a .said)) (sym (g .calls b cs m long r ∙ called-below w (tableIn c) b cs m l))
 
   module _ (most : ℕ) (from : List ℕ) (begun : List Float) where
     pub closing-start : length begun ≡ total (tableIn c) → Reachable w from → Closing w step P c most from begun from begun most

@@ -5,18 +5,14 @@ use mathlib.Core.Bool.{Bool, true, false}
 use mathlib.Core.List.{List}
 use lib.ListN.{length}
 use lib.Ieee.{Float}
-use borrow.Author.Tests.{lt-ltb}
 use Rattle.model.specs.declared.Iteration.{Iteration}
-use Rattle.model.specs.Table.{iteration}
-use Rattle.model.specs.Bodies.{run}
 use Rattle.refusals.specs.Refusals.{met}
 use Rattle.refusals.specs.Answers.{accepted}
 use Rattle.refusals.specs.AnswerLaws.{told-refused}
 use Rattle.reader.specs.Store.{tableIn}
 use Rattle.blocks.specs.declared.Axis.{Axis}
-use Rattle.iterations.specs.Memory.{total, remembered}
-use Rattle.iterations.specs.MemoryLaws.{remembered-as-long, remembered-unlike}
-use Rattle.turns.specs.Turn.{After, turn, stepped, wrongState}
+use Rattle.iterations.specs.Memory.{total, remembered, remembered-as-long, remembered-unlike}
+use Rattle.turns.specs.Turn.{After, stepped, wrongState}
 use Rattle.barriers.specs.Code.{Ended, wrongBy}
 use Rattle.barriers.specs.Same.{wrong-by-open}
 use Rattle.plans.specs.declared.Plan.{Plan}
@@ -30,6 +26,7 @@ use Rattle.stepping.specs.Step.{elements, steppedBy, step}
 use Rattle.steps.specs.declared.Counts.{Counts}
 use Rattle.steps.specs.declared.Stepped.{Stepped}
 use Rattle.steps.specs.Called.{called}
+use Rattle.steps.specs.Same.{called-below}
 use Rattle.steps.specs.Leaves.{Leaves}
 
 -- A STEP OF A PLAN
@@ -58,7 +55,7 @@ module _ (a : Axis) (c : List ℕ) (b : ℕ) (cs : List ℕ) (m : List Float) wh
         → Leaves outcome ds o r
     unfolding steppedBy stepped
     leaves-called e proper ds o r l =
-        rw (remembered-as-long elements (length m) (plannedIn a c) long, wrong ∙ e) (rw (lt-ltb b (a .blocks) proper) at l)
+        rw (remembered-as-long elements (length m) (plannedIn a c) long, wrong ∙ e) (rw (called-below (workIn a c) (tableIn c) b cs m proper) at l)
 
 -- A STEP FROM BYTES
 module _ (s : List ℕ) (w : Settings) (b : ℕ) (p : Plan) (c : List ℕ) (h : Plans (plannedFor s w b) p c) (k : Counts) (m : List Float) where

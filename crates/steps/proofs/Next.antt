@@ -6,26 +6,19 @@ use mathlib.Core.Path.{_≡_, refl, sym, ap, subst, _∙_}
 use mathlib.Core.Bool.{Bool, true, false, cond}
 use mathlib.Core.List.{List}
 use lib.Dec.{leb}
-use lib.ListN.{length, getD, set}
-use lib.Ieee.{Float}
+use lib.ListN.{length, getD}
 use borrow.Author.Tests.{leb-true, lt-ltb, le-ltb}
-use Rattle.order.specs.Lists.{nth-mem}
 use Rattle.model.specs.declared.Iteration.{Iteration}
-use Rattle.model.specs.Table.{iteration, Inside}
-use Rattle.model.specs.Bodies.{run}
-use Rattle.reader.specs.Store.{loopsIn, tableIn}
+use Rattle.model.specs.Table.{iteration}
+use Rattle.reader.specs.Store.{loopsIn}
 use Rattle.blocks.specs.Sums.{column}
-use Rattle.turns.specs.Turn.{Work, Said, refuses, performs, waits, ends, before, closed, phaseOf, next, after, turn}
-use Rattle.turns.specs.Reach.{Turn, does, halts, stops, turn-is}
+use Rattle.turns.specs.Turn.{Work, before, closed, phaseOf, next}
 use Rattle.barriers.specs.Code.{beforeBy, comeBy, phaseBy, closedBy}
 use Rattle.barriers.specs.Same.{before-is, phase-is, closed-is}
 use Rattle.ranges.specs.Code.{listOf}
-use Rattle.stepping.specs.declared.Report.{Report}
 use Rattle.stepping.specs.declared.Report.the-variants.{Performed, Waiting, Finished}
 use Rattle.stepping.specs.Step.{reportOf}
-use Rattle.steps.specs.Lent.{Phased, Listed, Lent}
-use Rattle.steps.specs.Called.{called}
-use Rattle.steps.specs.Leaves.{Leaves}
+use Rattle.steps.specs.Lent.{Phased, Listed}
 
 -- a phase that a processor has come to is behind it no further than what it has done
 pub come-used : (es : List ℕ) (b done m : ℕ) → beforeBy es (comeBy es b done m) b ≤ done

@@ -6,7 +6,6 @@ use mathlib.Core.Path.{_≡_, refl, sym, ap, subst, _∙_}
 use mathlib.Core.List.{List}
 use lib.ListN.{length, getD, set}
 use lib.Ieee.{Float}
-use borrow.Author.Tests.{lt-ltb, le-ltb}
 use Rattle.order.specs.Lists.{nth-mem}
 use Rattle.refusals.specs.Refusals.{met}
 use Rattle.model.specs.declared.Iteration.{Iteration}
@@ -23,13 +22,14 @@ use Rattle.stepping.specs.Step.{reportOf}
 use Rattle.stepping.specs.Meaning.{said-performs}
 use Rattle.steps.specs.Lent.{Phased, Lent}
 use Rattle.steps.specs.Called.{called}
+use Rattle.steps.specs.Same.{called-below, called-past}
 use Rattle.steps.specs.Leaves.{Leaves}
 
 -- a number not below P
 pub leaves-past : {w : Work Iteration} {P b : ℕ} {es : List ℕ} → Phased w P es → (c cs : List ℕ) (m : List Float) → P ≤ b
     → Leaves (called w (tableIn c) b cs m) cs m (Refused (met 10 0))
 leaves-past {w} {P} {b} p c cs m past =
-    rw (le-ltb b (w .processors) (omega (arith, p .counted))) (record { counts-are = refl; memory-is = refl; report-is = refl })
+    rw (called-past w (tableIn c) b cs m (omega (arith, p .counted))) (record { counts-are = refl; memory-is = refl; report-is = refl })
 
 -- ONE BELOW P
 module _ {w : Work Iteration} {P b : ℕ} {es xs : List ℕ} {at : ℕ} {c bs : List ℕ} (h : Lent w P b es xs at c bs) (below : b < P) (cs : List ℕ) where
@@ -64,7 +64,7 @@ module _ {w : Work Iteration} {P b : ℕ} {es xs : List ℕ} {at : ℕ} {c bs : 
           → o ≡ outcome s .memory → reportOf (outcome s .said) ≡ reportOf s → Leaves (called w (tableIn c) b cs m) ds o r
       unfolding turn
       leaves s e ds o q z g =
-          rw (lt-ltb b (w .processors) proper, e) (record { counts-are = q; memory-is = z; report-is = told ∙ ap reportOf e ∙ sym g })
+          rw (called-below w (tableIn c) b cs m proper, e) (record { counts-are = q; memory-is = z; report-is = told ∙ ap reportOf e ∙ sym g })
 
       pub leaves-performed : (k i : ℕ) → r ≡ Performed k i → (own : ℕ) → own ≡ b → (o : List Float) → o ≡ run (tableIn c) (iteration k i) m
           → Leaves (called w (tableIn c) b cs m) (set cs own (column cs own + 1)) o r

@@ -11,7 +11,7 @@ use Rattle.iterations.specs.Loaded.{Loaded}
 use Rattle.plans.specs.Code.{Laid}
 use Rattle.ranges.specs.Listed.{few-loops, few-blocks}
 use Rattle.layouts.specs.Layout.{workIn, Stands, stands-list, work-inside}
-use Rattle.steps.specs.Lent.{Phased, Listed, Lent}
+use Rattle.steps.specs.Lent.{Phased, Lent}
 
 pub loaded-in : {a : Axis} {c : List ℕ} → Laid a c → (bs : List ℕ) → Based bs (tableIn c .lengths) → Loaded (tableIn c) c bs
 loaded-in h bs based = record { holds = h .held; valid = h .fit .valid; based = based }

@@ -85,7 +85,7 @@ impl Counts {
     }
 
     // One step of a plan that is laid out, whatever number b it names: 10 if that is not below P, else what processor b reports, performed.
-    // The public step and every call of a run is one of this.
+    // The public step makes it, and so does every call of a run.
     pub fn step_laid(
         mut self,
         b: u32,
