@@ -27,6 +27,7 @@ pub record Counts : Type 0 where
   pub items-most-read : refusal (begun ++ one ++ times 30 (operation 5) ++ read 0 (ahead 0) ++ end) ≡ met 6 86
   -- at most eight values wait
   pub waiting-most : refusal (begun ++ times 8 one ++ times 7 add ++ end) ≡ none
+  pub waiting-most-read : refusal (begun ++ times 7 one ++ read 0 (ahead 0) ++ times 7 add ++ end) ≡ none
   pub waiting-past : refusal (begun ++ times 9 one ++ times 8 add ++ end) ≡ met 6 57
 
 pub counts : Counts
@@ -46,6 +47,7 @@ counts = record {
   items-most-constant = refl;
   items-most-read = refl;
   waiting-most = refl;
+  waiting-most-read = refl;
   waiting-past = refl;
 }
 
