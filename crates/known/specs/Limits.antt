@@ -17,13 +17,17 @@ pub record Counts : Type 0 where
   -- 1 to 16 loops
   pub loops-most : refusal (tableOf 1 16) ≡ none
   pub loops-past : refusal (loops 1 17) ≡ met 4 277
-  -- at most 32 items a body: one and 31 times its negative, one more
+  -- at most 32 items a body, here 1 and 31 times its negative; and in each of two bodies
   pub items-most : refusal (begun ++ one ++ times 31 (operation 5) ++ end) ≡ none
+  pub items-each : refusal (array 1 ++ times 2 (loop 0 0 0 (ahead 0) ++ one ++ times 31 (operation 5)) ++ end) ≡ none
   pub items-past : refusal (begun ++ one ++ times 32 (operation 5) ++ end) ≡ met 4 84
   pub items-past-constant : refusal (begun ++ one ++ times 31 (operation 5) ++ one) ≡ met 4 84
-  pub items-each : refusal (array 1 ++ times 2 (loop 0 0 0 (ahead 0) ++ one ++ times 31 (operation 5)) ++ end) ≡ none
+  -- a 32nd item that is a read or a constant is not one too many; two numbers are left then, which the end meets with 6
+  pub items-most-constant : refusal (begun ++ one ++ times 30 (operation 5) ++ one ++ end) ≡ met 6 87
+  pub items-most-read : refusal (begun ++ one ++ times 30 (operation 5) ++ read 0 (ahead 0) ++ end) ≡ met 6 86
   -- at most eight values wait
   pub waiting-most : refusal (begun ++ times 8 one ++ times 7 add ++ end) ≡ none
+  pub waiting-most-read : refusal (begun ++ times 7 one ++ read 0 (ahead 0) ++ times 7 add ++ end) ≡ none
   pub waiting-past : refusal (begun ++ times 9 one ++ times 8 add ++ end) ≡ met 6 57
 
 pub counts : Counts
@@ -37,10 +41,13 @@ counts = record {
   loops-most = refl;
   loops-past = refl;
   items-most = refl;
+  items-each = refl;
   items-past = refl;
   items-past-constant = refl;
-  items-each = refl;
+  items-most-constant = refl;
+  items-most-read = refl;
   waiting-most = refl;
+  waiting-most-read = refl;
   waiting-past = refl;
 }
 

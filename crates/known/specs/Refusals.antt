@@ -11,6 +11,7 @@ pub record Refusals : Type 0 where
   pub empty : refusal [] ≡ met 1 0
   pub no-end : refusal (array 1) ≡ met 1 5
   pub cut-inside : refusal (array 1 ++ 1 ∷ 1 ∷ []) ≡ met 1 5
+  pub last-byte-absent : refusal (1 ∷ 1 ∷ 0 ∷ 0 ∷ []) ≡ met 1 0
   -- 2 kind: kind unknown or out of its order, or no array or loop before end
   pub end-alone : refusal (6 ∷ []) ≡ met 2 0
   pub no-kind : refusal (0 ∷ []) ≡ met 2 0
@@ -62,6 +63,7 @@ refusals = record {
   empty = refl;
   no-end = refl;
   cut-inside = refl;
+  last-byte-absent = refl;
   end-alone = refl;
   no-kind = refl;
   seventh-kind = refl;
