@@ -24,7 +24,7 @@ use Rattle.plans.specs.Plans.{Settings, Planned, planOf, thresholdOf, shortFor,
 use Rattle.sweeps.specs.Sweeps as Sweeps
 use Rattle.entries.specs.Entries.{amountsOf, blocksOf, listedOf, amounts, thresholds, sweepsGiven, blocksGiven, listGiven}
 use Rattle.printing.specs.Printing.{listingOf, listingGiven}
-use Rattle.iterations.specs.Memory.{total, remembered}
+use Rattle.iterations.specs.Memory.{elementTotal, remembered}
 use Rattle.plain.specs.Plain.{plainAnswer}
 use Rattle.turns.specs.Turn.{Said, refuses, next, stepped, wrongState}
 use Rattle.turns.specs.Reach.{Turn, does, halts, stops, turn-is}
@@ -86,9 +86,9 @@ module _ (s : List ℕ) where
   unfolding sweepsGiven
   sweeps-refused = fitted-only (table s) (ReadRefused s) check-refused (λ t. encoded (Sweeps.before t ∷ Sweeps.after t ∷ []))
 
-  pub plain-refused : (n : ℕ) → Only (MemoryRefused (table s) (ReadRefused s) total n) (plainAnswer s n)
+  pub plain-refused : (n : ℕ) → Only (MemoryRefused (table s) (ReadRefused s) elementTotal n) (plainAnswer s n)
   unfolding plainAnswer
-  plain-refused = remembered-only (table s) (ReadRefused s) check-refused total
+  plain-refused = remembered-only (table s) (ReadRefused s) check-refused elementTotal
 
   module _ (w : Settings) where
     fitting-only : (Bad : Type 0) (wrong : Bool) → Decides wrong Bad → Only (FitRefused s w Bad) (fitting wrong w (table s))

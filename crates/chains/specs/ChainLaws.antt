@@ -3,14 +3,14 @@ use Prim.Native.Nat.{ℕ, _≤_}
 use mathlib.Core.Path.{_≡_, refl}
 use mathlib.Core.Logic.{_⊎_, inl, inr, ⊎-elim}
 use mathlib.Core.Bool.{true, Bool-discrete}
-use mathlib.Core.List.{List, _∷_}
+use mathlib.Core.List.{List, [], _∷_}
 use mathlib.Core.List.{List·Memᴰ as Mem, List·Memᴰ·head as mhere, List·Memᴰ·tail as mthere, List·Memᴰ·not-nil as not-nil}
 use native.Mathlib.Nat.{le-antisymm}
 use native.Mathlib.Decide.{ℕ-discrete}
 use native.Mathlib.Omega.{arith}
 use Rattle.model.specs.declared.Reference.{Reference}
 use Rattle.chains.specs.Dependence.{dependence, Dependence}
-use Rattle.chains.specs.Chains.{Chain, total, Largest, one, more}
+use Rattle.chains.specs.Chains.{Chain, chainTotal, Largest, one, more}
 
 -- that is one number
 pub largest-unique : (amount : Reference → Reference → ℕ) (rs : List Reference) (k m n : ℕ) → Largest amount rs k m → Largest amount rs k n → m ≡ n
@@ -64,9 +64,9 @@ module _ (rs : List Reference) (k : ℕ) where
       none free = inr λ c. let (x, y, d, e) = last-dependence c in free y (d .to) e x (d .from) (d .joined)
 
   -- what no chain's total exceeds, and is 0 or some chain's total, is the largest
-  pub largest-of : (amount : Reference → Reference → ℕ) (n : ℕ) → ((c : Chain rs k) → total amount c ≤ n)
-      → (n ≡ 0) ⊎ ((c : Chain rs k) × (total amount c ≡ n)) → Largest amount rs k n
+  pub largest-of : (amount : Reference → Reference → ℕ) (n : ℕ) → ((c : Chain rs k) → chainTotal amount c ≤ n)
+      → (n ≡ 0) ⊎ ((c : Chain rs k) × (chainTotal amount c ≡ n)) → Largest amount rs k n
   largest-of amount n bound reached = record { bound = bound; attained = ⊎-elim none inl reached }
     where
-      none : n ≡ 0 → ((c : Chain rs k) × (total amount c ≡ n)) ⊎ ((Chain rs k → ⊥) × (n ≡ 0))
+      none : n ≡ 0 → ((c : Chain rs k) × (chainTotal amount c ≡ n)) ⊎ ((Chain rs k → ⊥) × (n ≡ 0))
       none e = ⊎-elim (λ c. inl (c, omega (arith, bound c))) (λ f. inr (f, e)) chain-or-none

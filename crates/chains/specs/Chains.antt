@@ -12,11 +12,11 @@ pub data Chain (rs : List Reference) : ℕ → Type 0 where
   more : {x y : Reference} → Chain rs (x .number) → Dependence rs x y → Chain rs (y .number)
 
 -- an amount, `backward` or `forward`, summed over a chain
-abbrev pub total : {rs : List Reference} {k : ℕ} → (Reference → Reference → ℕ) → Chain rs k → ℕ
-total amount (one {x} {y} d) = amount x y
-total amount (more {x} {y} c d) = total amount c + amount x y
+abbrev pub chainTotal : {rs : List Reference} {k : ℕ} → (Reference → Reference → ℕ) → Chain rs k → ℕ
+chainTotal amount (one {x} {y} d) = amount x y
+chainTotal amount (more {x} {y} c d) = chainTotal amount c + amount x y
 
 -- n is the largest total over all chains that end at loop k, and 0 where no chain ends there
 pub record Largest (amount : Reference → Reference → ℕ) (rs : List Reference) (k n : ℕ) : Type 0 where
-  pub bound : (c : Chain rs k) → total amount c ≤ n
-  pub attained : ((c : Chain rs k) × (total amount c ≡ n)) ⊎ ((Chain rs k → ⊥) × (n ≡ 0))
+  pub bound : (c : Chain rs k) → chainTotal amount c ≤ n
+  pub attained : ((c : Chain rs k) × (chainTotal amount c ≡ n)) ⊎ ((Chain rs k → ⊥) × (n ≡ 0))

@@ -9,7 +9,7 @@ use lib.ListN.{getD}
 use Rattle.model.specs.declared.Reference.{Reference}
 use Rattle.chains.specs.Dependence.{Dependence}
 use Rattle.chains.specs.DependenceLaws.{earlier}
-use Rattle.chains.specs.Chains.{Chain, one, more, total, Largest}
+use Rattle.chains.specs.Chains.{Chain, one, more, chainTotal, Largest}
 use Rattle.chains.specs.ChainLaws.{largest-unique}
 use Rattle.chains.specs.Walk.{numbers, Ordered, Below}
 use Rattle.chains.specs.Largest.{numbers-largest}
@@ -19,7 +19,7 @@ module _ (amount : Reference → Reference → ℕ) (rs ts : List Reference) whe
   wide e = record { from = Memᴰ·append-left ts (e .from); to = Memᴰ·append-left ts (e .to); joined = e .joined }
 
   -- a chain of the left table is one of the joined table
-  widened : {k : ℕ} (c : Chain rs k) → (d : Chain (rs ++ ts) k) × (total amount d ≡ total amount c)
+  widened : {k : ℕ} (c : Chain rs k) → (d : Chain (rs ++ ts) k) × (chainTotal amount d ≡ chainTotal amount c)
   widened (one {x} {y} e) = (one (wide e), refl)
   widened (more {x} {y} c e) = let w = widened c in (more (w .0) (wide e), ap (λ (t : ℕ). t + amount x y) (w .1))
 
@@ -34,7 +34,7 @@ module _ (amount : Reference → Reference → ℕ) (rs ts : List Reference) whe
         record { from = low x (omega arith) (e .from); to = low y h (e .to); joined = e .joined }
 
     -- and one of the joined table that ends before loop n is one of the left table
-    narrowed : {k : ℕ} → k < n → (c : Chain (rs ++ ts) k) → (d : Chain rs k) × (total amount d ≡ total amount c)
+    narrowed : {k : ℕ} → k < n → (c : Chain (rs ++ ts) k) → (d : Chain rs k) × (chainTotal amount d ≡ chainTotal amount c)
     narrowed h (one {x} {y} e) = (one (narrow h e), refl)
     narrowed h (more {x} {y} c e) =
         let l = earlier x y (e .joined) in

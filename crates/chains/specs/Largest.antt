@@ -13,7 +13,7 @@ use Rattle.order.specs.Lists.{bhere, bthere}
 use Rattle.model.specs.declared.Reference.{Reference}
 use Rattle.chains.specs.Dependence.{dependence, Dependence}
 use Rattle.chains.specs.DependenceLaws.{earlier}
-use Rattle.chains.specs.Chains.{Chain, one, more, total, Largest}
+use Rattle.chains.specs.Chains.{Chain, one, more, chainTotal, Largest}
 use Rattle.chains.specs.ChainLaws.{largest-of}
 use Rattle.chains.specs.Legal.{Legal}
 use Rattle.chains.specs.LegalLaws.{chain-below}
@@ -77,11 +77,11 @@ module _ (amount : Reference → Reference → ℕ) (rs : List Reference) where
     numbers-legal x y d = walk-meets rs (replicate 16 0) y below ordered (d .to) x (d .from) (d .joined)
 
     -- each number is 0 or some chain's total
-    numbers-reached : (k : ℕ) → (getD (numbers amount rs) k 0 ≡ 0) ⊎ ((c : Chain rs k) × (total amount c ≡ getD (numbers amount rs) k 0))
+    numbers-reached : (k : ℕ) → (getD (numbers amount rs) k 0 ≡ 0) ⊎ ((c : Chain rs k) × (chainTotal amount c ≡ getD (numbers amount rs) k 0))
     numbers-reached = numbers-of amount rs Reached (λ k. inl refl) along below
       where
         Reached : ℕ → ℕ → Type 0
-        Reached k n = (n ≡ 0) ⊎ ((c : Chain rs k) × (total amount c ≡ n))
+        Reached k n = (n ≡ 0) ⊎ ((c : Chain rs k) × (chainTotal amount c ≡ n))
 
         along : (x y : Reference) → Dependence rs x y → (n : ℕ) → Reached (x .number) n → Reached (y .number) (n + amount x y)
         along x y d n r = ⊎-elim (λ e. inr (one d, omega arith)) (λ t. inr (more (t .0) d, omega arith)) r

@@ -1,6 +1,6 @@
 -- The largest of several numbers.
 use Prim.Native.Nat.{ℕ, zero, suc, max}
-use mathlib.Core.List.{List, _∷_}
+use mathlib.Core.List.{List, [], _∷_}
 
 -- of f over a list, 0 over none
 unfoldable pub maximum : {A : Type 0} → (A → ℕ) → List A → ℕ

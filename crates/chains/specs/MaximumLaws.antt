@@ -1,7 +1,7 @@
 -- Laws of the largest of several numbers.
 use Prim.Native.Nat.{ℕ, zero, suc, _+_, max, _≤_, _<_}
 use mathlib.Core.Path.{_≡_, refl, sym, ap, _∙_}
-use mathlib.Core.List.{List, _∷_, _++_}
+use mathlib.Core.List.{List, [], _∷_, _++_}
 use mathlib.Core.List.{List·Memᴰ as Mem, List·Memᴰ·head as mhere, List·Memᴰ·tail as mthere}
 use native.Mathlib.Nat.{le-max-left, le-max-right, le-trans, max-eq-left, max-eq-right, zero-max}
 use native.Mathlib.Decide.{ℕ-discrete, decLe}

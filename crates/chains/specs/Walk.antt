@@ -1,7 +1,7 @@
 -- One walk over the references of a table, in byte order, gives each loop a number: its shift, or its peel.
 use Prim.Native.Nat.{ℕ, _+_, max, _≤_, _<_}
 use mathlib.Core.Bool.{cond}
-use mathlib.Core.List.{List, _∷_}
+use mathlib.Core.List.{List, [], _∷_}
 use mathlib.Core.List.{List·Memᴰ as Mem}
 use lib.ListN.{getD, set, replicate}
 use Rattle.order.specs.Lists.{Before}

@@ -1,6 +1,6 @@
 -- The numbers that each entry gives, four bytes each, or the refusal: 1 to 9, then 10 and 11 where a plan is asked for, then 13.
 use Prim.Native.Nat.{ℕ, suc, _-_}
-use mathlib.Core.List.{List, _∷_}
+use mathlib.Core.List.{List, [], _∷_}
 use Rattle.order.specs.Lists.{joined}
 use Rattle.model.specs.Table.{Table, count}
 use Rattle.model.specs.declared.Iteration.{Iteration}

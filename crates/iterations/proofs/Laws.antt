@@ -21,7 +21,7 @@ use Rattle.reader.specs.Held.{loop-held, rows-rise, few-rows}
 use Rattle.grounds.specs.Statements.{sum}
 use Rattle.grounds.specs.Accepted.{Works, ValidLoop, valid-last}
 use Rattle.bodies.specs.Workable.{Based, Element, ReadsWithin}
-use Rattle.iterations.specs.Memory.{total}
+use Rattle.iterations.specs.Memory.{elementTotal}
 use Rattle.iterations.specs.Loaded.{Loaded}
 
 -- WHERE ARRAYS BEGIN
@@ -133,7 +133,7 @@ module _ (t : Table) (cs bs : List ℕ) (l : Loaded t cs bs) (k i : ℕ) (here :
       let z : vl .statement ≡ st = cc in
       rw z at (vl .works)
 
-  module _ (n : ℕ) (long : n ≡ total t) where
+  module _ (n : ℕ) (long : n ≡ elementTotal t) where
     reached : (r : Reference) → Mem r (refs t k) → Element bs i n (r .array) (r .offset)
     reached r h =
         let few : r .array < 16 = omega (arith, vl .known r h, l .valid .few-arrays) in
@@ -163,5 +163,5 @@ module _ (t : Table) (cs bs : List ℕ) (l : Loaded t cs bs) (k i : ℕ) (here :
   stored m after x f g =
       g
       ∙ ap (λ (y : Float). set m (getD bs (st .array) 0 + (i + st .offset - 255)) y) (f (t .lengths) (l .based) ∙ ap (λ (xs : List Item). value (t .lengths) i xs m) same)
-      ∙ ap (λ (z : ℕ). set m (z + (i + st .offset - 255)) (value (t .lengths) i (st .items) m)) (l .based (st .array) (omega (arith, destination-within (total t) refl .0)))
+      ∙ ap (λ (z : ℕ). set m (z + (i + st .offset - 255)) (value (t .lengths) i (st .items) m)) (l .based (st .array) (omega (arith, destination-within (elementTotal t) refl .0)))
       ∙ ap (λ (y : List Statement). runAll (performed (t .lengths) i) y m) (sym (only))

@@ -2,13 +2,13 @@
 use Prim.Native.Nat.{ℕ, zero, suc, _+_, _≤_}
 use native.Mathlib.Omega.{arith}
 use mathlib.Core.Path.{_≡_, refl, ap, _∙_}
-use mathlib.Core.List.{List, _∷_}
+use mathlib.Core.List.{List, [], _∷_}
 use lib.ListN.{length, getD}
 use Rattle.model.specs.Table.{Table}
 use Rattle.model.specs.Bodies.{begins}
 use Rattle.grounds.specs.Statements.{sum}
 use Rattle.bodies.specs.Workable.{Based}
-use Rattle.iterations.specs.Memory.{total}
+use Rattle.iterations.specs.Memory.{elementTotal}
 use Rattle.iterations.specs.Loaded.{Loaded}
 
 -- past the last array the memory ends
@@ -21,5 +21,5 @@ pub based-total : (bs ns : List ℕ) (a : ℕ) → Based bs ns → length ns ≤
 based-total bs ns a b l h = b a h ∙ begins-past ns a l
 
 -- so where the last array ends is how long the memory is
-pub loaded-total : {t : Table} {cs bs : List ℕ} → Loaded t cs bs → (n : ℕ) → n ≡ getD bs 16 0 → n ≡ total t
+pub loaded-total : {t : Table} {cs bs : List ℕ} → Loaded t cs bs → (n : ℕ) → n ≡ getD bs 16 0 → n ≡ elementTotal t
 loaded-total {t} {cs} {bs} h n e = e ∙ based-total bs (t .lengths) 16 (h .based) (h .valid .few-arrays) (omega arith)

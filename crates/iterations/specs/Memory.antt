@@ -8,8 +8,8 @@ use Rattle.refusals.specs.Answers.{AnswerOf, accepted, refused, _if_else_, afte
 use Rattle.grounds.specs.Statements.{sum}
 
 -- how many elements the arrays have in all
-abbrev pub total : Table → ℕ
-total t = sum (t .lengths)
+abbrev pub elementTotal : Table → ℕ
+elementTotal t = sum (t .lengths)
 
 -- 12: the memory's length n isn't the element total of what was asked for. It is asked of what is accepted alone
 module _ {T : Type 0} (size : T → ℕ) where

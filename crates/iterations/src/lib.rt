@@ -7,7 +7,7 @@ ghost use Rattle.model.specs.Table.{Table, iteration, Inside};
 ghost use Rattle.model.specs.Bodies.{run};
 ghost use Rattle.reader.specs.Store.{tableIn};
 ghost use Rattle.bodies.specs.Workable.{Based, Element};
-ghost use Rattle.iterations.specs.Memory.{total};
+ghost use Rattle.iterations.specs.Memory.{elementTotal};
 ghost use Rattle.iterations.specs.Loaded.{Loaded};
 
 // Where each array begins in the memory; past the last one, where the memory ends.
@@ -25,7 +25,7 @@ fn array_length(store: &Store, arrays: usize, k: usize) -> u32
 
 // The arrays stand in order without gaps.
 pub fn bases_of(store: &Store) -> Bases
-    requires { ⌜ total (tableIn (now store)) ≤ 262144 ⌝ }
+    requires { ⌜ elementTotal (tableIn (now store)) ≤ 262144 ⌝ }
     ensures { λ r. ⌜ Based (r .firsts) (tableIn (now (store .entry)) .lengths) ⌝ }
 {
     let arrays = reader::arrays_in(store);
@@ -68,7 +68,7 @@ fn store_in(array: u32, offset: u32, bases: &[u32; 17], i: usize, memory: &mut [
 
 // Iteration `index` of loop `number`, of a table in a store.
 pub fn iterate(store: &Store, bases: &[u32; 17], number: usize, index: usize, memory: &mut [f64])
-    requires { ⌜ ((t : Table) × Loaded t (now store) (now bases) × Inside t (iteration number index) × (length (now memory) ≡ total t)) ⌝ }
+    requires { ⌜ ((t : Table) × Loaded t (now store) (now bases) × Inside t (iteration number index) × (length (now memory) ≡ elementTotal t)) ⌝ }
     ensures { λ _. ⌜ ((t : Table) → Loaded t (now (store .entry)) (now (bases .entry)) → Inside t (iteration number index) → now (memory .exit) ≡ run t (iteration number index) (now (memory .entry))) ⌝ }
 {
     let from = reader::start_at(store, number);

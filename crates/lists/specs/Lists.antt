@@ -1,6 +1,6 @@
 -- The orders of a fused and of a peeled list. K loops: loop k has the range r k, with an exclusive end, and the shift s k.
 use mathlib.Core.Bool.{cond, _&&_}
-use mathlib.Core.List.{List, _∷_}
+use mathlib.Core.List.{List, [], _∷_}
 use Prim.Native.Nat.{ℕ, _+_, _-_}
 use lib.ListN.{length}
 use lib.Dec.{ltb, leb}

@@ -1,5 +1,6 @@
 -- Lists by computation.
 use mathlib.Core.Path.{_≡_, refl}
+use mathlib.Core.List.{[]}
 use mathlib.Core.List.{_∷_}
 use Rattle.model.specs.Table.{iteration}
 use Rattle.lists.specs.Lists.{loopAt, sumAt, sumBound, bySums, loopOver, byLoops, fusedColumns, peeledColumns}

@@ -20,7 +20,7 @@ use Rattle.serial.specs.Serial.{table}
 use Rattle.grounds.specs.Accepted.{Valid, accepted-valid, valid-last}
 use Rattle.tables.specs.Nine.{accepted-read}
 use Rattle.bodies.specs.Workable.{Based}
-use Rattle.iterations.specs.Memory.{total, remembered}
+use Rattle.iterations.specs.Memory.{elementTotal, remembered}
 use Rattle.iterations.specs.MemoryLaws.{remembered-as-long, remembered-unlike, run-length, looped-length}
 use Rattle.iterations.specs.Loaded.{Loaded}
 use Rattle.iterations.specs.LoadedLaws.{based-total}
@@ -78,7 +78,7 @@ module _ (cs bs : List ℕ) (m₀ : List Float) where
               let z = last-held (r .loaded .holds) k there in
               (there, omega (arith, f, l .low), omega (arith, z))
 
-          pub loop-asks : (u : Table) × Loaded u cs bs × Inside u (iteration k i) × (length m ≡ total u)
+          pub loop-asks : (u : Table) × Loaded u cs bs × Inside u (iteration k i) × (length m ≡ elementTotal u)
           loop-asks = (t, r .loaded, within, l .long ∙ r .long)
 
           pub loop-next : (n : List Float) → ((u : Table) → Loaded u cs bs → Inside u (iteration k i) → n ≡ run u (iteration k i) m) → LoopLeft (i + 1) n
@@ -121,14 +121,14 @@ module _ (cs bs : List ℕ) (m₀ : List Float) where
 module _ (c : List ℕ) (h : Held c × Valid (tableIn c)) (bs : List ℕ) (b : Based bs (tableIn c .lengths)) (m : List Float) where
   abbrev Answered : Refusal → List Float → Type 0
   Answered r n =
-      (r ≡ refusalOf (remembered total (length m) (accepted (tableIn c)))) × (n ≡ runOf (remembered total (length m) (accepted (tableIn c))) m)
+      (r ≡ refusalOf (remembered elementTotal (length m) (accepted (tableIn c)))) × (n ≡ runOf (remembered elementTotal (length m) (accepted (tableIn c))) m)
 
-  held-total : getD bs 16 0 ≡ total (tableIn c)
+  held-total : getD bs 16 0 ≡ elementTotal (tableIn c)
   held-total = based-total bs (tableIn c .lengths) 16 b (h .1 .few-arrays) (omega arith)
 
   pub held-unlike : (length m ≡ getD bs 16 0 → ⊥) → Answered (met 12 0) m
   unfolding runOf
-  held-unlike e = let z = remembered-unlike total (length m) (tableIn c) (λ q. e (q ∙ sym held-total)) in rw z (refl, refl)
+  held-unlike e = let z = remembered-unlike elementTotal (length m) (tableIn c) (λ q. e (q ∙ sym held-total)) in rw z (refl, refl)
 
   module _ (e : length m ≡ getD bs 16 0) where
     pub held-asks : Running c bs m
@@ -136,7 +136,7 @@ module _ (c : List ℕ) (h : Held c × Valid (tableIn c)) (bs : List ℕ) (b : B
 
     pub held-run : (n : List Float) → n ≡ plainRun (tableIn c) m → Answered none n
     unfolding runOf
-    held-run n f = let z = remembered-as-long total (length m) (tableIn c) (e ∙ held-total) in rw z (refl, f)
+    held-run n f = let z = remembered-as-long elementTotal (length m) (tableIn c) (e ∙ held-total) in rw z (refl, f)
 
 -- WHAT IS TOLD: 12 is asked of an accepted table alone
 module _ (s c : List ℕ) (r : Refusal) (through : ReadInto (table s) r c) (m : List Float) where
@@ -150,7 +150,7 @@ module _ (s c : List ℕ) (r : Refusal) (through : ReadInto (table s) r c) (m : 
         let (e, h) = through .held nothing in
         (h, accepted-valid s (tableIn c) (accepted-read s (tableIn c) e .0))
 
-    pub run-accepted : (x : Refusal) (n : List Float) → x ≡ refusalOf (remembered total (length m) (accepted (tableIn c)))
-        → n ≡ runOf (remembered total (length m) (accepted (tableIn c))) m → (x ≡ refusalOf (plainAnswer s (length m))) × (n ≡ plainMemory s m)
+    pub run-accepted : (x : Refusal) (n : List Float) → x ≡ refusalOf (remembered elementTotal (length m) (accepted (tableIn c)))
+        → n ≡ runOf (remembered elementTotal (length m) (accepted (tableIn c))) m → (x ≡ refusalOf (plainAnswer s (length m))) × (n ≡ plainMemory s m)
     unfolding plainAnswer plainMemory
     run-accepted x n e f = rw (through .held nothing .0) (e, f)

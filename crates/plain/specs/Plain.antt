@@ -7,11 +7,11 @@ use Rattle.model.specs.PlainRun.{plainRun}
 use Rattle.refusals.specs.Answers.{accepted, refused}
 use Rattle.reader.specs.Reading.{Answer}
 use Rattle.serial.specs.Serial.{table}
-use Rattle.iterations.specs.Memory.{total, remembered}
+use Rattle.iterations.specs.Memory.{elementTotal, remembered}
 
 -- 1 to 9, then 12, for a memory of n elements
 unfoldable pub plainAnswer : List ℕ → ℕ → Answer
-plainAnswer s n = remembered total n (table s)
+plainAnswer s n = remembered elementTotal n (table s)
 
 -- a refused run changes nothing
 unfoldable pub runOf : Answer → List Float → List Float

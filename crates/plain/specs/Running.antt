@@ -5,9 +5,9 @@ use mathlib.Core.List.{List}
 use lib.ListN.{length}
 use lib.Ieee.{Float}
 use Rattle.reader.specs.Store.{tableIn}
-use Rattle.iterations.specs.Memory.{total}
+use Rattle.iterations.specs.Memory.{elementTotal}
 use Rattle.iterations.specs.Loaded.{Loaded}
 
 pub record Running (cs bs : List ℕ) (m : List Float) : Type 0 where
   pub loaded : Loaded (tableIn cs) cs bs
-  pub long : length m ≡ total (tableIn cs)
+  pub long : length m ≡ elementTotal (tableIn cs)

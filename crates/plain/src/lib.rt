@@ -12,7 +12,7 @@ ghost use Rattle.refusals.specs.Answers.{accepted, refusalOf};
 ghost use Rattle.reader.specs.Store.{tableIn};
 ghost use Rattle.reader.specs.Held.{Held};
 ghost use Rattle.grounds.specs.Accepted.{Valid};
-ghost use Rattle.iterations.specs.Memory.{total, remembered};
+ghost use Rattle.iterations.specs.Memory.{elementTotal, remembered};
 ghost use Rattle.plain.specs.Plain.{plainAnswer, runOf, plainMemory};
 ghost use Rattle.plain.specs.Running.{Running};
 
@@ -45,8 +45,8 @@ fn run_loops(store: &Store, bases: &[u32; 17], memory: &mut [f64])
 // The table in this store, on a memory of its length; else 12.
 fn run_table(store: &Store, memory: &mut [f64]) -> Refusal
     requires { ⌜ Held (now store) × Valid (tableIn (now store)) ⌝ }
-    ensures { λ r. ⌜ r ≡ refusalOf (remembered total (length (now (memory .entry))) (accepted (tableIn (now (store .entry))))) ⌝ }
-    ensures { λ r. ⌜ now (memory .exit) ≡ runOf (remembered total (length (now (memory .entry))) (accepted (tableIn (now (store .entry))))) (now (memory .entry)) ⌝ }
+    ensures { λ r. ⌜ r ≡ refusalOf (remembered elementTotal (length (now (memory .entry))) (accepted (tableIn (now (store .entry))))) ⌝ }
+    ensures { λ r. ⌜ now (memory .exit) ≡ runOf (remembered elementTotal (length (now (memory .entry))) (accepted (tableIn (now (store .entry))))) (now (memory .entry)) ⌝ }
 {
     let b = iterations::bases_of(store);
     let bases = b.firsts;

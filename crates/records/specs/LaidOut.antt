@@ -14,32 +14,32 @@ use borrow.Author.Tests.{lt-ltb, le-ltb}
 use Rattle.records.specs.declared.Kind.{Kind}
 use Rattle.records.specs.declared.Kind.the-variants as kind
 use Rattle.records.specs.Bytes.{byte, two, four, offset, kindOf, recordOf, recordAt}
-use Rattle.records.specs.Layout.{littleEndian, number, signed, Kept, At}
+use Rattle.records.specs.Layout.{littleEndian, numberIn, signed, Kept, At}
 
 -- LITTLE-ENDIAN
 
 -- where there are no bytes left the number is 0
-none : (n at : ℕ) → number [] at n ≡ 0
+none : (n at : ℕ) → numberIn [] at n ≡ 0
 none zero at = refl
 none (suc n) zero = refl
 none (suc n) (suc at) = refl
 
-one-more : (s : List ℕ) (at n : ℕ) → number s at (suc n) ≡ byte s at + 256 * number s (suc at) n
+one-more : (s : List ℕ) (at n : ℕ) → numberIn s at (suc n) ≡ byte s at + 256 * numberIn s (suc at) n
 one-more [] zero n = omega (arith, none n 1)
 one-more [] (suc at) n = omega (arith, none n (suc (suc at)))
 one-more (x ∷ s) zero n = refl
 one-more (x ∷ s) (suc at) n = one-more s at n
 
-one-number : (s : List ℕ) (at : ℕ) → byte s at ≡ number s at 1
+one-number : (s : List ℕ) (at : ℕ) → byte s at ≡ numberIn s at 1
 one-number s at = omega (arith, one-more s at 0)
 
-two-number : (s : List ℕ) (at : ℕ) → two s at ≡ number s at 2
+two-number : (s : List ℕ) (at : ℕ) → two s at ≡ numberIn s at 2
 unfolding two
 two-number s at =
     let e : at + 1 ≡ suc at = omega arith in
     rw e (omega (arith, one-more s at 1, one-more s (suc at) 0))
 
-four-number : (s : List ℕ) (at : ℕ) → four s at ≡ number s at 4
+four-number : (s : List ℕ) (at : ℕ) → four s at ≡ numberIn s at 4
 unfolding four
 four-number s at =
     let e : at + 2 ≡ suc (suc at) = omega arith in
@@ -111,7 +111,7 @@ module _ (s : List ℕ) (bytes : (i : ℕ) → byte s i < 256) where
   unfolding two
   two-below at = omega (arith, bytes at, bytes (at + 1))
 
-  offset-at : (at : ℕ) → Kept (signed (number s at 2)) (offset s at)
+  offset-at : (at : ℕ) → Kept (signed (numberIn s at 2)) (offset s at)
   unfolding offset
   offset-at at =
       let e : offset s at ≡ (two s at + 255) % 65536 = omega arith in

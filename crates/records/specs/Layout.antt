@@ -18,8 +18,8 @@ littleEndian [] = 0
 littleEndian (b ∷ bs) = b + 256 * littleEndian bs
 
 -- the number in the n bytes from a place on
-abbrev pub number : List ℕ → ℕ → ℕ → ℕ
-number s at n = littleEndian (take n (drop at s))
+abbrev pub numberIn : List ℕ → ℕ → ℕ → ℕ
+numberIn s at n = littleEndian (take n (drop at s))
 
 -- a signed 16-bit number, in two's complement: what is not below 32,768 stands for 65,536 less
 abbrev pub signed : ℕ → ℤ
@@ -32,10 +32,10 @@ Kept v o = ((negsuc 254 ≤ℤ v) × (v ≤ℤ pos 255) × (pos o ≡ v +ℤ pos
 -- the record at a place: its kind byte, and its fields in byte order
 abbrev pub At : List ℕ → ℕ → Record → Type 0
 At s p Unknown = (byte s p < 1) ⊎ (6 < byte s p)
-At s p (Array n) = (byte s p ≡ 1) × (n ≡ number s (p + 1) 4)
+At s p (Array n) = (byte s p ≡ 1) × (n ≡ numberIn s (p + 1) 4)
 At s p (Loop f l q o) =
-    (byte s p ≡ 2) × (f ≡ number s (p + 1) 4) × (l ≡ number s (p + 5) 4) × (q ≡ number s (p + 9) 1) × Kept (signed (number s (p + 10) 2)) o
-At s p (Read q o) = (byte s p ≡ 3) × (q ≡ number s (p + 1) 1) × Kept (signed (number s (p + 2) 2)) o
-At s p (Constant n) = (byte s p ≡ 4) × (n ≡ number s (p + 1) 4)
-At s p (Operation o) = (byte s p ≡ 5) × (o ≡ number s (p + 1) 1)
+    (byte s p ≡ 2) × (f ≡ numberIn s (p + 1) 4) × (l ≡ numberIn s (p + 5) 4) × (q ≡ numberIn s (p + 9) 1) × Kept (signed (numberIn s (p + 10) 2)) o
+At s p (Read q o) = (byte s p ≡ 3) × (q ≡ numberIn s (p + 1) 1) × Kept (signed (numberIn s (p + 2) 2)) o
+At s p (Constant n) = (byte s p ≡ 4) × (n ≡ numberIn s (p + 1) 4)
+At s p (Operation o) = (byte s p ≡ 5) × (o ≡ numberIn s (p + 1) 1)
 At s p End = byte s p ≡ 6

@@ -11,7 +11,8 @@ use Rattle.model.specs.declared.Iteration.{Iteration}
 use Rattle.model.specs.Table.{iteration}
 use Rattle.model.specs.Bodies.{run}
 use Rattle.reader.specs.Store.{tableIn}
-use Rattle.iterations.specs.Memory.{total, run-length}
+use Rattle.iterations.specs.Memory.{elementTotal}
+use Rattle.iterations.specs.MemoryLaws.{run-length}
 use Rattle.turns.specs.Turn.{Work, Said, refuses, performs, waits, ends, after, next, turn}
 use Rattle.turns.specs.Row.{reports, countsAfter, memoryAfter, performing, idle}
 use Rattle.turns.specs.Reachable.{Reachable}
@@ -60,11 +61,11 @@ module _ {w : Work Iteration} {step : Step} {P : ℕ} {es xs c bs : List ℕ} (g
   pub lent-at : (b own : ℕ) → own ≡ b → Lent w P b es xs (96 * own) c bs
   lent-at b own e = rw e (g .lent b)
 
-  module _ (b : ℕ) (cs : List ℕ) (m : List Float) (long : length m ≡ total (tableIn c)) (r : Reachable w cs) where
-    called-keeps : Reachable w (called w (tableIn c) b cs m .counts) × (length (called w (tableIn c) b cs m .memory) ≡ total (tableIn c))
+  module _ (b : ℕ) (cs : List ℕ) (m : List Float) (long : length m ≡ elementTotal (tableIn c)) (r : Reachable w cs) where
+    called-keeps : Reachable w (called w (tableIn c) b cs m .counts) × (length (called w (tableIn c) b cs m .memory) ≡ elementTotal (tableIn c))
     called-keeps = go (decLt b (w .processors))
       where
-        go : Dec (b < w .processors) → Reachable w (called w (tableIn c) b cs m .counts) × (length (called w (tableIn c) b cs m .memory) ≡ total (tableIn c))
+        go : Dec (b < w .processors) → Reachable w (called w (tableIn c) b cs m .counts) × (length (called w (tableIn c) b cs m .memory) ≡ elementTotal (tableIn c))
         go (yes i) = rw (called-below w (tableIn c) b cs m i) (
           turn-reachable (iteration 0 0) w (omega (arith, phased .two)) (run (tableIn c)) (omega (arith, phased .counted, phased .few)) cs r b i m,
           turn-long w c b cs m ∙ long,
@@ -76,7 +77,7 @@ module _ {w : Work Iteration} {step : Step} {P : ℕ} {es xs c bs : List ℕ} (g
       pub leaves-reachable : Reachable w ds
       leaves-reachable = subst (λ (l : List ℕ). Reachable w l) (sym (h .counts-are)) (called-keeps .0)
 
-      pub leaves-long : length o ≡ total (tableIn c)
+      pub leaves-long : length o ≡ elementTotal (tableIn c)
       leaves-long = ap length (h .memory-is) ∙ called-keeps .1
 
       -- and then the rest of a row

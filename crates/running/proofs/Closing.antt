@@ -13,7 +13,7 @@ use Rattle.model.specs.declared.Iteration.{Iteration}
 use Rattle.model.specs.Table.{iteration}
 use Rattle.model.specs.Bodies.{run}
 use Rattle.reader.specs.Store.{tableIn}
-use Rattle.iterations.specs.Memory.{total}
+use Rattle.iterations.specs.Memory.{elementTotal}
 use Rattle.turns.specs.Turn.{Work, After}
 use Rattle.turns.specs.Row.{noneDone, reports, countsAfter, memoryAfter, performing, idle, lowest, canStep, closing, listed, rowOf}
 use Rattle.turns.specs.Lowest.{lowest-same, lowest-holds}
@@ -33,12 +33,12 @@ use Rattle.running.proofs.Calls.{phased, leaves-reachable, leaves-long,
 pub record Closing (w : Work Iteration) (step : Step) (P : ℕ) (c : List ℕ) (most : ℕ) (from : List ℕ) (begun : List Float) (cs : List ℕ) (m : List Float)
     (n : ℕ) : Type 0 where
   pub reachable : Reachable w cs
-  pub long : length m ≡ total (tableIn c)
+  pub long : length m ≡ elementTotal (tableIn c)
   pub left : memoryAfter step (closing step P n cs m) cs m ≡ memoryAfter step (closing step P most from begun) from begun
 
 module _ {w : Work Iteration} {step : Step} {P : ℕ} {es xs c bs : List ℕ} (g : Calling w step P es xs c bs) where
   -- the lowest that can step
-  lowest-can : (cs : List ℕ) (m : List Float) → length m ≡ total (tableIn c) → Reachable w cs
+  lowest-can : (cs : List ℕ) (m : List Float) → length m ≡ elementTotal (tableIn c) → Reachable w cs
       → lowest P (readyBy P es cs 2) ≡ lowest P (canStep step cs m)
   unfolding canStep
   lowest-can cs m long r = lowest-same P (readyBy P es cs 2) (canStep step cs m) same
@@ -54,7 +54,7 @@ module _ {w : Work Iteration} {step : Step} {P : ℕ} {es xs c bs : List ℕ} (g
           ∙ ap (λ (a : After Iteration (List Float)). performing (a .said)) (sym (g .calls b cs m long r ∙ called-below w (tableIn c) b cs m l))
 
   module _ (most : ℕ) (from : List ℕ) (begun : List Float) where
-    pub closing-start : length begun ≡ total (tableIn c) → Reachable w from → Closing w step P c most from begun from begun most
+    pub closing-start : length begun ≡ elementTotal (tableIn c) → Reachable w from → Closing w step P c most from begun from begun most
     closing-start e r = record { reachable = r; long = e; left = refl }
 
     module _ (cs : List ℕ) (m : List Float) (n : ℕ) (y : Closing w step P c most from begun cs m n) where

@@ -11,7 +11,7 @@ use Rattle.refusals.specs.Answers.{accepted, refused, refusalOf}
 use Rattle.refusals.specs.AnswerLaws.{told-refused}
 use Rattle.reader.specs.Store.{tableIn}
 use Rattle.blocks.specs.declared.Axis.{Axis}
-use Rattle.iterations.specs.Memory.{total, remembered}
+use Rattle.iterations.specs.Memory.{elementTotal, remembered}
 use Rattle.iterations.specs.MemoryLaws.{remembered-as-long, remembered-unlike}
 use Rattle.iterations.specs.Loaded.{Loaded}
 use Rattle.model.specs.declared.Iteration.{Iteration}
@@ -33,7 +33,7 @@ use Rattle.running.specs.Runs.{Runs}
 -- WHAT THE CODE IS LENT, where the plan is laid out
 module _ (a : Axis) (c : List ℕ) (h : Laid a c) (es xs bs : List ℕ) (loaded : Loaded (tableIn c) c bs) (ended : Ended (workIn a c) es)
     (long : length es ≡ 192) (room : 6144 ≤ length xs) (stands : (b : ℕ) → b < a .blocks → Stands a c xs (96 * b) b) where
-  calling-by : (step : Step) → ((b : ℕ) (cs : List ℕ) (m : List Float) → length m ≡ total (tableIn c) → Reachable (workIn a c) cs
+  calling-by : (step : Step) → ((b : ℕ) (cs : List ℕ) (m : List Float) → length m ≡ elementTotal (tableIn c) → Reachable (workIn a c) cs
       → step b cs m ≡ called (workIn a c) (tableIn c) b cs m) → Calling (workIn a c) step (a .blocks) es xs c bs
   calling-by step calls = record {
     lent = λ b. lent-in a c h es ended long b xs (96 * b) bs (λ l. (omega (arith, few-blocks a c h), stands b l)) loaded;
@@ -64,10 +64,10 @@ module _ (s : List ℕ) (w : Settings) (order : List ℕ) (m : List Float) where
 
   module _ (q : Planned) (planned-is : planned s w ≡ accepted q) where
     -- 12
-    pub runs-unlike : (length m ≡ total (q .table) → ⊥) → Runs s w order m (record { refusal = met 12 0; idle = 0 }) m
+    pub runs-unlike : (length m ≡ elementTotal (q .table) → ⊥) → Runs s w order m (record { refusal = met 12 0; idle = 0 }) m
     runs-unlike n = run-refused (met 12 0) (ap (remembered elements (length m)) planned-is ∙ remembered-unlike elements (length m) q n)
 
-    pub runs-made : length m ≡ total (q .table) → (left : List Float) (n : ℕ) → Rowed (workOf q) (step s w) (q .plan .processors) order m left n
+    pub runs-made : length m ≡ elementTotal (q .table) → (left : List Float) (n : ℕ) → Rowed (workOf q) (step s w) (q .plan .processors) order m left n
         → Runs s w order m (record { refusal = none; idle = n }) left
     unfolding runMemory runIdle
     runs-made long left n h = record { tells = sym (ap refusalOf f); memory-is = rw f (h .memory-is); idle-is = rw f (h .idle-is) }

@@ -9,7 +9,7 @@ use lib.Seq.{drop-cons}
 use lib.Ieee.{Float}
 use Rattle.model.specs.declared.Iteration.{Iteration}
 use Rattle.reader.specs.Store.{tableIn}
-use Rattle.iterations.specs.Memory.{total}
+use Rattle.iterations.specs.Memory.{elementTotal}
 use Rattle.turns.specs.Turn.{Work}
 use Rattle.turns.specs.Row.{noneDone, reports, countsAfter, memoryAfter, idle}
 use Rattle.turns.specs.Reachable.{Reachable}
@@ -25,13 +25,13 @@ use Rattle.running.proofs.Calls.{idling-small, leaves-reachable, leaves
 pub record Going (w : Work Iteration) (step : Step) (c order : List ℕ) (begun : List Float) (cs : List ℕ) (m : List Float) (n k : ℕ) : Type 0 where
   pub few : n ≤ k
   pub reachable : Reachable w cs
-  pub long : length m ≡ total (tableIn c)
+  pub long : length m ≡ elementTotal (tableIn c)
   pub counts-left : countsAfter step (drop k order) cs m ≡ countsAfter step order noneDone begun
   pub memory-left : memoryAfter step (drop k order) cs m ≡ memoryAfter step order noneDone begun
   pub idle-left : n + idle (reports step (drop k order) cs m) ≡ idle (reports step order noneDone begun)
 
 module _ (w : Work Iteration) (step : Step) (c order : List ℕ) (begun : List Float) where
-  pub going-start : length begun ≡ total (tableIn c) → Going w step c order begun noneDone begun 0 0
+  pub going-start : length begun ≡ elementTotal (tableIn c) → Going w step c order begun noneDone begun 0 0
   going-start l = record {
     few = omega arith;
     reachable = none-reachable w;

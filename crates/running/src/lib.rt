@@ -19,7 +19,7 @@ ghost use lib.ListN.{length};
 ghost use Rattle.model.specs.declared.Iteration.{Iteration};
 ghost use Rattle.refusals.specs.Answers.{accepted};
 ghost use Rattle.reader.specs.Store.{tableIn};
-ghost use Rattle.iterations.specs.Memory.{total};
+ghost use Rattle.iterations.specs.Memory.{elementTotal};
 ghost use Rattle.turns.specs.Turn.{Work};
 ghost use Rattle.turns.specs.Row.{closing, memoryAfter};
 ghost use Rattle.turns.specs.Reachable.{Reachable};
@@ -66,7 +66,7 @@ fn take_order(
     bases: &[u32; 17],
     memory: &mut [f64],
 ) -> Taken
-    requires { ⌜ ((w : Work Iteration) × ((step : Step) × Calling w step processors (now ends) (now lists) (now store) (now bases))) × (length (now memory) ≡ total (tableIn (now store))) ⌝ }
+    requires { ⌜ ((w : Work Iteration) × ((step : Step) × Calling w step processors (now ends) (now lists) (now store) (now bases))) × (length (now memory) ≡ elementTotal (tableIn (now store))) ⌝ }
     ensures { λ r. ⌜ ((w : Work Iteration) (step : Step) → Calling w step processors (now (ends .entry)) (now (lists .entry)) (now (store .entry)) (now (bases .entry)) → Ordered w step (now (store .entry)) (now (order .entry)) (now (memory .entry)) (r .counts .done) (now (memory .exit)) (r .idle)) ⌝ }
 {
     let mut counts = Counts { done: [0u32; 64] };
@@ -95,7 +95,7 @@ fn close(
     bases: &[u32; 17],
     memory: &mut [f64],
 )
-    requires { ⌜ ((w : Work Iteration) × ((step : Step) × Calling w step processors (now ends) (now lists) (now store) (now bases) × Reachable w (from .done))) × (length (now memory) ≡ total (tableIn (now store))) ⌝ }
+    requires { ⌜ ((w : Work Iteration) × ((step : Step) × Calling w step processors (now ends) (now lists) (now store) (now bases) × Reachable w (from .done))) × (length (now memory) ≡ elementTotal (tableIn (now store))) ⌝ }
     ensures { λ _. ⌜ ((w : Work Iteration) (step : Step) → Calling w step processors (now (ends .entry)) (now (lists .entry)) (now (store .entry)) (now (bases .entry)) → Reachable w (from .done) → now (memory .exit) ≡ memoryAfter step (closing step processors most (from .done) (now (memory .entry))) (from .done) (now (memory .entry))) ⌝ }
 {
     let mut counts = from;
@@ -122,7 +122,7 @@ fn run_row(
     bases: &[u32; 17],
     memory: &mut [f64],
 ) -> usize
-    requires { ⌜ ((w : Work Iteration) × ((step : Step) × Calling w step processors (now ends) (now lists) (now store) (now bases))) × (length (now memory) ≡ total (tableIn (now store))) ⌝ }
+    requires { ⌜ ((w : Work Iteration) × ((step : Step) × Calling w step processors (now ends) (now lists) (now store) (now bases))) × (length (now memory) ≡ elementTotal (tableIn (now store))) ⌝ }
     ensures { λ r. ⌜ ((w : Work Iteration) (step : Step) → Calling w step processors (now (ends .entry)) (now (lists .entry)) (now (store .entry)) (now (bases .entry)) → Rowed w step processors (now (order .entry)) (now (memory .entry)) (now (memory .exit)) r) ⌝ }
 {
     let taken = take_order(order, processors, ends, lists, store, bases, memory);

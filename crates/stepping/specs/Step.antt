@@ -10,7 +10,7 @@ use Rattle.refusals.specs.Answers.{AnswerOf, accepted, refused}
 use Rattle.lists.specs.Fusion.{phases, work, fusedList, peeledList}
 use Rattle.turns.specs.Turn.{Work, Said, refuses, performs, waits, ends, After, stays, stepped}
 use Rattle.plans.specs.Plans.{Settings, Planned, plannedFor}
-use Rattle.iterations.specs.Memory.{total, remembered}
+use Rattle.iterations.specs.Memory.{elementTotal, remembered}
 use Rattle.stepping.specs.declared.Report.{Report}
 use Rattle.stepping.specs.declared.Report.the-variants.{Refused, Performed, Waiting, Finished}
 
@@ -34,7 +34,7 @@ reportOf ends = Finished
 
 -- how many elements its memory has
 abbrev pub elements : Planned → ℕ
-elements q = total (q .table)
+elements q = elementTotal (q .table)
 
 -- after 1 to 12: 15, or the turn
 unfoldable pub steppedBy : ℕ → List ℕ → List Float → AnswerOf Planned → After Iteration (List Float)

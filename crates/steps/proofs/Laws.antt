@@ -11,7 +11,8 @@ use Rattle.refusals.specs.Answers.{accepted}
 use Rattle.refusals.specs.AnswerLaws.{told-refused}
 use Rattle.reader.specs.Store.{tableIn}
 use Rattle.blocks.specs.declared.Axis.{Axis}
-use Rattle.iterations.specs.Memory.{total, remembered, remembered-as-long, remembered-unlike}
+use Rattle.iterations.specs.Memory.{elementTotal, remembered}
+use Rattle.iterations.specs.MemoryLaws.{remembered-as-long, remembered-unlike}
 use Rattle.turns.specs.Turn.{After, stepped, wrongState}
 use Rattle.barriers.specs.Code.{Ended, wrongBy}
 use Rattle.barriers.specs.Same.{wrong-by-open}
@@ -35,11 +36,11 @@ module _ (a : Axis) (c : List ℕ) (b : ℕ) (cs : List ℕ) (m : List Float) wh
   outcome = steppedBy b cs m (remembered elements (length m) (accepted (plannedIn a c)))
 
   -- 12
-  pub leaves-unlike : (length m ≡ total (tableIn c) → ⊥) → Leaves outcome cs m (Refused (met 12 0))
+  pub leaves-unlike : (length m ≡ elementTotal (tableIn c) → ⊥) → Leaves outcome cs m (Refused (met 12 0))
   unfolding steppedBy
   leaves-unlike e = rw (remembered-unlike elements (length m) (plannedIn a c) e) (record { counts-are = refl; memory-is = refl; report-is = refl })
 
-  module _ (long : length m ≡ total (tableIn c)) (ends : List ℕ) (ended : Ended (workIn a c) ends) (x : Bool)
+  module _ (long : length m ≡ elementTotal (tableIn c)) (ends : List ℕ) (ended : Ended (workIn a c) ends) (x : Bool)
       (asked : x ≡ wrongBy (a .blocks) ends cs 2) where
     wrong : wrongState (workIn a c) cs ≡ x
     wrong = sym (asked ∙ wrong-by-open ended cs)

@@ -14,7 +14,7 @@ use Rattle.model.specs.declared.Iteration.{Iteration}
 use Rattle.model.specs.Table.{Table, iteration}
 use Rattle.model.specs.Bodies.{run}
 use Rattle.turns.specs.Turn.{Work, refuses, stays, turn}
-use Rattle.turns.specs.Reach.{Reachable}
+use Rattle.turns.specs.Reachable.{Reachable}
 use Rattle.plans.specs.Plans.{Settings, Planned, planned}
 use Rattle.stepping.specs.Step.{workOf, elements, step}
 use Rattle.stepping.specs.Reach.{step-turn, step-past}

@@ -20,7 +20,7 @@ ghost use Rattle.model.specs.Table.{iteration};
 ghost use Rattle.model.specs.declared.Iteration.{Iteration};
 ghost use Rattle.refusals.specs.Answers.{accepted};
 ghost use Rattle.reader.specs.Store.{tableIn};
-ghost use Rattle.iterations.specs.Memory.{total, remembered};
+ghost use Rattle.iterations.specs.Memory.{elementTotal, remembered};
 ghost use Rattle.turns.specs.Turn as turns;
 ghost use Rattle.turns.specs.Turn.{Work};
 ghost use Rattle.plans.specs.Plans.{settings};
@@ -97,7 +97,7 @@ impl Counts {
         bases: &[u32; 17],
         memory: &mut [f64],
     ) -> Stepped
-        requires { ⌜ ((w : Work Iteration) × Lent w processors b (now ends) (now lists) at (now store) (now bases)) × (length (now memory) ≡ total (tableIn (now store))) ⌝ }
+        requires { ⌜ ((w : Work Iteration) × Lent w processors b (now ends) (now lists) at (now store) (now bases)) × (length (now memory) ≡ elementTotal (tableIn (now store))) ⌝ }
         ensures { λ r. ⌜ ((w : Work Iteration) → Lent w processors b (now (ends .entry)) (now (lists .entry)) at (now (store .entry)) (now (bases .entry)) → Leaves (called w (tableIn (now (store .entry))) b (self .done) (now (memory .entry))) (r .counts .done) (now (memory .exit)) (r .report)) ⌝ }
     {
         if processors <= b {
