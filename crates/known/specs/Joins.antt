@@ -4,8 +4,9 @@ use mathlib.Core.List.{[], _∷_, _++_}
 use Rattle.refusals.specs.Refusals.{none, met, naming}
 use Rattle.refusals.specs.Answers.{accepted, refused}
 use Rattle.outputs.specs.Given.{fitted, countOf}
-use Rattle.joining.specs.Joining.{alike, joining}
-use Rattle.joining.specs.Copied.{bytes}
+use Rattle.records.specs.Encoding.{inTwo, inFour, inOffset, encode, encodeAll}
+use Rattle.joining.specs.Records.{arrayRecords, itemRecords, loopRecords}
+use Rattle.joining.specs.Joining.{alike, joinedRecords, joining}
 use Rattle.known.specs.Records.{array, ahead, store, read, one, end, times}
 use Rattle.known.specs.Bytes.{tableOf, example, itself, storer, reader, joinedBytes}
 use Rattle.known.specs.Told.{refusal, refusalFor, shiftsIn, peelsIn}
@@ -36,7 +37,7 @@ pub record Joins : Type 0 where
   pub crowd-buffer : joining (tableOf 1 9) (tableOf 1 8) 0 ≡ refused (met 4 0)
 
 pub joins : Joins
-unfolding refusalFor refusal joining alike bytes fitted
+unfolding refusalFor refusal joining alike joinedRecords arrayRecords itemRecords loopRecords inTwo inFour inOffset encode encodeAll fitted
 joins = record {
   written = refl;
   right-first = refl;
