@@ -12,7 +12,7 @@ use borrow.Author.Tests.{ltb-true, eq-eqb}
 use Rattle.refusals.specs.declared.Refusal.{Refusal}
 use Rattle.refusals.specs.Refusals.{met}
 use Rattle.refusals.specs.Answers.{AnswerOf, accepted, refused, _if_else_, after, refusalOf, Only}
-use Rattle.refusals.specs.AnswerLaws.{accepted-only, if-only}
+use Rattle.refusals.specs.AnswerLaws.{test-only, accepted-only}
 use Rattle.model.specs.declared.Iteration.{Iteration}
 use Rattle.model.specs.Table.{Table, iteration}
 use Rattle.model.specs.Bodies.{run}
@@ -34,17 +34,6 @@ use Rattle.stepping.specs.Run.{runAnswer}
 use Rattle.answers.specs.Statements.{BadProcessors, BadNumber, Short}
 use Rattle.answers.specs.Tests.{Decides, ten, ten-named, eleven, fifteen}
 use Rattle.answers.specs.Refusing.{Then, before, here, ReadRefused, FitRefused, PlanRefused, NamedRefused, MemoryRefused, OutputRefused, StateRefused}
-
--- a test of what an answer accepts, and then more
-test-only : {T U : Type 0} (P : Refusal → Type 0) (a : AnswerOf T) (g : ℕ) (test : T → Bool) (more : T → AnswerOf U) → Only P a
-    → ((t : T) → a ≡ accepted t → test t ≡ true → P (met g 0)) → ((t : T) → a ≡ accepted t → test t ≡ false → Only P (more t))
-    → Only P (after a (λ t. refused (met g 0) if test t else more t))
-test-only P (refused q) g test more first given past = λ r e. first r (ap refused (ap refusalOf e))
-test-only {U} P (accepted t) g test more first given past = go (test t) refl
-  where
-    go : (x : Bool) → test t ≡ x → Only {T = U} P (refused (met g 0) if x else more t)
-    go true e r f = subst P (ap refusalOf f) (given t refl e)
-    go false e r f = past t refl e r f
 
 -- no refusal has the ground 0
 pub then-some : {T : Type 0} (a : AnswerOf T) (Before : Refusal → Type 0) (g : ℕ) (Holds : T → Type 0) → 1 ≤ g

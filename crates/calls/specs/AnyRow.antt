@@ -8,7 +8,7 @@ use mathlib.Core.List.{List, [], _∷_, _++_, map, List·Memᴰ·cases-cons, Lis
 use mathlib.Core.List.{List·Memᴰ as Mem, List·Memᴰ·head as mhere, List·Memᴰ·tail as mthere}
 use lib.ListN.{drop}
 use lib.Ieee.{Float}
-use Rattle.order.specs.Lists.{Before, NoDup}
+use Rattle.order.specs.Sequences.{Before, NoDup}
 use Rattle.model.specs.declared.Iteration.{Iteration}
 use Rattle.model.specs.References.{allRefs}
 use Rattle.model.specs.PlainRun.{plainRun}

@@ -6,8 +6,7 @@ use mathlib.Core.Path.{_≡_, sym, _∙_}
 use mathlib.Core.List.{List}
 use mathlib.Core.List.{List·Memᴰ as Mem}
 use lib.Ieee.{Float}
-use Rattle.order.specs.Lists.{Before}
-use Rattle.order.specs.Reorder.{runAll}
+use Rattle.order.specs.Sequences.{Before, runAll}
 use Rattle.model.specs.declared.Iteration.{Iteration}
 use Rattle.model.specs.Bodies.{run}
 use Rattle.refusals.specs.Answers.{accepted}

@@ -2,7 +2,7 @@
 use Prim.Native.Nat.{ℕ, _<_}
 use mathlib.Core.List.{List}
 use mathlib.Core.List.{List·Memᴰ as Mem}
-use Rattle.order.specs.Lists.{Before, NoDup}
+use Rattle.order.specs.Sequences.{Before, NoDup}
 use Rattle.model.specs.declared.Iteration.{Iteration}
 use Rattle.model.specs.Table.{Inside}
 use Rattle.plans.specs.Plans.{Planned}

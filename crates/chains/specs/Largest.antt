@@ -9,7 +9,7 @@ use native.Mathlib.Nat.{le-max-left, le-max-right, le-trans}
 use native.Mathlib.Decide.{ℕ-discrete}
 use native.Mathlib.Omega.{arith}
 use lib.ListN.{length, getD, replicate}
-use Rattle.order.specs.Lists.{bhere, bthere}
+use Rattle.order.specs.Sequences.{bhere, bthere}
 use Rattle.model.specs.declared.Reference.{Reference}
 use Rattle.chains.specs.Dependence.{dependence, Dependence}
 use Rattle.chains.specs.DependenceLaws.{earlier}

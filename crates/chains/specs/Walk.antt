@@ -4,7 +4,7 @@ use mathlib.Core.Bool.{cond}
 use mathlib.Core.List.{List, [], _∷_}
 use mathlib.Core.List.{List·Memᴰ as Mem}
 use lib.ListN.{getD, set, replicate}
-use Rattle.order.specs.Lists.{Before}
+use Rattle.order.specs.Sequences.{Before}
 use Rattle.model.specs.declared.Reference.{Reference}
 use Rattle.chains.specs.Dependence.{dependence, backward, forward}
 use Rattle.chains.specs.Maximum.{maximum}

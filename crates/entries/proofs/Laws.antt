@@ -5,7 +5,7 @@ use native.Mathlib.Numerals.{add-one}
 use mathlib.Core.Path.{_≡_, refl, sym, ap, subst, _∙_}
 use mathlib.Core.List.{List, [], _∷_, _++_, append-nil, append-assoc}
 use lib.ListN.{length, getD, length-append}
-use Rattle.order.specs.Lists.{joined}
+use Rattle.order.specs.Sequences.{joined}
 use Rattle.model.specs.Table.{iteration}
 use Rattle.model.specs.declared.Iteration.{Iteration}
 use Rattle.model.specs.References.{allRefs}

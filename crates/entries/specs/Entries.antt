@@ -1,7 +1,7 @@
 -- The numbers that each entry gives, four bytes each, or the refusal: 1 to 9, then 10 and 11 where a plan is asked for, then 13.
 use Prim.Native.Nat.{ℕ, suc, _-_}
 use mathlib.Core.List.{List, [], _∷_}
-use Rattle.order.specs.Lists.{joined}
+use Rattle.order.specs.Sequences.{joined}
 use Rattle.model.specs.Table.{Table, count}
 use Rattle.model.specs.declared.Iteration.{Iteration}
 use Rattle.refusals.specs.Answers.{after}

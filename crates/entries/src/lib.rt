@@ -17,7 +17,7 @@ use sweeps::sweeps_of as sweeps_in;
 ghost use mathlib.Core.List.{[], _∷_, _++_};
 ghost use Prim.Native.Nat.{suc, _+_, _-_, _*_, _^_, _<_, _≤_};
 ghost use lib.ListN.{length};
-ghost use Rattle.order.specs.Lists.{joined};
+ghost use Rattle.order.specs.Sequences.{joined};
 ghost use Rattle.reader.specs.Store.{tableIn};
 ghost use Rattle.reader.specs.Held.{Held};
 ghost use Rattle.grounds.specs.Accepted.{Valid};

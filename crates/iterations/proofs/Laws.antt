@@ -15,7 +15,7 @@ use Rattle.model.specs.declared.Reference.{Reference}
 use Rattle.model.specs.Table.{Item, read, constant, operation, Statement, Loop, Table, loop, iteration, Inside}
 use Rattle.model.specs.References.{destination, reads, references, refs}
 use Rattle.model.specs.Bodies.{begins, value, performed, run}
-use Rattle.order.specs.Reorder.{runAll}
+use Rattle.order.specs.Sequences.{runAll}
 use Rattle.reader.specs.Store.{itemsFrom, startAt, statementAt}
 use Rattle.reader.specs.Held.{loop-held, rows-rise, few-rows}
 use Rattle.grounds.specs.Statements.{sum}

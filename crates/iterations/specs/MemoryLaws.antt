@@ -7,7 +7,7 @@ use lib.Dec.{eqb}
 use lib.ListN.{length, length-set}
 use borrow.Author.Tests.{eqb-true, not-false, eq-eqb, ne-eqb}
 use lib.Ieee.{Float}
-use Rattle.order.specs.Reorder.{runAll}
+use Rattle.order.specs.Sequences.{runAll}
 use Rattle.model.specs.declared.Iteration.{Iteration}
 use Rattle.model.specs.Table.{Statement, Table, loop, first, last, iteration}
 use Rattle.model.specs.Bodies.{place, value, performed, run}

@@ -3,7 +3,7 @@ use Prim.Native.Nat.{ℕ, _<_}
 use mathlib.Core.Path.{_≡_}
 use mathlib.Core.Logic.{_⊎_}
 use mathlib.Core.List.{List·Memᴰ as Mem}
-use Rattle.order.specs.Lists.{NoDup}
+use Rattle.order.specs.Sequences.{NoDup}
 use Rattle.model.specs.declared.Iteration.{Iteration}
 use Rattle.model.specs.Table.{Table, Inside}
 use Rattle.lists.specs.Fusion.{Fusion, fusedList, peeledList}

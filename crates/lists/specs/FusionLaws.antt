@@ -8,7 +8,8 @@ use mathlib.Core.List.{List·Memᴰ as Mem}
 use Prim.Native.Nat.{ℕ, zero, suc, _+_, _*_, _≤_, _<_}
 use native.Mathlib.Omega.{arith}
 use lib.ListN.{length}
-use Rattle.order.specs.Lists.{Before, before-left, before-right, NoDup}
+use Rattle.order.specs.Sequences.{Before, NoDup}
+use Rattle.order.specs.Lists.{before-left, before-right}
 use Rattle.order.specs.Rows.{Rows}
 use Rattle.model.specs.declared.Iteration.{Iteration}
 use Rattle.model.specs.Table.{Table, count, first, last, Inside}

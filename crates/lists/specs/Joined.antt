@@ -7,7 +7,8 @@ use native.Mathlib.Numerals.{add-one}
 use native.Mathlib.Omega.{arith}
 use lib.ListN.{length, getD, length-append, List·getD-append, List·getD-eq-default}
 use lib.Seq.{getD-append-add}
-use Rattle.order.specs.Lists.{Before, bhere, bthere, before-left, joined}
+use Rattle.order.specs.Sequences.{Before, bhere, bthere, joined}
+use Rattle.order.specs.Lists.{before-left}
 use Rattle.blocks.specs.Sums.{total}
 use Rattle.blocks.specs.SumLaws.{total-up}
 

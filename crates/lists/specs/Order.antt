@@ -8,7 +8,8 @@ use native.Mathlib.Nat.{mul-le-mul-right}
 use native.Mathlib.Decide.{decLe, decLt}
 use native.Mathlib.Omega.{arith}
 use borrow.Author.Tests.{lt-ltb, le-ltb, le-leb, lt-leb}
-use Rattle.order.specs.Lists.{Before, NoDup, before-left, before-right, joined, mem-joined, joined-mem, before-joined, joined-same}
+use Rattle.order.specs.Sequences.{Before, NoDup, joined}
+use Rattle.order.specs.Lists.{before-left, before-right, mem-joined, joined-mem, before-joined, joined-same}
 use Rattle.model.specs.declared.Iteration.{Iteration}
 use Rattle.model.specs.Table.{iteration}
 use Rattle.blocks.specs.declared.Range.{Range}

@@ -6,7 +6,7 @@ use lib.Dec.{eqb}
 use lib.IntN.{pos}
 use lib.ListN.{getD, set}
 use lib.Ieee.{Float, nan, binary64, ofInt, add, sub, mul, div, neg}
-use Rattle.order.specs.Reorder.{runAll}
+use Rattle.order.specs.Sequences.{runAll}
 use Rattle.model.specs.declared.Iteration.{Iteration}
 use Rattle.model.specs.Table.{Item, read, constant, operation, Statement, Table, loop}
 

@@ -5,7 +5,7 @@ use mathlib.Core.Logic.{_⊎_}
 use mathlib.Core.Bool.{Bool, true, false, _&&_, _||_}
 use mathlib.Core.List.{List, [], _∷_, _++_}
 use lib.Dec.{eqb}
-use Rattle.order.specs.Lists.{joined}
+use Rattle.order.specs.Sequences.{joined}
 use Rattle.model.specs.declared.Reference.{Reference}
 use Rattle.model.specs.Table.{Item, read, constant, operation, Statement, Table, loop, count}
 

@@ -7,9 +7,11 @@ use mathlib.Core.List.{List·Memᴰ as Mem}
 use Prim.Native.Nat.{ℕ, _≤_}
 use native.Mathlib.Decide.{ℕ-discrete}
 use native.Mathlib.Omega.{arith}
-use Rattle.order.specs.Lists.{if-yes, if-no, Before, bhere, bthere, NoDup, before-left, before-right}
+use Rattle.order.specs.Lists.{if-yes, if-no, before-left, before-right}
+use Rattle.order.specs.Sequences.{Before, bhere, bthere, NoDup}
 use Rattle.order.specs.Lists.{same-list, only-mem, mem-only, only-passes, only-before, before-only, mem-joined}
-use Rattle.order.specs.Machine.{Plan, start, left, left-next, left-other, Open, next, bump, count, next-open, trace, final, mine, InOrder, Exhausts}
+use Rattle.order.specs.Machine.{Plan, start, left, left-next, left-other, Open, next, bump, count, next-open, trace, final, mine, InOrder}
+use Rattle.order.specs.Machine.{Exhausts}
 use Rattle.order.specs.Plain.{Covers}
 
 module _ {A : Type 0} (p : Plan A) where

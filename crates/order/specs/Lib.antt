@@ -1,4 +1,6 @@
--- lists: members, order, permutations
+-- sequences of actions: what is said of them
+pub mod Sequences
+-- laws of lists: members, order, permutations
 pub mod Lists
 -- when two orders of the same actions leave the same state
 pub mod Reorder

@@ -7,7 +7,8 @@ use mathlib.Core.List.{List·Memᴰ as Mem, List·Memᴰ·head as mhere}
 use Prim.Native.Nat.{ℕ, _<_}
 use native.Mathlib.Decide.{ℕ-discrete}
 use native.Mathlib.Omega.{arith}
-use Rattle.order.specs.Lists.{Before, NoDup, before-total, before-append-left, before-across, only-mem, mem-only, only-before}
+use Rattle.order.specs.Sequences.{Before, NoDup}
+use Rattle.order.specs.Lists.{before-total, before-append-left, before-across, only-mem, mem-only, only-before}
 use Rattle.order.specs.Machine.{Plan, trace, final, start, left, left-rest, mine, runs, run-mine, run-rises, run-ahead, Exhausts}
 
 module _ {A : Type 0} (p : Plan A) (bs : List ℕ) where

@@ -5,6 +5,7 @@ use mathlib.Core.Path.{_≡_, refl, sym, ap, subst}
 use mathlib.Core.Logic.{_⊎_, inl, inr}
 use mathlib.Core.Bool.{Bool, true, false}
 use Rattle.refusals.specs.declared.Refusal.{Refusal}
+use Rattle.refusals.specs.Refusals.{met}
 use Rattle.refusals.specs.Answers.{AnswerOf, _if_else_, after, refusalOf, Only, accepted, refused}
 
 module _ {T : Type 0} where
@@ -38,6 +39,17 @@ pub after-only : {T U : Type 0} (P : Refusal → Type 0) (a : AnswerOf T) (more 
     → Only P (after a more)
 after-only P (refused q) more h rest = refused-only P q (h q refl)
 after-only P (accepted t) more h rest = rest t
+
+-- a test of what an answer accepts, and then more
+pub test-only : {T U : Type 0} (P : Refusal → Type 0) (a : AnswerOf T) (g : ℕ) (test : T → Bool) (more : T → AnswerOf U) → Only P a
+    → ((t : T) → a ≡ accepted t → test t ≡ true → P (met g 0)) → ((t : T) → a ≡ accepted t → test t ≡ false → Only P (more t))
+    → Only P (after a (λ t. refused (met g 0) if test t else more t))
+test-only P (refused q) g test more first given past = λ r e. first r (ap refused (ap refusalOf e))
+test-only {U} P (accepted t) g test more first given past = go (test t) refl
+  where
+    go : (x : Bool) → test t ≡ x → Only {T = U} P (refused (met g 0) if x else more t)
+    go true e r f = subst P (ap refusalOf f) (given t refl e)
+    go false e r f = past t refl e r f
 
 module _ {T U : Type 0} where
   -- what is accepted after an answer

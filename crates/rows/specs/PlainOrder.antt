@@ -7,8 +7,8 @@ use Prim.Native.Nat.{ℕ, zero, suc, _+_, _-_}
 use native.Mathlib.Nat.{zero-add}
 use native.Mathlib.Omega.{arith}
 use lib.Ieee.{Float}
-use Rattle.order.specs.Lists.{Before, NoDup, joined}
-use Rattle.order.specs.Reorder.{runAll, runAll-append}
+use Rattle.order.specs.Sequences.{Before, NoDup, joined, runAll}
+use Rattle.order.specs.Reorder.{runAll-append}
 use Rattle.model.specs.declared.Iteration.{Iteration}
 use Rattle.model.specs.Table.{Table, count, first, last, iteration, Inside}
 use Rattle.model.specs.Bodies.{run}

@@ -8,8 +8,9 @@ use Prim.Native.Nat.{ℕ, zero, suc, _+_, _≤_, _<_}
 use native.Mathlib.Decide.{decLe, decLt}
 use native.Mathlib.Omega.{arith}
 use lib.Ieee.{Float}
-use Rattle.order.specs.Lists.{Before, before-left, before-right}
-use Rattle.order.specs.Reorder.{runAll, Commute}
+use Rattle.order.specs.Sequences.{Before, runAll}
+use Rattle.order.specs.Lists.{before-left, before-right}
+use Rattle.order.specs.Reorder.{Commute}
 use Rattle.order.specs.Machine.{Exhausts, trace, start}
 use Rattle.order.specs.Rows.{Ordered, plan, any-schedule-by-keys}
 use Rattle.model.specs.declared.Iteration.{Iteration}

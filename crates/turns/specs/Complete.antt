@@ -7,8 +7,8 @@ use mathlib.Core.Path.{_≡_, refl, ap, subst, _∙_}
 use mathlib.Core.Logic.{⊎-elim}
 use mathlib.Core.List.{List, _∷_, _++_, List·Memᴰ·cases-cons}
 use mathlib.Core.List.{List·Memᴰ as Mem, List·Memᴰ·head as mhere, List·Memᴰ·tail as mthere}
-use Rattle.order.specs.Lists.{if-yes, Before, NoDup, joined-mem, mem-joined}
-use Rattle.order.specs.Reorder.{runAll}
+use Rattle.order.specs.Lists.{if-yes, joined-mem, mem-joined}
+use Rattle.order.specs.Sequences.{Before, NoDup, runAll}
 use Rattle.order.specs.Machine.{trace, start, Exhausts}
 use Rattle.order.specs.Exists.{complete-exists}
 use Rattle.order.specs.Rows.{Rows, plan, whole, cut-mem}

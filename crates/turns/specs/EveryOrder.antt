@@ -6,8 +6,8 @@ use mathlib.Core.Path.{_≡_, ap, _∙_}
 use mathlib.Core.Logic.{⊎-elim}
 use mathlib.Core.List.{List}
 use mathlib.Core.List.{List·Memᴰ as Mem}
-use Rattle.order.specs.Lists.{if-yes, Before, before-left, before-right, before-total, before-joined, joined-before}
-use Rattle.order.specs.Reorder.{runAll}
+use Rattle.order.specs.Lists.{if-yes, before-left, before-right, before-total, before-joined, joined-before}
+use Rattle.order.specs.Sequences.{Before, runAll}
 use Rattle.order.specs.Machine.{InOrder, complete-in-order}
 use Rattle.order.specs.Plain.{Covers, in-order-covers}
 use Rattle.order.specs.Rows.{Rows, plan, whole, cut-before}

@@ -7,7 +7,8 @@ use mathlib.Core.Path.{_≡_, refl, sym, ap, subst, _∙_, fun-ext}
 use mathlib.Core.List.{List, [], _∷_, _++_}
 use lib.ListN.{drop}
 use lib.Seq.{drop-nil}
-use Rattle.order.specs.Reorder.{runAll, runAll-append}
+use Rattle.order.specs.Sequences.{runAll}
+use Rattle.order.specs.Reorder.{runAll-append}
 use Rattle.order.specs.Machine.{left, next, count, trace, final, start}
 use Rattle.order.specs.Rows.{Rows, plan}
 use Rattle.blocks.specs.Sums.{column}

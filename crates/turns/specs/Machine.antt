@@ -9,8 +9,8 @@ use mathlib.Core.List.{List, [], _∷_, _++_, append-nil, append-assoc}
 use mathlib.Core.List.{List·Memᴰ as Mem, List·Memᴰ·head as mhere}
 use lib.ListN.{length, getD, drop}
 use lib.Seq.{drop-cons, drop-append-add, drop-append-le}
-use Rattle.order.specs.Lists.{if-yes, put-same, put-other, joined, mem-joined, drop-mem, nth-mem, Tested}
-use Rattle.order.specs.Reorder.{runAll}
+use Rattle.order.specs.Lists.{if-yes, put-same, put-other, mem-joined, drop-mem, nth-mem, Tested}
+use Rattle.order.specs.Sequences.{joined, runAll}
 use Rattle.order.specs.Machine.{Plan, left, rest, left-rest, Late, open?, next-open, bump, count}
 use Rattle.order.specs.Machine.{next as goesOn}
 use Rattle.order.specs.Rows.{Rows, plan, whole}

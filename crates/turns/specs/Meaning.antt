@@ -4,7 +4,7 @@ use native.Mathlib.Omega.{arith}
 use mathlib.Core.Path.{_≡_, refl, subst}
 use mathlib.Core.List.{List}
 use lib.ListN.{length, getD}
-use Rattle.order.specs.Lists.{joined}
+use Rattle.order.specs.Sequences.{joined}
 use Rattle.blocks.specs.Sums.{column}
 use Rattle.lists.specs.Joined.{length-joined, walk-here}
 use Rattle.turns.specs.Turn.{Work, Said, refuses, performs, waits, ends, own, before, next, after, turn}

@@ -2,7 +2,7 @@
 use Prim.Native.Nat.{ℕ, _<_}
 use mathlib.Core.List.{List}
 use mathlib.Core.List.{List·Memᴰ as Mem}
-use Rattle.order.specs.Lists.{Before, NoDup}
+use Rattle.order.specs.Sequences.{Before, NoDup}
 use Rattle.turns.specs.Turn.{Work}
 
 module _ {A : Type 0} (w : Work A) where

@@ -4,7 +4,7 @@ use Prim.Native.Nat.{_≤_, _-_, _+_}
 use native.Mathlib.Omega.{arith}
 use denote.Ref.{now}
 use lib.ListN.{length}
-use Rattle.order.specs.Lists.{joined}
+use Rattle.order.specs.Sequences.{joined}
 use Rattle.blocks.specs.Sums.{column}
 use Rattle.lists.specs.Joined.{walk-next}
 use Rattle.lists.specs.Lists.{here, ranges}

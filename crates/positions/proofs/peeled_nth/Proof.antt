@@ -4,7 +4,7 @@ use Prim.Native.Nat.{_≤_, _-_, _+_}
 use native.Mathlib.Omega.{arith}
 use denote.Ref.{now}
 use lib.ListN.{length}
-use Rattle.order.specs.Lists.{joined}
+use Rattle.order.specs.Sequences.{joined}
 use Rattle.lists.specs.Lists.{over, ranges}
 use Rattle.positions.specs.Search.{by-loops-here, by-loops-next, by-loops-past}
 use Rattle.positions.proofs.peeled_nth.Statement.{statement}
