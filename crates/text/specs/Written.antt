@@ -8,7 +8,6 @@ use lib.ListN.{length, take, drop, set, length-append, length-set}
 use lib.Seq.{sets, sets-eq}
 use Rattle.text.specs.Lent.{written, Put, Whole}
 
-
 -- one text and then another
 pub written-append : (out : List ℕ) (at : ℕ) (a b : List ℕ) → written out at (a ++ b) ≡ written (written out at a) (at + length a) b
 unfolding written
