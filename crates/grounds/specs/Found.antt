@@ -76,7 +76,7 @@ module _ {n g : ℕ} {A B : Type 0} {ts : List Test} where
 -- tests, and where they find nothing others
 abbrev Numbered : List Test → Type 0
 Numbered [] = Unit {0}
-Numbered (t ∷ ts) = (t .number ≢ 0) × Numbered ts
+Numbered (t ∷ ts) = (t .ground ≢ 0) × Numbered ts
 
 then : (ts us : List Test) (g h : ℕ) → Numbered ts → Finds ts g → (g ≡ 0 → Finds us h) → Finds (ts ++ us) (orElse g h)
 then ts us g h n f more = record { first = go ts n (f .first) }

@@ -12,13 +12,13 @@ use Rattle.grounds.specs.Places.{after}
 use Rattle.grounds.specs.Statements.{Misplaced, NotOneLeft, OneTooMany, ManyElements, NinthOrTooFew, OutsideArray}
 use Rattle.grounds.specs.Statements.{BadLength, BadLast, BadOffset, BadOperation, NoneNumbered}
 
--- a test: what it asks, and the number of the ground that holds where it does
+-- a test: what it asks, and the ground that holds where it does
 pub record Test : Type 1 where
-  pub number : ℕ
+  pub ground : ℕ
   pub holds : Type 0
 
 abbrev pub test : ℕ → Type 0 → Test
-test n A = record { number = n; holds = A }
+test n A = record { ground = n; holds = A }
 
 -- of the record r, after the records rs: 2, then 6 for a body left unfinished, 4
 abbrev pub kindTests : Record → List Record → List Test
@@ -47,4 +47,4 @@ tests s p rs =
 -- g is the number of the first test that holds; it is 0 where none does
 abbrev pub First : List Test → ℕ → Type 0
 First [] g = g ≡ 0
-First (t ∷ ts) g = (t .holds × (g ≡ t .number)) ⊎ ((t .holds → ⊥) × First ts g)
+First (t ∷ ts) g = (t .holds × (g ≡ t .ground)) ⊎ ((t .holds → ⊥) × First ts g)

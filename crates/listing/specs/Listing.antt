@@ -60,4 +60,4 @@ module _ (t : Table) (c : Fusion) (before after : ℕ) where
 
 -- a refusal is the single line `refused`, number, place
 unfoldable pub refusalLine : ℕ → ℕ → List ℕ
-refusalLine number place = line (ascii "refused") (number ∷ place ∷ [])
+refusalLine ground place = line (ascii "refused") (ground ∷ place ∷ [])

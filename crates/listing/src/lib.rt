@@ -168,8 +168,8 @@ pub fn write_listing(out: &mut [u8], axis: Axis, store: &Store, before: u32, aft
 }
 
 // The line of a refusal.
-pub fn write_refusal(out: &mut [u8], number: usize, place: usize) -> usize
-    ensures { λ r. ⌜ Whole (now (out .entry)) (refusalLine number place) 100 (now (out .exit)) r ⌝ }
+pub fn write_refusal(out: &mut [u8], ground: usize, place: usize) -> usize
+    ensures { λ r. ⌜ Whole (now (out .entry)) (refusalLine ground place) 100 (now (out .exit)) r ⌝ }
 {
-    put_line_of_two(out, 0, b"refused", number, place)
+    put_line_of_two(out, 0, b"refused", ground, place)
 }

@@ -97,7 +97,8 @@ module _ (s : List ℕ) (w : Settings) (q : Planned) (planned-is : planned s w �
       home : Once (q .table) (q .plan) (law .fit .wide)
       home = once (q .table) (q .plan) (law .fit .wide)
 
-      at : (n b : ℕ) (x : Iteration) → Mem x (work (q .table) (q .plan) n b) → Mem x (fusedList (q .table) (q .plan) b) ⊎ Mem x (peeledList (q .table) (q .plan) b)
+      at : (n b : ℕ) (x : Iteration) → Mem x (work (q .table) (q .plan) n b)
+          → Mem x (fusedList (q .table) (q .plan) b) ⊎ Mem x (peeledList (q .table) (q .plan) b)
       at zero b x m = inl m
       at (suc n) b x m = inr m
 

@@ -41,15 +41,15 @@ pub fn print_listing(s: &[u8], processors: u32, out: &mut [u8]) -> Outcome
 }
 
 // The line of a refusal. The first call, with no bytes, tells how many are needed.
-fn print_refusal(out: &mut [u8], number: usize, place: usize) -> Outcome
-    ensures { λ r. ⌜ Gives (fitted (length (now (out .entry))) (refusalLine number place)) (now (out .entry)) (now (out .exit)) r ⌝ }
-    ensures { λ r. ⌜ length (refusalLine number place) ≤ 100 ⌝ }
+fn print_refusal(out: &mut [u8], ground: usize, place: usize) -> Outcome
+    ensures { λ r. ⌜ Gives (fitted (length (now (out .entry))) (refusalLine ground place)) (now (out .entry)) (now (out .exit)) r ⌝ }
+    ensures { λ r. ⌜ length (refusalLine ground place) ≤ 100 ⌝ }
 {
-    let size = listing::write_refusal(&mut out[..0], number, place);
+    let size = listing::write_refusal(&mut out[..0], ground, place);
     if out.len() < size {
         return outputs::short();
     }
-    listing::write_refusal(out, number, place);
+    listing::write_refusal(out, ground, place);
     outputs::written(size)
 }
 
