@@ -131,8 +131,8 @@ uint64_t vempaldi_peeled_list(const uint8_t *table, size_t table_length, uint32_
                               uint8_t *out, size_t out_length, uint64_t answer[4]);
 
 /* The plan as text: lines `loop` k shift peel, `block` b first last, `fused` b k from to, `peeled` b k from to, `sweeps` before after.
- * Writes the text, each line with its line feed and no zero byte behind. Refuses with 1 to 9, 10, 11, 13. (The line `refused` number
- * place is written by the program `plan` alone.) */
+ * Writes the text, each line with its line feed and no zero byte behind. Refuses with 1 to 9, 10, 11, 13. (No call writes the
+ * line `refused` number place, which the program `plan` prints.) */
 uint64_t vempaldi_listing(const uint8_t *table, size_t table_length, uint32_t processors,
                           uint8_t *out, size_t out_length, uint64_t answer[4]);
 

@@ -31,15 +31,9 @@ use Rattle.turns.specs.Reach.{Turn, does, halts, stops, turn-is}
 use Rattle.turns.specs.Meaning.{turn-said}
 use Rattle.stepping.specs.Step.{workOf, elements, steppedBy, step}
 use Rattle.stepping.specs.Run.{runAnswer}
-use Rattle.answers.specs.Statements.{BadProcessors, BadNumber, Short}
+use Rattle.answers.specs.Statements.{BadProcessors, BadNumber, Short, OtherLength, NoRoom, BadState}
 use Rattle.answers.specs.Tests.{Decides, ten, ten-named, eleven, fifteen}
-use Rattle.answers.specs.Refusing.{Then, before, here, ReadRefused, FitRefused, PlanRefused, NamedRefused, MemoryRefused, OutputRefused, StateRefused}
-
--- no refusal has the ground 0
-pub then-some : {T : Type 0} (a : AnswerOf T) (Before : Refusal → Type 0) (g : ℕ) (Holds : T → Type 0) → 1 ≤ g
-    → ((r : Refusal) → Before r → r .ground ≡ 0 → ⊥) → (r : Refusal) → Then a Before g Holds r → r .ground ≡ 0 → ⊥
-then-some a Before g Holds l some r (before h) z = some r h z
-then-some a Before g Holds l some r (here t e h) z = omega (arith, z)
+use Rattle.answers.specs.Refusing.{Then, before, here, ReadRefused, FitRefused, PlanRefused, NamedRefused, MemoryRefused, OutputRefused, StepRefused, Nonzero}
 
 -- 12 and 13 after any answer
 module _ {T : Type 0} (a : AnswerOf T) (Before : Refusal → Type 0) (first : Only Before a) where
@@ -119,19 +113,14 @@ module _ (s : List ℕ) where
 
     -- THE STEP
     module _ (b : ℕ) (counts : List ℕ) (m : List Float) where
-      abbrev pub StepRefused : Refusal → Type 0
-      StepRefused =
-          StateRefused (remembered elements (length m) (plannedFor s w b))
-          (MemoryRefused (plannedFor s w b) (NamedRefused s w b) elements (length m)) counts
-
-      pub step-refused : (r : Refusal) → step s w b counts m .said ≡ refuses r → StepRefused r
+      pub step-refused : (r : Refusal) → step s w b counts m .said ≡ refuses r → StepRefused s w b counts m r
       unfolding step steppedBy stepped
       step-refused r = go (remembered elements (length m) (plannedFor s w b)) refl
         where
           same : (q : Refusal) → _≡_ {A = Said Iteration} (refuses q) (refuses r) → q ≡ r
           same q e = cc
 
-          go : (a : AnswerOf Planned) → remembered elements (length m) (plannedFor s w b) ≡ a → steppedBy b counts m a .said ≡ refuses r → StepRefused r
+          go : (a : AnswerOf Planned) → remembered elements (length m) (plannedFor s w b) ≡ a → steppedBy b counts m a .said ≡ refuses r → StepRefused s w b counts m r
           go (refused q) f e =
               before (remembered-only (plannedFor s w b) (NamedRefused s w b) (named-refused b) elements (length m) r (f ∙ ap refused (same q e)))
           go (accepted q) f e = at (wrongState (workOf q) counts) refl
@@ -142,8 +131,37 @@ module _ (s : List ℕ) where
               goes-on x (halts n come some which) e = let z : _≡_ {A = ℕ} 0 1 = cc in omega arith
               goes-on x (stops used opened) e = let z : _≡_ {A = ℕ} 0 1 = cc in omega arith
 
-              at : (x : Bool) → wrongState (workOf q) counts ≡ x → StepRefused r
-              at true x = subst StepRefused (same (met 15 0) (rw x at e)) (here q f (fifteen q counts .0 x))
+              at : (x : Bool) → wrongState (workOf q) counts ≡ x → StepRefused s w b counts m r
+              at true x = subst (StepRefused s w b counts m) (same (met 15 0) (rw x at e)) (here q f (fifteen q counts .0 x))
               at false x =
                   absurd (goes-on (next (iteration 0 0) (workOf q) b counts) (turn-is (iteration 0 0) (workOf q) (omega arith) b counts)
                   (sym (turn-said (iteration 0 0) (workOf q) (run (q .table)) b counts m) ∙ rw x at e))
+
+-- NO REFUSAL HAS THE GROUND 0
+module _ {T : Type 0} (a : AnswerOf T) (Before : Refusal → Type 0) (some : Nonzero Before) where
+  pub then-some : (g : ℕ) (Holds : T → Type 0) → 1 ≤ g → Nonzero (Then a Before g Holds)
+  then-some g Holds l r (before h) z = some r h z
+  then-some g Holds l r (here t e h) z = omega (arith, z)
+
+  pub memory-some : (size : T → ℕ) (n : ℕ) → Nonzero (MemoryRefused a Before size n)
+  memory-some size n = then-some 12 (λ t. OtherLength n (size t)) (omega arith)
+
+  pub output-some : (bytes : T → List ℕ) (room : ℕ) → Nonzero (OutputRefused a Before bytes room)
+  output-some bytes room = then-some 13 (λ t. NoRoom room (bytes t)) (omega arith)
+
+module _ (s : List ℕ) where
+  pub read-some : Nonzero (ReadRefused s)
+  read-some = told-some s
+
+  module _ (w : Settings) where
+    pub fit-some : (Bad : Type 0) → Nonzero (FitRefused s w Bad)
+    fit-some Bad =
+        then-some (table s) (Then (table s) (ReadRefused s) 10 (λ t. Bad))
+        (then-some (table s) (ReadRefused s) read-some 10 (λ t. Bad) (omega arith))
+        11 (λ t. (Bad → ⊥) × Short t w) (omega arith)
+
+    pub step-some : (b : ℕ) (counts : List ℕ) (m : List Float) → Nonzero (StepRefused s w b counts m)
+    step-some b counts m =
+        then-some (remembered elements (length m) (plannedFor s w b)) (MemoryRefused (plannedFor s w b) (NamedRefused s w b) elements (length m))
+        (memory-some (plannedFor s w b) (NamedRefused s w b) (fit-some (BadNumber w b)) elements (length m))
+        15 (λ q. BadState q counts) (omega arith)

@@ -3,12 +3,16 @@
 use Prim.Native.Nat.{ℕ}
 use mathlib.Core.Path.{_≡_}
 use mathlib.Core.List.{List}
+use lib.ListN.{length}
+use lib.Ieee.{Float}
 use Rattle.refusals.specs.declared.Refusal.{Refusal}
 use Rattle.refusals.specs.Refusals.{met}
 use Rattle.refusals.specs.Answers.{AnswerOf, accepted}
 use Rattle.serial.specs.Serial.{table}
 use Rattle.tables.specs.Told.{Told}
-use Rattle.plans.specs.Plans.{Settings, Planned}
+use Rattle.plans.specs.Plans.{Settings, Planned, plannedFor}
+use Rattle.iterations.specs.Memory.{remembered}
+use Rattle.stepping.specs.Step.{elements}
 use Rattle.answers.specs.Statements.{BadProcessors, BadNumber, Short, OtherLength, NoRoom, BadState}
 
 -- an answer, and then a test of what it accepts: the answer's own refusal; or the test's number, where its ground holds, with place 0 and no name
@@ -43,3 +47,14 @@ module _ {T : Type 0} (a : AnswerOf T) (Before : Refusal → Type 0) where
 -- 15, of the counts
 abbrev pub StateRefused : AnswerOf Planned → (Refusal → Type 0) → List ℕ → Refusal → Type 0
 StateRefused a Before counts = Then a Before 15 (λ q. BadState q counts)
+
+-- a step: 1 to 9, 10 of P and of its number, 11, 12, 15
+module _ (s : List ℕ) (w : Settings) (b : ℕ) (counts : List ℕ) (m : List Float) where
+  abbrev pub StepRefused : Refusal → Type 0
+  StepRefused =
+      StateRefused (remembered elements (length m) (plannedFor s w b))
+      (MemoryRefused (plannedFor s w b) (NamedRefused s w b) elements (length m)) counts
+
+-- none of these refusals has the ground 0, which an accepted call answers
+abbrev pub Nonzero : (Refusal → Type 0) → Type 0
+Nonzero P = (r : Refusal) → P r → r .ground ≡ 0 → ⊥

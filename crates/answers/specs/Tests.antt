@@ -1,13 +1,13 @@
 -- The tests of the definitions are the grounds' statements: given, a ground holds; where it holds, it is given.
-use Prim.Native.Nat.{ℕ, zero, suc, _+_, _≤_, _<_}
+use Prim.Native.Nat.{ℕ, _+_, _≤_, _<_}
 use native.Mathlib.Omega.{arith}
-use mathlib.Core.Path.{_≡_, refl, sym, ap, _∙_}
+use mathlib.Core.Path.{_≡_, refl, sym, _∙_}
 use mathlib.Core.Logic.{_⊎_, inl, inr, ⊎-elim, _↔_}
-use mathlib.Core.Bool.{Bool, true, false, false≢true, cond, not, _&&_, _||_, or-true}
+use mathlib.Core.Bool.{Bool, true, false, false≢true, cond, _&&_, _||_, or-true}
 use mathlib.Core.List.{List}
 use lib.Dec.{eqb, ltb, leb}
 use lib.ListN.{length}
-use borrow.Author.Tests.{ltb-true, ltb-false, leb-true, leb-false, eqb-true, eqb-false, lt-ltb, le-ltb, le-leb, lt-leb, eq-eqb, ne-eqb, not-false}
+use borrow.Author.Tests.{ltb-true, leb-true, eqb-true, lt-ltb, le-ltb, le-leb, eq-eqb}
 use native.Mathlib.Decide.{decLt}
 use Rattle.model.specs.Table.{Table}
 use Rattle.blocks.specs.Sums.{column}
@@ -15,7 +15,6 @@ use Rattle.blocks.specs.SumLaws.{some-which, some-here}
 use Rattle.blocks.specs.Span.{tableSpan}
 use Rattle.blocks.specs.BlockLaws.{short-given, short-not}
 use Rattle.turns.specs.Turn.{closed, wrongCount, wrongState}
-use Rattle.turns.specs.TwoPhases.{closed-second}
 use Rattle.plans.specs.Plans.{Settings, Planned, thresholdOf, badProcessors, badNumber, shortFor}
 use Rattle.stepping.specs.Step.{workOf, fused, peeled}
 use Rattle.stepping.specs.Paper.{wrong-is, barrier-is}

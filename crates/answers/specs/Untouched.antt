@@ -1,8 +1,8 @@
 -- A refused call leaves all that it was lent as found; a step that waits or is finished does too.
 use Prim.Native.Nat.{ℕ}
-use mathlib.Core.Path.{_≡_, refl, sym, ap, subst, _∙_}
-use mathlib.Core.Logic.{inl, inr, ⊎-elim}
-use mathlib.Core.Bool.{true, false, false≢true}
+use mathlib.Core.Path.{_≡_, refl, sym, ap, subst}
+use mathlib.Core.Logic.{⊎-elim}
+use mathlib.Core.Bool.{false, false≢true}
 use mathlib.Core.List.{List}
 use lib.ListN.{length}
 use lib.Ieee.{Float}
@@ -13,7 +13,7 @@ use Rattle.model.specs.Table.{iteration}
 use Rattle.model.specs.Bodies.{run}
 use Rattle.outputs.specs.Given.{Given, final, countOf}
 use Rattle.plain.specs.Plain.{plainAnswer, runOf, plainMemory}
-use Rattle.turns.specs.Turn.{Said, refuses, performs, waits, ends, After, stays, next, after, turn}
+use Rattle.turns.specs.Turn.{Said, refuses, performs, waits, ends, After, next, after, turn}
 use Rattle.turns.specs.Row.{performing}
 use Rattle.plans.specs.Plans.{Settings}
 use Rattle.stepping.specs.Step.{workOf, step}

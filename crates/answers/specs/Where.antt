@@ -1,18 +1,17 @@
 -- Where a ground holds and none before it, it is given. So what is accepted meets none.
-use Prim.Native.Nat.{ℕ, _<_}
+use Prim.Native.Nat.{ℕ}
 use mathlib.Core.Path.{_≡_, refl, sym, _∙_}
-use mathlib.Core.Bool.{Bool, true, false, false≢true, not}
+use mathlib.Core.Bool.{Bool, true, false, false≢true}
 use mathlib.Core.List.{List}
-use lib.Dec.{eqb, ltb}
 use lib.ListN.{length}
 use lib.Ieee.{Float}
 use borrow.Author.Tests.{lt-ltb, ne-eqb}
 use Rattle.refusals.specs.Refusals.{met}
-use Rattle.refusals.specs.Answers.{AnswerOf, accepted, refused, _if_else_, after}
+use Rattle.refusals.specs.Answers.{AnswerOf, accepted, refused, after}
 use Rattle.model.specs.Table.{Table}
 use Rattle.serial.specs.Serial.{table}
 use Rattle.outputs.specs.Given.{fitted}
-use Rattle.plans.specs.Plans.{Settings, Planned, shortFor, badProcessors, badNumber, fits, fitting, planned, plannedFor}
+use Rattle.plans.specs.Plans.{Settings, Planned, badProcessors, badNumber, fitting, planned, plannedFor}
 use Rattle.plans.specs.Accepted.{planned-accepts}
 use Rattle.iterations.specs.Memory.{remembered}
 use Rattle.turns.specs.Turn.{refuses, stays, stepped}

@@ -23,11 +23,6 @@ module _ (n : ℕ) (from to : ℕ → ℕ) where
   unfolding spanOf
   span-past k l = omega (arith, largest-bound n k to l)
 
-  -- T is at least 1
-  pub span-some : (k : ℕ) → k < n → from k ≤ to k → 0 < spanOf n from to .count
-  unfolding spanOf
-  span-some k l h = omega (arith, largest-bound n k to l, least-bound n k from l)
-
   -- and none is past the greatest last
   pub span-most : (most : ℕ) → 0 < n → from 0 ≤ to 0 → ((k : ℕ) → k < n → to k ≤ most) → spanOf n from to .first + spanOf n from to .count ≤ suc most
   unfolding spanOf

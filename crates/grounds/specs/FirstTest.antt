@@ -14,15 +14,11 @@ use Rattle.records.specs.Passing.{whole-ground}
 use Rattle.reader.specs.Reading.{Answer, reading}
 use Rattle.grounds.specs.Places.{Records}
 use Rattle.grounds.specs.Statements.{Ground}
-use Rattle.grounds.specs.Tests.{Test, tests, First}
+use Rattle.grounds.specs.Tests.{Test, tests, First, FirstAt}
 use Rattle.grounds.specs.Counted.{Clears}
 use Rattle.grounds.specs.Trace.{Clean, Last, stop, tail, done, Run, last, pass, run-reading, reading-ends, Earlier, visited}
 use Rattle.grounds.specs.Found.{ground-first}
 use Rattle.grounds.specs.Theorems.{refused-ground}
-
--- the first test that holds at a refusal's place, after the records before it, has the refusal's number
-abbrev pub FirstAt : List ℕ → ℕ → ℕ → Type 0
-FirstAt s p g = (rs : List Record) × Records s p rs × First (tests s p rs) g
 
 abbrev ByTest : List ℕ → Answer → Type 0
 ByTest s (accepted t) = Unit {0}

@@ -20,6 +20,8 @@ pub mod Theorems
 pub mod FirstTest
 -- what an accepted table is
 pub mod Accepted
+-- an accepted table is so
+pub mod AcceptedLaws
 -- how many bytes the records of a table take
 pub mod Sizes
 -- the first 2,077 bytes decide the answer

@@ -8,7 +8,7 @@ use lib.ListN.{length}
 use Rattle.records.specs.declared.Record.{Record}
 use Rattle.records.specs.declared.Record.the-variants.{Unknown, Array, Loop, Read, Constant, Operation, End}
 use Rattle.records.specs.Bytes.{recordAt}
-use Rattle.grounds.specs.Places.{after}
+use Rattle.grounds.specs.Places.{after, Records}
 use Rattle.grounds.specs.Statements.{Misplaced, NotOneLeft, OneTooMany, ManyElements, NinthOrTooFew, OutsideArray}
 use Rattle.grounds.specs.Statements.{BadLength, BadLast, BadOffset, BadOperation, NoneNumbered}
 
@@ -48,3 +48,7 @@ tests s p rs =
 abbrev pub First : List Test → ℕ → Type 0
 First [] g = g ≡ 0
 First (t ∷ ts) g = (t .holds × (g ≡ t .ground)) ⊎ ((t .holds → ⊥) × First ts g)
+
+-- the first test that holds at the place p, after the records before it, has the number g
+abbrev pub FirstAt : List ℕ → ℕ → ℕ → Type 0
+FirstAt s p g = (rs : List Record) × Records s p rs × First (tests s p rs) g

@@ -19,7 +19,8 @@ use Rattle.order.specs.Sequences.{runAll}
 use Rattle.reader.specs.Store.{itemsFrom, startAt, statementAt}
 use Rattle.reader.specs.Held.{loop-held, rows-rise, few-rows}
 use Rattle.grounds.specs.Statements.{sum}
-use Rattle.grounds.specs.Accepted.{Works, ValidLoop, valid-last}
+use Rattle.grounds.specs.Accepted.{Works, ValidLoop}
+use Rattle.grounds.specs.AcceptedLaws.{valid-last}
 use Rattle.bodies.specs.Workable.{Based, Element, ReadsWithin}
 use Rattle.iterations.specs.Memory.{elementTotal}
 use Rattle.iterations.specs.Loaded.{Loaded}

@@ -1,4 +1,4 @@
--- The memory of a table: its length, which no iteration changes, and ground 12.
+-- The memory of a table: its length, and ground 12.
 use Prim.Native.Nat.{ℕ}
 use mathlib.Core.Bool.{not}
 use lib.Dec.{eqb}

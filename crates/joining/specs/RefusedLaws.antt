@@ -13,7 +13,7 @@ use Rattle.model.specs.Table.{Table, count}
 use Rattle.refusals.specs.declared.Refusal.{Refusal}
 use Rattle.refusals.specs.Refusals.{met}
 use Rattle.refusals.specs.Answers.{accepted, refused, _if_else_, after, refusalOf, Only}
-use Rattle.refusals.specs.AnswerLaws.{accepted-only}
+use Rattle.refusals.specs.AnswerLaws.{accepted-only, after-only, if-only}
 use Rattle.reader.specs.Reading.{Answer}
 use Rattle.serial.specs.Serial.{table}
 use Rattle.tables.specs.Nine.{told-some, refused-told}
@@ -35,17 +35,6 @@ differ-unlike ns ms d = go (alike ns ms) refl
     go : (b : Bool) → alike ns ms ≡ b → alike ns ms ≡ false
     go true e = absurd (d (alike-same ns ms e))
     go false e = e
-
--- what every refusal is, by what a test says, and by what an answer is
-if-known : (P : Refusal → Type 0) (q : Refusal) (b : Bool) (more : Given) → (b ≡ true → P q) → (b ≡ false → Only P more)
-    → Only P (refused q if b else more)
-if-known P q true more h rest r e = subst P (ap refusalOf e) (h refl)
-if-known P q false more h rest r e = rest refl r e
-
-after-known : (P : Refusal → Type 0) (a : Answer) (more : Table → Given) → Only P a → ((t : Table) → a ≡ accepted t → Only P (more t))
-    → Only P (after a more)
-after-known P (refused q) more h rest r e = subst P (ap refusalOf e) (h q refl)
-after-known P (accepted t) more h rest r e = rest t refl r e
 
 module _ (left right : List ℕ) (room : ℕ) where
   abbrev Allowed : Refusal → Type 0
@@ -69,11 +58,11 @@ module _ (left right : List ℕ) (room : ℕ) where
     tests-only =
         let bs = encodeAll (joinedRecords t u) in
         let loops = count t + count u in
-        if-known Allowed (met 14 0) (not (alike (t .lengths) (u .lengths))) _
+        if-only Allowed (met 14 0) (not (alike (t .lengths) (u .lengths))) _
         (λ d. unlike both (unlike-differ (t .lengths) (u .lengths) (not-true _ d))) λ s.
         let same = alike-same (t .lengths) (u .lengths) (not-false _ s) in
-        if-known Allowed (met 4 0) (ltb 16 loops) _ (λ m. crowd both same (omega (arith, ltb-true 16 loops m))) λ few.
-        if-known Allowed (met 13 0) (ltb room (length bs)) _
+        if-only Allowed (met 4 0) (ltb 16 loops) _ (λ m. crowd both same (omega (arith, ltb-true 16 loops m))) λ few.
+        if-only Allowed (met 13 0) (ltb room (length bs)) _
         (λ l. buffer both same (omega (arith, ltb-false 16 loops few)) (omega (arith, ltb-true room (length bs) l))) λ f. accepted-only Allowed bs
 
     -- AND WHEREVER: 14, 4, 13, or what is written
@@ -101,8 +90,8 @@ module _ (left right : List ℕ) (room : ℕ) where
   pub join-refused : Only Allowed (joining left right room)
   unfolding joining
   join-refused =
-      after-known Allowed (table left) _ (λ r e. in-left (refused-told left r e)) λ t e.
-      after-known Allowed (table right) _ (λ r f. in-right e (refused-told right r f)) λ u f.
+      after-only Allowed (table left) _ (λ r e. in-left (refused-told left r e)) λ t e.
+      after-only Allowed (table right) _ (λ r f. in-right e (refused-told right r f)) λ u f.
       tests-only t u (e, f)
 
   -- a table that is refused decides: left's, and where left is accepted right's

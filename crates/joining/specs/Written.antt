@@ -12,7 +12,7 @@ use Rattle.records.specs.declared.Record.the-variants.{End}
 use Rattle.records.specs.Encoding.{encodeAll}
 use Rattle.model.specs.Table.{Table, count}
 use Rattle.refusals.specs.Refusals.{met}
-use Rattle.refusals.specs.Answers.{accepted, _if_else_}
+use Rattle.refusals.specs.Answers.{accepted}
 use Rattle.refusals.specs.AnswerLaws.{if-accepted, after-accepted}
 use Rattle.serial.specs.Serial.{table}
 use Rattle.outputs.specs.Given.{fitted}

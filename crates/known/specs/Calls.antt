@@ -10,10 +10,9 @@ use Rattle.turns.specs.Row.{zeros, noneDone}
 use Rattle.plans.specs.Plans.{settings}
 use Rattle.entries.specs.Entries.{thresholds, blocksGiven}
 use Rattle.joining.specs.Joining.{alike, joining}
-use Rattle.joining.specs.Copied.{bytes}
 use Rattle.known.specs.Records.{array, ahead, loop, one, end}
 use Rattle.known.specs.Bytes.{tableOf, example, itself, steep, river}
-use Rattle.known.specs.Told.{refusalFor}
+use Rattle.known.specs.Computed.{refusalFor}
 use Rattle.known.specs.Memory.{own, plainRefusal, runRefusal, saidFrom}
 
 pub record Calls : Type 0 where
@@ -58,7 +57,7 @@ pub record Calls : Type 0 where
   pub short-buffer : refusalOf (blocksGiven example (settings 6) 0) ≡ met 11 0
 
 pub calls : Calls
-unfolding refusalFor plainRefusal runRefusal saidFrom thresholds blocksGiven fitted encoded four joining alike bytes
+unfolding refusalFor plainRefusal runRefusal saidFrom thresholds blocksGiven fitted encoded four joining alike
 calls = record {
   processors = refl;
   no-such-processor = refl;

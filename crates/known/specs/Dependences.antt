@@ -3,7 +3,7 @@ use mathlib.Core.Path.{_≡_, refl}
 use mathlib.Core.List.{[], _∷_, _++_}
 use Rattle.known.specs.Records.{array, ahead, back, loop, store, read, one, add, end, times}
 use Rattle.known.specs.Bytes.{itself, apart, stores, reads}
-use Rattle.known.specs.Told.{refusalFor, shiftsIn, peelsIn, thresholdIn}
+use Rattle.known.specs.Computed.{refusalFor, shiftsIn, peelsIn, thresholdIn}
 
 pub record Dependences : Type 0 where
   -- d = (offset in j) - (offset in k): a read at +2 of what is stored at 0 has the distance -2, and one at -1 the distance 1

@@ -9,7 +9,7 @@ use Rattle.joining.specs.Records.{arrayRecords, itemRecords, loopRecords}
 use Rattle.joining.specs.Joining.{alike, joinedRecords, joining}
 use Rattle.known.specs.Records.{array, ahead, store, read, one, end, times}
 use Rattle.known.specs.Bytes.{tableOf, example, itself, storer, reader, joinedBytes}
-use Rattle.known.specs.Told.{refusal, refusalFor, shiftsIn, peelsIn}
+use Rattle.known.specs.Computed.{refusal, refusalFor, shiftsIn, peelsIn}
 
 pub record Joins : Type 0 where
   -- it writes left's arrays, left's loops, right's loops and one end

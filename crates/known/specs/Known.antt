@@ -8,7 +8,7 @@ use Rattle.serial.specs.Serial.{table}
 use Rattle.plans.specs.Plans.{settings, planned}
 use Rattle.plain.specs.Plain.{plainMemory}
 use Rattle.known.specs.Bytes.{example, three, minusOneThenZero, storeAfterRead, itself, severalReads, single, zeroByZero}
-use Rattle.known.specs.Told.{refusalFor, shiftsIn, peelsIn, thresholdIn, sizesIn}
+use Rattle.known.specs.Computed.{refusalFor, shiftsIn, peelsIn, thresholdIn, sizesIn}
 use Rattle.known.specs.Memory.{whole, element, bits}
 
 pub record Known : Type 0 where

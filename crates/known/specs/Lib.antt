@@ -3,7 +3,7 @@ pub mod Records
 -- small tables in bytes
 pub mod Bytes
 -- what is told of a table's bytes, to be computed
-pub mod Told
+pub mod Computed
 -- the example's memory, and what is told of its runs and steps
 pub mod Memory
 -- the known results, one record

@@ -4,7 +4,7 @@ use mathlib.Core.List.{_++_}
 use Rattle.refusals.specs.Refusals.{none, met}
 use Rattle.known.specs.Records.{array, ahead, behind, loop, read, one, operation, add, end, times}
 use Rattle.known.specs.Bytes.{begun, loops, tableOf}
-use Rattle.known.specs.Told.{refusal}
+use Rattle.known.specs.Computed.{refusal}
 
 pub record Counts : Type 0 where
   -- at most 262,144 elements in all

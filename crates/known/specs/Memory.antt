@@ -19,7 +19,7 @@ use Rattle.stepping.specs.Step.{steppedBy, step}
 use Rattle.stepping.specs.Run.{runAnswer, runRow, runMemory, runIdle}
 use Rattle.known.specs.Records.{end, times}
 use Rattle.known.specs.Bytes.{begun, example}
-use Rattle.known.specs.Told.{refusal, refusalFor, told, fusedIn, peeledIn}
+use Rattle.known.specs.Computed.{refusal, refusalFor, told, fusedIn, peeledIn}
 
 -- every element its own index, in three arrays of 12
 abbrev pub whole : ℕ → Float

@@ -4,7 +4,7 @@ use mathlib.Core.List.{[], _∷_}
 use Rattle.model.specs.Table.{iteration}
 use Rattle.refusals.specs.Refusals.{none, met}
 use Rattle.known.specs.Bytes.{example, three, apart}
-use Rattle.known.specs.Told.{refusalFor, shiftsIn, peelsIn, thresholdIn, peeledIn}
+use Rattle.known.specs.Computed.{refusalFor, shiftsIn, peelsIn, thresholdIn, peeledIn}
 
 pub record Misreadings : Type 0 where
   -- peels from distances already shifted: loop 1 of the example has the shift 1, and the distance 1 of A0[i−1] would be 2

@@ -4,12 +4,13 @@ use mathlib.Core.List.{[], _∷_, _++_}
 use Rattle.refusals.specs.Refusals.{met}
 use Rattle.refusals.specs.Answers.{accepted, refused}
 use Rattle.numbers.specs.Numbers.{four, encoded}
-use Rattle.outputs.specs.Given.{fitted, final}
+use Rattle.outputs.specs.Given.{fitted, final, countOf}
+use Rattle.printing.specs.Printing.{listingGiven}
 use Rattle.plans.specs.Plans.{settings, plannedFor}
 use Rattle.entries.specs.Entries.{amounts, thresholds, sweepsGiven, blocksGiven, listGiven, fusedGiven, peeledGiven}
 use Rattle.known.specs.Records.{array, ahead, behind, loop, one, end, number, times}
 use Rattle.known.specs.Bytes.{example, apart}
-use Rattle.known.specs.Told.{listed}
+use Rattle.known.specs.Computed.{listed}
 
 pub record Outputs : Type 0 where
   -- shift and peel of each loop: 0 and 0, 2 and 0, 0 and 1
@@ -35,12 +36,16 @@ pub record Outputs : Type 0 where
   pub blocks-short : blocksGiven example (settings 2) 15 ≡ refused (met 13 0)
   pub fused-short : fusedGiven example (settings 2) 0 71 ≡ refused (met 13 0)
   pub peeled-short : peeledGiven example (settings 2) 0 15 ≡ refused (met 13 0)
+  -- the example's listing has 131 bytes; where the plan is refused the call is, too, with no line, and 13 comes last
+  pub listing-fits : countOf (listingGiven example (settings 2) 131) ≡ 131
+  pub listing-short : listingGiven example (settings 2) 130 ≡ refused (met 13 0)
+  pub listing-refused : listingGiven example (settings 6) 0 ≡ refused (met 11 0)
   -- bytes past the output stay; a refused call leaves all as found
   pub past-stays : final (thresholds example 6) (times 6 (9 ∷ [])) ≡ 2 ∷ 0 ∷ 0 ∷ 0 ∷ 9 ∷ 9 ∷ []
   pub refused-stays : final (thresholds example 3) (times 3 (9 ∷ [])) ≡ 9 ∷ 9 ∷ 9 ∷ []
 
 pub outputs : Outputs
-unfolding listed amounts thresholds sweepsGiven blocksGiven listGiven plannedFor fitted final encoded four
+unfolding listed amounts thresholds sweepsGiven blocksGiven listGiven plannedFor listingGiven fitted final encoded four
 outputs = record {
   shift-then-peel = refl;
   threshold-bytes = refl;
@@ -55,6 +60,9 @@ outputs = record {
   blocks-short = refl;
   fused-short = refl;
   peeled-short = refl;
+  listing-fits = refl;
+  listing-short = refl;
+  listing-refused = refl;
   past-stays = refl;
   refused-stays = refl;
 }

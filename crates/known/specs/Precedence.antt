@@ -4,7 +4,7 @@ use mathlib.Core.List.{[], _∷_, _++_}
 use Rattle.refusals.specs.Refusals.{met}
 use Rattle.known.specs.Records.{number, array, ahead, loop, read, one, operation, times}
 use Rattle.known.specs.Bytes.{begun, loops, itself}
-use Rattle.known.specs.Told.{refusal}
+use Rattle.known.specs.Computed.{refusal}
 
 pub record Precedence : Type 0 where
   -- records are tested left to right: 3 in the first, 2 in the second

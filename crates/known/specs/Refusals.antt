@@ -4,7 +4,7 @@ use mathlib.Core.List.{[], _∷_, _++_}
 use Rattle.refusals.specs.Refusals.{none, met, naming}
 use Rattle.known.specs.Records.{array, ahead, behind, back, loop, read, one, operation, add, end, times}
 use Rattle.known.specs.Bytes.{begun}
-use Rattle.known.specs.Told.{refusal}
+use Rattle.known.specs.Computed.{refusal}
 
 pub record Refusals : Type 0 where
   -- 1 torn: bytes end inside a record or before the end record. An absent kind byte carries the input's length

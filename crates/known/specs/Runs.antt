@@ -7,7 +7,7 @@ use Rattle.turns.specs.Turn.{refuses, performs, waits, ends}
 use Rattle.turns.specs.Row.{zeros, idle}
 use Rattle.known.specs.Records.{times}
 use Rattle.known.specs.Bytes.{example}
-use Rattle.known.specs.Told.{fusedIn, peeledIn}
+use Rattle.known.specs.Computed.{fusedIn, peeledIn}
 use Rattle.known.specs.Memory.{whole, own, someRow, performsAll, saidFrom, reported, countsLeft, elementLeft, rowIn, idleIn, elementIn}
 
 pub record Runs : Type 0 where

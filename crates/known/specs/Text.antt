@@ -5,7 +5,7 @@ use Rattle.plans.specs.Plans.{Settings, settings}
 use Rattle.text.specs.Ascii.{ascii}
 use Rattle.printing.specs.Printing.{text}
 use Rattle.known.specs.Bytes.{example, apart, storeAfterRead, severalReads, staggered}
-use Rattle.known.specs.Told.{listed}
+use Rattle.known.specs.Computed.{listed}
 
 -- no table byte, whatever the settings are
 pub empty-input : (w : Settings) → text [] w ≡ ascii "refused 1 0\n"

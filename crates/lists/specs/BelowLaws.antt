@@ -96,17 +96,17 @@ module _ (K : ℕ) (r : ℕ → Range) (s w : ℕ → ℕ) where
     unfolding bySums
     by-sums-below = below-lists (sumAt K r s) sum-at-length (sumBound K r s)
 
--- both lists have the ranges' lengths together
-abbrev pub lengths : ℕ → (ℕ → Range) → ℕ
-lengths K r = total K (λ k. r k .past - r k .from)
+-- both lists have as many iterations as the ranges have indices in all
+abbrev pub indicesIn : ℕ → (ℕ → Range) → ℕ
+indicesIn K r = total K (λ k. r k .past - r k .from)
 
 module _ (K : ℕ) (r : ℕ → Range) where
-  pub by-sums-length : (s : ℕ → ℕ) → length (bySums K r s) ≡ lengths K r
+  pub by-sums-length : (s : ℕ → ℕ) → length (bySums K r s) ≡ indicesIn K r
   by-sums-length s =
       by-sums-below K r s (λ k. 1) (λ k l. refl) ∙ below-bound K r s (λ k. 1)
       ∙ total-same K (λ k. 1 * (r k .past - r k .from)) (λ k. r k .past - r k .from) (λ k l. omega arith)
 
-  pub by-loops-length : length (byLoops K r) ≡ lengths K r
+  pub by-loops-length : length (byLoops K r) ≡ indicesIn K r
   unfolding byLoops loopOver
   by-loops-length =
       length-joined (over r) K

@@ -10,7 +10,7 @@ pub mod Order
 pub mod Below
 -- laws of it
 pub mod BelowLaws
--- the lists of all processors: each iteration of a table in one of them
+-- the lists of all processors
 pub mod Fusion
 -- each iteration of a table in one of them
 pub mod FusionLaws

@@ -15,9 +15,11 @@ use Rattle.refusals.specs.Refusals.{met, none}
 use Rattle.refusals.specs.Answers.{accepted, refusalOf}
 use Rattle.reader.specs.Store.{firstAt, lastAt, loopsIn, tableIn}
 use Rattle.reader.specs.Held.{Held, count-held, first-held, last-held}
-use Rattle.reader.specs.ReadInto.{ReadInto, into-told}
+use Rattle.reader.specs.ReadInto.{ReadInto}
+use Rattle.reader.specs.ReadIntoLaws.{into-told}
 use Rattle.serial.specs.Serial.{table}
-use Rattle.grounds.specs.Accepted.{Valid, accepted-valid, valid-last}
+use Rattle.grounds.specs.Accepted.{Valid}
+use Rattle.grounds.specs.AcceptedLaws.{accepted-valid, valid-last}
 use Rattle.tables.specs.Nine.{accepted-read}
 use Rattle.bodies.specs.Workable.{Based}
 use Rattle.iterations.specs.Memory.{elementTotal, remembered}

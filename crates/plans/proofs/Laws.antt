@@ -12,9 +12,11 @@ use Rattle.refusals.specs.Refusals.{met, none}
 use Rattle.refusals.specs.Answers.{AnswerOf, accepted, refused, _if_else_, refusalOf}
 use Rattle.reader.specs.Store.{firstAt, lastAt, loopsIn, tableIn}
 use Rattle.reader.specs.Held.{Held, count-held, first-held, last-held}
-use Rattle.reader.specs.ReadInto.{ReadInto, into-told}
+use Rattle.reader.specs.ReadInto.{ReadInto}
+use Rattle.reader.specs.ReadIntoLaws.{into-told}
 use Rattle.serial.specs.Serial.{table}
-use Rattle.grounds.specs.Accepted.{Valid, valid-last}
+use Rattle.grounds.specs.Accepted.{Valid}
+use Rattle.grounds.specs.AcceptedLaws.{valid-last}
 use Rattle.amounts.specs.declared.Amounts.{Amounts}
 use Rattle.chains.specs.Dependence.{backward, forward}
 use Rattle.chains.specs.Walk.{shifts, peels}

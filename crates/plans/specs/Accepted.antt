@@ -15,7 +15,8 @@ use Rattle.refusals.specs.Answers.{accepted, refused}
 use Rattle.refusals.specs.AnswerLaws.{if-accepted, after-accepted}
 use Rattle.reader.specs.Reading.{Answer}
 use Rattle.serial.specs.Serial.{table}
-use Rattle.grounds.specs.Accepted.{Valid, accepted-valid, valid-last}
+use Rattle.grounds.specs.Accepted.{Valid}
+use Rattle.grounds.specs.AcceptedLaws.{accepted-valid, valid-last}
 use Rattle.tables.specs.Nine.{accepted-read, accepted-sound}
 use Rattle.chains.specs.Dependence.{Dependence}
 use Rattle.chains.specs.Walk.{shifts, peels}

@@ -10,13 +10,12 @@ use native.Mathlib.Omega.{arith}
 use lib.Dec.{eqb}
 use lib.ListN.{length, length-append}
 use borrow.Author.Tests.{lt-ltb, le-ltb, eq-eqb}
-use Rattle.model.specs.Table.{Table, count, last}
+use Rattle.model.specs.Table.{Table, count}
 use Rattle.text.specs.Ascii.{ascii}
 use Rattle.text.specs.Decimal.{decimal, digits}
 use Rattle.text.specs.Digits.{length-decimal}
-use Rattle.text.specs.Line.{line}
 use Rattle.text.specs.Lengths.{two-most, three-most, four-most}
-use Rattle.grounds.specs.Accepted.{valid-last}
+use Rattle.grounds.specs.AcceptedLaws.{valid-last}
 use Rattle.blocks.specs.declared.Range.{Range}
 use Rattle.blocks.specs.Sums.{total}
 use Rattle.blocks.specs.SumLaws.{total-up}

@@ -15,7 +15,7 @@ use Rattle.blocks.specs.Code.{partOf}
 use Rattle.reader.specs.Store.{firstAt, lastAt, loopsIn}
 use Rattle.plans.specs.Code.{Laid}
 use Rattle.blocks.specs.SumLaws.{total-next}
-use Rattle.lists.specs.BelowLaws.{lengths}
+use Rattle.lists.specs.BelowLaws.{indicesIn}
 use Rattle.lists.specs.Lists.{fusedColumns, peeledColumns}
 use Rattle.positions.specs.Search.{Aligned}
 use Rattle.ranges.specs.Code.{partIn, rangeOf, Along, cut, listOf, RangesKept, Apart}
@@ -25,7 +25,7 @@ use Rattle.ranges.specs.Listed.{part-asks, range-small, kept-aligned}
 pub record Filled (old xs : List ℕ) (at k : ℕ) (f : ℕ → Range) (s : ℕ → ℕ) (sum : ℕ) : Type 0 where
   pub kept : RangesKept xs at k f s
   pub apart : Apart old xs at (at + 48)
-  pub sum-is : sum ≡ lengths k f
+  pub sum-is : sum ≡ indicesIn k f
   pub small : sum ≤ k * 65791
 
 pub filled-none : (xs : List ℕ) (at : ℕ) (f : ℕ → Range) (s : ℕ → ℕ) → at + 48 ≤ length xs → Filled xs xs at 0 f s 0
@@ -92,7 +92,7 @@ module _ (old xs : List ℕ) (at k : ℕ) (f : ℕ → Range) (s : ℕ → ℕ) 
 
 -- THE SUM of the first k loops' indices, the plan taken apart
 pub record Summed (a : Axis) (c : List ℕ) (n b k sum : ℕ) : Type 0 where
-  pub sum-is : sum ≡ lengths k (rangeOf n a c b)
+  pub sum-is : sum ≡ indicesIn k (rangeOf n a c b)
   pub small : sum ≤ k * 65791
 
 -- what a part's code finds is the loop's range

@@ -15,7 +15,7 @@ use Rattle.model.specs.declared.Iteration.{Iteration}
 use Rattle.reader.specs.Store.{firstAt, lastAt, loopsIn, tableIn}
 use Rattle.reader.specs.Held.{count-held, first-held, last-held}
 use Rattle.reader.specs.Held.{few-loops as few-held}
-use Rattle.grounds.specs.Accepted.{valid-last}
+use Rattle.grounds.specs.AcceptedLaws.{valid-last}
 use Rattle.blocks.specs.declared.Axis.{Axis}
 use Rattle.blocks.specs.declared.Part.{Part}
 use Rattle.blocks.specs.declared.Part.the-variants.{Fused, Peeled}
@@ -27,7 +27,7 @@ use Rattle.blocks.specs.BlockLaws.{start-last}
 use Rattle.blocks.specs.Parts.{fusedPart, peeledPart}
 use Rattle.blocks.specs.Code.{partOf}
 use Rattle.lists.specs.Lists.{ranges}
-use Rattle.lists.specs.BelowLaws.{lengths, by-sums-length, by-loops-length}
+use Rattle.lists.specs.BelowLaws.{indicesIn, by-sums-length, by-loops-length}
 use Rattle.lists.specs.Fusion.{fusionIn, fusedRange, peeledRange, work}
 use Rattle.lists.specs.FusionLaws.{fused-list, peeled-list, fused-columns, peeled-columns}
 use Rattle.positions.specs.Search.{Aligned}
@@ -105,19 +105,19 @@ module _ (a : Axis) (c : List ℕ) (h : Laid a c) where
       go (suc n) e f = sym (rw (e, f))
 
   -- and so is how long its lists are
-  pub lengths-in : (n b : ℕ) → lengths (loopsIn c) (rangeOf n a c b) ≡ length (work (tableIn c) (fusionIn a) n b)
+  pub lengths-in : (n b : ℕ) → indicesIn (loopsIn c) (rangeOf n a c b) ≡ length (work (tableIn c) (fusionIn a) n b)
   lengths-in n b =
       total-same (loopsIn c) _ _ (λ k l. ap (λ (r : Range). r .past - r .from) (range-in n b k l))
-      ∙ ap (λ (m : ℕ). lengths m (rangeIn n b)) loops-are ∙ sym (long n)
+      ∙ ap (λ (m : ℕ). indicesIn m (rangeIn n b)) loops-are ∙ sym (long n)
     where
-      long : (n : ℕ) → length (work (tableIn c) (fusionIn a) n b) ≡ lengths (count (tableIn c)) (rangeIn n b)
+      long : (n : ℕ) → length (work (tableIn c) (fusionIn a) n b) ≡ indicesIn (count (tableIn c)) (rangeIn n b)
       long zero = by-sums-length (count (tableIn c)) (rangeIn 0 b) (column (a .shifts))
       long (suc n) = by-loops-length (count (tableIn c)) (rangeIn 1 b)
 
   pub list-short : (n b : ℕ) → length (work (tableIn c) (fusionIn a) n b) ≤ 1052656
   list-short n b = omega (arith, lengths-in n b, go (loopsIn c) (omega arith), few-loops)
     where
-      go : (m : ℕ) → m ≤ loopsIn c → lengths m (rangeOf n a c b) ≤ m * 65791
+      go : (m : ℕ) → m ≤ loopsIn c → indicesIn m (rangeOf n a c b) ≤ m * 65791
       go zero l = omega arith
       go (suc m) l = omega (arith, go m (omega arith), range-small n b m l)
 

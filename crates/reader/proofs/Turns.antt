@@ -21,7 +21,8 @@ use Rattle.refusals.specs.Refusals.{met, none}
 use Rattle.refusals.specs.Answers.{accepted}
 use Rattle.reader.specs.Reading.{follow, readFrom, reading, tableOf}
 use Rattle.reader.specs.Store.{Sized, startAt, kept, rowsAfter, tableAt, withCounts, Places, ArrayFits}
-use Rattle.reader.specs.ReadInto.{ReadInto, into-refused, into-accepted}
+use Rattle.reader.specs.ReadInto.{ReadInto}
+use Rattle.reader.specs.ReadIntoLaws.{into-refused, into-accepted}
 use Rattle.reader.specs.Stored.{Stored, InPlace}
 use Rattle.reader.specs.StoredLaws.{stored-all, stored-start, kept-small, kept-stored, counted-table, counted-holds}
 

@@ -12,6 +12,8 @@ pub mod StoredLaws
 pub mod Held
 -- what code tells of a reading, and what it leaves in the store
 pub mod ReadInto
+-- laws of it
+pub mod ReadIntoLaws
 -- how a reading that accepts goes
 pub mod Accepting
 -- the bytes of the longest table, and of an input that is refused furthest

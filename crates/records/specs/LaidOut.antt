@@ -47,7 +47,7 @@ four-number s at =
 
 -- TWO'S COMPLEMENT
 
--- n is 65,536 less than nothing by k
+-- n stands for −(k + 1)
 below : (n k : ℕ) → n + suc k ≡ 65536 → 32768 ≤ n → signed n ≡ negsuc k
 below n k e h =
     let r : 65536 - suc n ≡ k = omega arith in

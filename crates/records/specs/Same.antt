@@ -97,10 +97,3 @@ module _ (s z : List ℕ) where
         fields-same (kindOf (byte s a)) (a + 1) (b + 1)
         (same-part a b 1 (spanOf (kindOf (byte s a))) (1 + bodyLength (byte s a)) (omega (arith, span-kind (byte s a))) same)
         ∙ ap (λ (x : ℕ). recordOf (kindOf x) z (b + 1)) same-kind
-
-    -- a whole record of s stands in z too, where z has all its bytes and it is clear there
-    pub whole-same : (t u : Summary) (ns ms : List ℕ) (r : Record) (n m : ℕ) → Whole s a t ns r n → Clear r u ms → m + a ≡ n + b → m ≤ length z
-        → Whole z b u ms r m
-    whole-same t u ns ms r n m w clear e fits =
-        let next : m ≡ b + 1 + bodyLength (byte z b) = rw (← same-kind) (omega (arith, w .next)) in
-        record { there = omega arith; is = sym record-same ∙ w .is; next = next; fits = fits; clear = clear }

@@ -22,34 +22,30 @@ module _ {T : Type 0} where
   if-accepted r true more t e = absurd (not-both e)
   if-accepted r false more t e = (refl, e)
 
--- what every refusal is, where nothing is refused, and before a test
+-- what every refusal is: where nothing is refused, and of a test before the rest
 module _ {T : Type 0} (P : Refusal → Type 0) where
   pub accepted-only : (t : T) → Only P (accepted t)
   accepted-only t r e = absurd (not-both (sym e))
 
-  refused-only : (q : Refusal) → P q → Only {T = T} P (refused q)
-  refused-only q h r e = subst P (ap refusalOf e) h
+  pub if-only : (q : Refusal) (b : Bool) (more : AnswerOf T) → (b ≡ true → P q) → (b ≡ false → Only P more) → Only P (refused q if b else more)
+  if-only q true more holds rest r e = subst P (ap refusalOf e) (holds refl)
+  if-only q false more holds rest r e = rest refl r e
 
-  pub if-only : (q : Refusal) (b : Bool) (more : AnswerOf T) → P q → Only P more → Only P (refused q if b else more)
-  if-only q true more h rest = refused-only q h
-  if-only q false more h rest = rest
+module _ {T U : Type 0} (P : Refusal → Type 0) (a : AnswerOf T) where
+  -- of what follows an answer
+  pub after-only : (more : T → AnswerOf U) → Only P a → ((t : T) → a ≡ accepted t → Only P (more t)) → Only P (after a more)
+  after-only more first rest = go a first rest
+    where
+      go : (x : AnswerOf T) → Only P x → ((t : T) → x ≡ accepted t → Only P (more t)) → Only P (after x more)
+      go (refused q) h k r e = subst P (ap refusalOf e) (h q refl)
+      go (accepted t) h k r e = k t refl r e
 
--- and before what follows
-pub after-only : {T U : Type 0} (P : Refusal → Type 0) (a : AnswerOf T) (more : T → AnswerOf U) → Only P a → ((t : T) → Only P (more t))
-    → Only P (after a more)
-after-only P (refused q) more h rest = refused-only P q (h q refl)
-after-only P (accepted t) more h rest = rest t
-
--- a test of what an answer accepts, and then more
-pub test-only : {T U : Type 0} (P : Refusal → Type 0) (a : AnswerOf T) (g : ℕ) (test : T → Bool) (more : T → AnswerOf U) → Only P a
-    → ((t : T) → a ≡ accepted t → test t ≡ true → P (met g 0)) → ((t : T) → a ≡ accepted t → test t ≡ false → Only P (more t))
-    → Only P (after a (λ t. refused (met g 0) if test t else more t))
-test-only P (refused q) g test more first given past = λ r e. first r (ap refused (ap refusalOf e))
-test-only {U} P (accepted t) g test more first given past = go (test t) refl
-  where
-    go : (x : Bool) → test t ≡ x → Only {T = U} P (refused (met g 0) if x else more t)
-    go true e r f = subst P (ap refusalOf f) (given t refl e)
-    go false e r f = past t refl e r f
+  -- and of a test of what it accepts, and then more
+  pub test-only : (g : ℕ) (test : T → Bool) (more : T → AnswerOf U) → Only P a
+      → ((t : T) → a ≡ accepted t → test t ≡ true → P (met g 0)) → ((t : T) → a ≡ accepted t → test t ≡ false → Only P (more t))
+      → Only P (after a (λ t. refused (met g 0) if test t else more t))
+  test-only g test more first given past =
+      after-only (λ t. refused (met g 0) if test t else more t) first (λ t e. if-only P (met g 0) (test t) (more t) (given t e) (past t e))
 
 module _ {T U : Type 0} where
   -- what is accepted after an answer

@@ -14,7 +14,8 @@ use Rattle.refusals.specs.Refusals.{none as nothing-refused}
 use Rattle.refusals.specs.Answers.{accepted}
 use Rattle.reader.specs.Reading.{Answer, reading}
 use Rattle.reader.specs.Store.{startAt, kindAt, arrayAt, valueAt, loopsIn, itemOf, itemAt, itemsFrom, loopAt, tableIn}
-use Rattle.reader.specs.ReadInto.{ReadInto, into-refused, into-told, into-accepted}
+use Rattle.reader.specs.ReadInto.{ReadInto}
+use Rattle.reader.specs.ReadIntoLaws.{into-refused, into-told, into-accepted}
 use Rattle.reader.specs.Held.{Held, count-held, few-loops, few-rows, rows-rise, loop-held}
 use Rattle.serial.specs.declared.Collision.{Collision}
 use Rattle.serial.specs.declared.Collision.the-variants.{Nothing, Read}

@@ -14,7 +14,7 @@ use Rattle.model.specs.Bodies.{run}
 use Rattle.refusals.specs.declared.Refusal.{Refusal}
 use Rattle.refusals.specs.Refusals.{met}
 use Rattle.refusals.specs.Answers.{AnswerOf, accepted, refused}
-use Rattle.grounds.specs.Accepted.{valid-last}
+use Rattle.grounds.specs.AcceptedLaws.{valid-last}
 use Rattle.blocks.specs.Sums.{column}
 use Rattle.lists.specs.FusionLaws.{once}
 use Rattle.turns.specs.Turn.{Said, refuses, performs, waits, ends, After, stays, wrongState, next, turn, stepped, own}

@@ -14,7 +14,7 @@ use Rattle.model.specs.References.{reads, refs}
 use Rattle.model.specs.Table.{Table, Statement, loop, count}
 use Rattle.model.specs.Sound.{Sound}
 use Rattle.refusals.specs.declared.Refusal.{Refusal}
-use Rattle.refusals.specs.Refusals.{met, naming}
+use Rattle.refusals.specs.Refusals.{naming}
 use Rattle.refusals.specs.Answers.{accepted, refused, refusalOf}
 use Rattle.refusals.specs.AnswerLaws.{not-both, after-refused}
 use Rattle.reader.specs.Reading.{Answer, reading}
@@ -24,11 +24,10 @@ use Rattle.serial.specs.Serial.{loopHit, afterLoop, serialFrom, through, table}
 use Rattle.serial.specs.Meeting.{Serial, Collides, FirstMeeting, allReads}
 use Rattle.serial.specs.MeetingLaws.{hit-collides, lower-apart, none-parallel}
 use Rattle.serial.specs.Parallel.{accepted-parallel}
-use Rattle.grounds.specs.Statements.{Ground}
 use Rattle.grounds.specs.StatementLaws.{ground-number}
 use Rattle.grounds.specs.Theorems.{refused-ground, refused-unnamed, accepted-none}
 use Rattle.tables.specs.Told.{Told, ground, serial}
-use Rattle.grounds.specs.Accepted.{accepted-valid, valid-known, valid-within}
+use Rattle.grounds.specs.AcceptedLaws.{accepted-valid, valid-known, valid-within}
 
 -- a walk over the loops that stops: a loop collides, and no earlier one from k on, of n, does
 module _ (t : Table) where

@@ -6,9 +6,13 @@ use mathlib.Core.List.{[], _∷_}
 use Rattle.refusals.specs.declared.Refusal.{Refusal}
 use Rattle.refusals.specs.Answers.{refusalOf}
 use Rattle.serial.specs.Serial.{table}
-use Rattle.known.specs.Bytes.{severalReads}
+use Rattle.turns.specs.Row.{noneDone}
+use Rattle.plans.specs.Plans.{settings}
+use Rattle.known.specs.Bytes.{severalReads, example}
+use Rattle.known.specs.Memory.{own, saidFrom}
 use Rattle.known.specs.Known.{known}
-use Rattle.vempaldi.specs.Answers.{answered}
+use Rattle.stepping.specs.declared.Report.the-variants.{Performed, Waiting, Finished}
+use Rattle.vempaldi.specs.Answers.{answered, reported, reportAt}
 
 module _ (a b c d : ℕ) where
   pub all-written : (r : Refusal) → answered r (a ∷ b ∷ c ∷ d ∷ []) ≡ r .ground ∷ r .place ∷ r .first ∷ r .second ∷ []
@@ -16,3 +20,21 @@ module _ (a b c d : ℕ) where
 
   pub four-numbers : answered (refusalOf (table severalReads)) (a ∷ b ∷ c ∷ d ∷ []) ≡ 9 ∷ 1 ∷ 3 ∷ 0 ∷ []
   four-numbers = rw (known .lowest-read) refl
+
+  -- a report's three numbers, whatever was lent: 0, the loop and the iteration; 1 where the processor waits; 2 where it is finished
+  pub performed-written : (loop index : ℕ) → reported (Performed loop index) (a ∷ b ∷ c ∷ []) ≡ 0 ∷ loop ∷ index ∷ []
+  unfolding reported
+  performed-written loop index = refl
+
+  pub waiting-written : reported Waiting (a ∷ b ∷ c ∷ []) ≡ 1 ∷ 0 ∷ 0 ∷ []
+  unfolding reported
+  waiting-written = refl
+
+  pub finished-written : reported Finished (a ∷ b ∷ c ∷ []) ≡ 2 ∷ 0 ∷ 0 ∷ []
+  unfolding reported
+  finished-written = refl
+
+  -- the example's first step of processor 0, from bytes: loop 0, iteration 1
+  pub first-written : reported (reportAt example (settings 2) 0 noneDone own) (a ∷ b ∷ c ∷ []) ≡ 0 ∷ 0 ∷ 1 ∷ []
+  unfolding reported saidFrom
+  first-written = refl

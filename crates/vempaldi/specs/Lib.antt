@@ -2,5 +2,5 @@
 pub mod Answers
 -- the four numbers of an answer, by an example
 pub mod Example
--- what the numbers of a step's answer say
-pub mod Steps
+-- what the numbers of an answer say
+pub mod Numbers

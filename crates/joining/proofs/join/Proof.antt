@@ -1,6 +1,6 @@
 use denote.Ref.{now}
 use Rattle.serial.specs.Serial.{table}
-use Rattle.reader.specs.ReadInto.{into-told}
+use Rattle.reader.specs.ReadIntoLaws.{into-told}
 use Rattle.joining.proofs.Answers.{left-refused}
 use borrow.Author.Needs.{needs}
 use Rattle.joining.proofs.join.Statement.{statement}

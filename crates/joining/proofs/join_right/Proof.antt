@@ -3,7 +3,7 @@ use mathlib.Core.Path.{sym, _∙_}
 use denote.Ref.{now}
 use Rattle.serial.specs.Serial.{table}
 use Rattle.reader.specs.Held.{few-loops}
-use Rattle.reader.specs.ReadInto.{into-told}
+use Rattle.reader.specs.ReadIntoLaws.{into-told}
 use Rattle.joining.proofs.Answers.{right-refused, unlike-arrays, many-loops, joined, enough}
 use borrow.Author.Tests.{not-true, not-false}
 use borrow.Author.Needs.{needs}

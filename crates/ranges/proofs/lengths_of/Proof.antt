@@ -4,7 +4,7 @@ use mathlib.Core.Path.{_≡_, refl, ap, _∙_}
 use denote.Ref.{now}
 use Rattle.reader.specs.Store.{loopsIn}
 use Rattle.blocks.specs.declared.Axis.{Axis}
-use Rattle.lists.specs.BelowLaws.{lengths}
+use Rattle.lists.specs.BelowLaws.{indicesIn}
 use Rattle.plans.specs.Code.{Laid}
 use Rattle.ranges.specs.Code.{rangeOf, Along}
 use Rattle.ranges.specs.Listed.{few-loops, lengths-in}
@@ -103,8 +103,8 @@ returns c = let a = c .before .before .before .args in
     let few = few-loops (p .0) st (p .1) in (
       (omega (arith, s .0 .small), omega (arith, s .1 .small)),
       λ x h y. record {
-        fused-is = l .inv .1 x h y .0 .sum-is ∙ ap (λ (n : ℕ). lengths n (rangeOf 0 x st (a .b))) e ∙ lengths-in x st h 0 (a .b);
-        peeled-is = l .inv .1 x h y .1 .sum-is ∙ ap (λ (n : ℕ). lengths n (rangeOf 1 x st (a .b))) e ∙ lengths-in x st h 1 (a .b);
+        fused-is = l .inv .1 x h y .0 .sum-is ∙ ap (λ (n : ℕ). indicesIn n (rangeOf 0 x st (a .b))) e ∙ lengths-in x st h 0 (a .b);
+        peeled-is = l .inv .1 x h y .1 .sum-is ∙ ap (λ (n : ℕ). indicesIn n (rangeOf 1 x st (a .b))) e ∙ lengths-in x st h 1 (a .b);
       },
     )
 

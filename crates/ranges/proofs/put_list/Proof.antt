@@ -5,7 +5,7 @@ use denote.Ref.{now}
 use Rattle.reader.specs.Store.{loopsIn}
 use Rattle.blocks.specs.declared.Range.{Range}
 use Rattle.blocks.specs.Sums.{column}
-use Rattle.lists.specs.BelowLaws.{lengths}
+use Rattle.lists.specs.BelowLaws.{indicesIn}
 use Rattle.ranges.specs.Code.{rangeOf}
 use Rattle.ranges.specs.Listed.{few-loops, span-fits, range-small, lengths-in}
 use Rattle.ranges.proofs.Laws.{Filled, filled-none, filled-next}
@@ -130,7 +130,7 @@ returns c =
     let e : l .k ≡ loopsIn st = omega (arith, c .before .before .loops-in .ensures) in
     let f = l .inv .1 in (
       (
-        f .sum-is ∙ ap (λ (n : ℕ). lengths n (rangeOf (a .phase) (a .a) st (a .b))) e ∙ lengths-in (a .a) st (p .0) (a .phase) (a .b),
+        f .sum-is ∙ ap (λ (n : ℕ). indicesIn n (rangeOf (a .phase) (a .a) st (a .b))) e ∙ lengths-in (a .a) st (p .0) (a .phase) (a .b),
         omega (arith, f .small, few-loops (a .a) st (p .0)),
       ),
       (rw (← e) (f .kept), f .apart),

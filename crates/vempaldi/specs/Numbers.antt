@@ -1,20 +1,24 @@
--- What the numbers of a step's answer say: where the first is not 0 the step is refused, with a ground that holds, and counts, memory and report are as
--- found.
+-- What the numbers of an answer say: where the first is not 0 the call is refused and all that it was lent is as found; a step is refused with a
+-- ground that holds.
 use Prim.Native.Nat.{ℕ}
-use mathlib.Core.Path.{_≡_, refl, ap, _∙_}
-use mathlib.Core.Bool.{false}
+use mathlib.Core.Path.{_≡_, refl, ap}
 use mathlib.Core.List.{List}
 use lib.Ieee.{Float}
 use Rattle.refusals.specs.declared.Refusal.{Refusal}
-use Rattle.refusals.specs.Answers.{refused}
+use Rattle.refusals.specs.Answers.{refused, refusalOf}
+use Rattle.refusals.specs.AnswerLaws.{told-refused}
+use Rattle.outputs.specs.Given.{Given, final, countOf}
+use Rattle.plain.specs.Plain.{plainAnswer, plainMemory}
+use Rattle.stepping.specs.Run.{runAnswer, runMemory, runIdle}
+use lib.ListN.{length}
 use Rattle.model.specs.declared.Iteration.{Iteration}
 use Rattle.serial.specs.Serial.{table}
-use Rattle.turns.specs.Turn.{Said, refuses, performs, waits, ends, After, stays}
+use Rattle.turns.specs.Turn.{Said, refuses, performs, waits, ends, After}
 use Rattle.turns.specs.Row.{performing}
 use Rattle.plans.specs.Plans.{Settings}
 use Rattle.stepping.specs.Step.{reportOf, step}
 use Rattle.answers.specs.Refused as answers
-use Rattle.answers.specs.Refused.{StepRefused}
+use Rattle.answers.specs.Refusing.{StepRefused}
 use Rattle.answers.specs.Decided as decided
 use Rattle.answers.specs.Untouched as untouched
 use Rattle.vempaldi.specs.Answers.{reported, refusalIn, reportAt}
@@ -51,3 +55,15 @@ module _ (s : List ℕ) (w : Settings) (b : ℕ) (counts : List ℕ) (m : List F
   pub step-decided : (r : Refusal) → table s ≡ refused r → told ≡ r
   unfolding refusalIn
   step-decided r e = ap (λ (a : After Iteration (List Float)). refusalIn (reportOf (a .said))) (decided.step-decided s r e w b counts m)
+
+-- the other calls: where the first number is not 0, all is as found
+pub output-told : (g : Given) (out : List ℕ) → (refusalOf g .ground ≡ 0 → ⊥) → (final g out ≡ out) × (countOf g ≡ 0)
+output-told g out some = untouched.output-untouched g out (refusalOf g) (told-refused g (refusalOf g) refl some)
+
+pub plain-told : (s : List ℕ) (m : List Float) → (refusalOf (plainAnswer s (length m)) .ground ≡ 0 → ⊥) → plainMemory s m ≡ m
+plain-told s m some = untouched.plain-untouched s m (refusalOf (plainAnswer s (length m))) (told-refused (plainAnswer s (length m)) _ refl some)
+
+pub run-told : (s : List ℕ) (w : Settings) (order : List ℕ) (m : List Float) → (refusalOf (runAnswer s w (length m)) .ground ≡ 0 → ⊥)
+    → (runMemory s w order m ≡ m) × (runIdle s w order m ≡ 0)
+run-told s w order m some =
+    untouched.run-untouched s w order m (refusalOf (runAnswer s w (length m))) (told-refused (runAnswer s w (length m)) _ refl some)
