@@ -25,6 +25,13 @@
 extern "C" {
 #endif
 
+/* The version of this header; vempaldi_version() is that of the library linked. While the first number is 0, a new second number may
+ * change what callers see (CHANGELOG.md says what). */
+#define VEMPALDI_VERSION_MAJOR 0
+#define VEMPALDI_VERSION_MINOR 2
+#define VEMPALDI_VERSION_PATCH 0
+#define VEMPALDI_VERSION 200 /* the three numbers as one: MAJOR * 10000 + MINOR * 100 + PATCH */
+
 /* The grounds of refusal. An answer is four numbers: answer[0] the ground's number, answer[1] its place, answer[2] and answer[3] what the
  * refusal names. An accepted call answers 0, 0, 0, 0.
  *
@@ -77,17 +84,24 @@ enum vempaldi_ground {
 enum vempaldi_size {
     VEMPALDI_MOST_PROCESSORS = 64,
     VEMPALDI_TABLE_BYTES = 2065,    /* the longest accepted table, so also of a joined one */
+    VEMPALDI_DECIDING_BYTES = 2077, /* no byte past these changes an answer: reading so many of a file is enough */
+    VEMPALDI_FACTS_BYTES = 268,     /* facts of 16 arrays and 16 loops */
     VEMPALDI_AMOUNT_BYTES = 128,    /* shifts and peels of 16 loops */
+    VEMPALDI_RANGE_BYTES = 128,     /* a processor's ranges in 16 loops */
     VEMPALDI_BLOCK_BYTES = 512,     /* first and last index of 64 blocks */
     VEMPALDI_LISTING_BYTES = 48400  /* no listing has more */
 };
 
 /* The first number of a step's report. */
 enum vempaldi_report {
-    VEMPALDI_ITERATION = 0, /* an iteration was performed: report[1] is its loop, report[2] its index */
-    VEMPALDI_WAITING = 1,   /* the processor's fused list is used up, another's is not */
-    VEMPALDI_FINISHED = 2   /* both lists are used up and the barrier is open */
+    VEMPALDI_NO_REPORT = 0, /* never written: what is zeroed before a call and still 0 after it was refused */
+    VEMPALDI_ITERATION = 1, /* an iteration was performed: report[1] is its loop, report[2] its index */
+    VEMPALDI_WAITING = 2,   /* the processor's fused list is used up, another's is not */
+    VEMPALDI_FINISHED = 3   /* both lists are used up and the barrier is open */
 };
+
+/* The version of the library, as VEMPALDI_VERSION gives that of the header. */
+uint32_t vempaldi_version(void);
 
 /* Whether a table is accepted.
  * Writes the answer alone. Refuses with 1 to 9. */
@@ -99,6 +113,11 @@ void vempaldi_check(const uint8_t *table, size_t table_length, uint64_t answer[4
  * the table that meets the ground; the answer does not say which of the two that is (ask vempaldi_check). */
 uint64_t vempaldi_join(const uint8_t *left, size_t left_length, const uint8_t *right, size_t right_length,
                        uint8_t *out, size_t out_length, uint64_t answer[4]);
+
+/* Facts of a table, so that nobody needs to decode it.
+ * Writes how many arrays, how many loops and how many elements in all; then for each array, in table order, its first element in the
+ * memory and its length; then for each loop its first and its last index: 12 bytes, and 8 an array and a loop. Refuses with 1 to 9, 13. */
+uint64_t vempaldi_facts(const uint8_t *table, size_t table_length, uint8_t *out, size_t out_length, uint64_t answer[4]);
 
 /* Shift and peel of each loop.
  * Writes for each loop, in table order, its shift and its peel: 8 bytes a loop. Refuses with 1 to 9, 13. */
@@ -129,6 +148,19 @@ uint64_t vempaldi_fused_list(const uint8_t *table, size_t table_length, uint32_t
  * iterations, and the last processor's has none. Refuses with 1 to 9, 10 (of `processors`, then of `processor`), 11, 13. */
 uint64_t vempaldi_peeled_list(const uint8_t *table, size_t table_length, uint32_t processors, uint32_t processor,
                               uint8_t *out, size_t out_length, uint64_t answer[4]);
+
+/* What one processor runs before the barrier, as a range of each loop.
+ * Writes for each loop, in table order, the first index of its range and the index past the last one, 0 and 0 where the range is empty:
+ * 8 bytes a loop. The processor's fused list has these iterations and no others, in rising order of index plus the loop's shift, equal sums
+ * in loop order. Refuses with 1 to 9, 10 (of `processors`, then of `processor`), 11, 13. */
+uint64_t vempaldi_fused_ranges(const uint8_t *table, size_t table_length, uint32_t processors, uint32_t processor,
+                               uint8_t *out, size_t out_length, uint64_t answer[4]);
+
+/* What one processor runs past the barrier, as a range of each loop.
+ * Writes what vempaldi_fused_ranges writes, of the peeled list, which has its iterations loop by loop in rising order. All ranges of the
+ * last processor are empty. Refuses with 1 to 9, 10 (of `processors`, then of `processor`), 11, 13. */
+uint64_t vempaldi_peeled_ranges(const uint8_t *table, size_t table_length, uint32_t processors, uint32_t processor,
+                                uint8_t *out, size_t out_length, uint64_t answer[4]);
 
 /* The plan as text: lines `loop` k shift peel, `block` b first last, `fused` b k from to, `peeled` b k from to, `sweeps` before after.
  * Writes the text, each line with its line feed and no zero byte behind. Refuses with 1 to 9, 10, 11, 13. (No call writes the
