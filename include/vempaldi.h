@@ -80,6 +80,14 @@ enum vempaldi_ground {
     VEMPALDI_STATE = 15
 };
 
+/* The words of the grounds, by number. */
+#define VEMPALDI_WORDS                                                                                                                   \
+    { "accepted", "torn", "kind", "field", "crowd", "array", "body", "edge", "tail", "serial", "processors", "short", "memory", "buffer", \
+      "unlike", "state" }
+
+/* How many bytes follow a record's kind byte, by kind: array, loop, read, constant, operation, end. There is no kind 0. */
+#define VEMPALDI_BODY_LENGTHS { 0, 4, 11, 3, 4, 1, 0 }
+
 /* Sizes that always suffice. */
 enum vempaldi_size {
     VEMPALDI_MOST_PROCESSORS = 64,
