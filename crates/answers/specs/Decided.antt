@@ -7,7 +7,8 @@ use Rattle.refusals.specs.declared.Refusal.{Refusal}
 use Rattle.refusals.specs.Answers.{refused}
 use Rattle.serial.specs.Serial.{table}
 use Rattle.plans.specs.Plans.{Settings, fitting, planned, plannedFor}
-use Rattle.entries.specs.Entries.{amounts, thresholds, sweepsGiven, blocksGiven, listGiven}
+use Rattle.facts.specs.Facts.{factsGiven}
+use Rattle.entries.specs.Entries.{amounts, thresholds, sweepsGiven, blocksGiven, listGiven, rangesGiven}
 use Rattle.printing.specs.Printing.{listingGiven}
 use Rattle.iterations.specs.Memory.{remembered}
 use Rattle.plain.specs.Plain.{plainAnswer}
@@ -16,6 +17,10 @@ use Rattle.stepping.specs.Step.{steppedBy, step}
 use Rattle.stepping.specs.Run.{runAnswer}
 
 module _ (s : List ℕ) (r : Refusal) (e : table s ≡ refused r) where
+  pub facts-decided : (room : ℕ) → factsGiven s room ≡ refused r
+  unfolding factsGiven
+  facts-decided room = rw e
+
   pub amounts-decided : (room : ℕ) → amounts s room ≡ refused r
   unfolding amounts
   amounts-decided room = rw e
@@ -39,6 +44,10 @@ module _ (s : List ℕ) (r : Refusal) (e : table s ≡ refused r) where
   pub list-decided : (phase : ℕ) (w : Settings) (b room : ℕ) → listGiven phase s w b room ≡ refused r
   unfolding listGiven plannedFor fitting
   list-decided phase w b room = rw e
+
+  pub ranges-decided : (phase : ℕ) (w : Settings) (b room : ℕ) → rangesGiven phase s w b room ≡ refused r
+  unfolding rangesGiven plannedFor fitting
+  ranges-decided phase w b room = rw e
 
   pub plain-decided : (n : ℕ) → plainAnswer s n ≡ refused r
   unfolding plainAnswer remembered

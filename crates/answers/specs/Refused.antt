@@ -22,7 +22,8 @@ use Rattle.tables.specs.Nine.{told-some, refused-told}
 use Rattle.outputs.specs.Given.{fitted}
 use Rattle.plans.specs.Plans.{Settings, Planned, planOf, thresholdOf, shortFor, badProcessors, badNumber, fits, fitting, planned, plannedFor}
 use Rattle.sweeps.specs.Sweeps as Sweeps
-use Rattle.entries.specs.Entries.{amountsOf, blocksOf, listedOf, amounts, thresholds, sweepsGiven, blocksGiven, listGiven}
+use Rattle.facts.specs.Facts.{factsOf, factsGiven}
+use Rattle.entries.specs.Entries.{amountsOf, blocksOf, listedOf, rangesOf, amounts, thresholds, sweepsGiven, blocksGiven, listGiven, rangesGiven}
 use Rattle.printing.specs.Printing.{listingOf, listingGiven}
 use Rattle.iterations.specs.Memory.{elementTotal, remembered}
 use Rattle.plain.specs.Plain.{plainAnswer}
@@ -55,6 +56,10 @@ module _ {T : Type 0} (a : AnswerOf T) (Before : Refusal → Type 0) (first : On
 module _ (s : List ℕ) where
   pub check-refused : Only (ReadRefused s) (table s)
   check-refused = refused-told s
+
+  pub facts-refused : (room : ℕ) → Only (OutputRefused (table s) (ReadRefused s) (λ t. encoded (factsOf t)) room) (factsGiven s room)
+  unfolding factsGiven
+  facts-refused = fitted-only (table s) (ReadRefused s) check-refused (λ t. encoded (factsOf t))
 
   pub amounts-refused : (room : ℕ) → Only (OutputRefused (table s) (ReadRefused s) (λ t. encoded (amountsOf t)) room) (amounts s room)
   unfolding amounts
@@ -107,6 +112,12 @@ module _ (s : List ℕ) where
         → Only (OutputRefused (plannedFor s w b) (NamedRefused s w b) (λ q. encoded (listedOf phase b q)) room) (listGiven phase s w b room)
     unfolding listGiven
     list-refused phase b = fitted-only (plannedFor s w b) (NamedRefused s w b) (named-refused b) (λ q. encoded (listedOf phase b q))
+
+    -- and the ranges of both
+    pub ranges-refused : (phase b room : ℕ)
+        → Only (OutputRefused (plannedFor s w b) (NamedRefused s w b) (λ q. encoded (rangesOf phase b q)) room) (rangesGiven phase s w b room)
+    unfolding rangesGiven
+    ranges-refused phase b = fitted-only (plannedFor s w b) (NamedRefused s w b) (named-refused b) (λ q. encoded (rangesOf phase b q))
 
     pub run-refused : (n : ℕ) → Only (MemoryRefused (planned s w) (PlanRefused s w) elements n) (runAnswer s w n)
     run-refused = remembered-only (planned s w) (PlanRefused s w) plan-refused elements

@@ -1,2 +1,2 @@
--- numbers written one after the other, and what is told of them
+-- shifts and peels, blocks, lists and ranges as rows of numbers
 pub mod Laws

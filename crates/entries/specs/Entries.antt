@@ -1,21 +1,20 @@
 -- The numbers that each entry gives, four bytes each, or the refusal: 1 to 9, then 10 and 11 where a plan is asked for, then 13.
-use Prim.Native.Nat.{ℕ, suc, _-_}
+use Prim.Native.Nat.{ℕ, zero, suc, _-_}
+use mathlib.Core.Bool.{cond}
 use mathlib.Core.List.{List, [], _∷_}
+use lib.Dec.{ltb}
 use Rattle.order.specs.Sequences.{joined}
 use Rattle.model.specs.Table.{Table, count}
 use Rattle.model.specs.declared.Iteration.{Iteration}
 use Rattle.refusals.specs.Answers.{after}
 use Rattle.serial.specs.Serial.{table}
-use Rattle.lists.specs.Fusion.{Fusion, work}
-use Rattle.numbers.specs.Numbers.{encoded}
-use Rattle.outputs.specs.Given.{Given, fitted}
+use Rattle.blocks.specs.declared.Range.{Range}
+use Rattle.lists.specs.Fusion.{Fusion, fusedRange, peeledRange, work}
+use Rattle.numbers.specs.Asked.{numbers}
+use Rattle.outputs.specs.Given.{Given}
 use Rattle.plans.specs.Plans.{Settings, Planned, shiftOf, peelOf, thresholdOf, planned, plannedFor}
 use Rattle.sweeps.specs.Sweeps.{before}
 use Rattle.sweeps.specs.Sweeps as Sweeps
-
--- the numbers asked for, four bytes each, or 13 where they don't fit
-abbrev pub numbers : ℕ → List ℕ → Given
-numbers room xs = fitted room (encoded xs)
 
 -- shift and peel of each loop
 abbrev pub amountsOf : Table → List ℕ
@@ -33,6 +32,18 @@ pairsOf (x ∷ xs) = x .number ∷ x .index ∷ pairsOf xs
 -- of each in processor b's list in a phase
 abbrev pub listedOf : ℕ → ℕ → Planned → List ℕ
 listedOf phase b q = pairsOf (work (q .table) (q .plan) phase b)
+
+-- the range of each loop that processor b runs in a phase: these iterations and no others are in its list (`in-range`)
+abbrev pub rangeOf : ℕ → ℕ → Planned → ℕ → Range
+rangeOf zero b q = fusedRange (q .table) (q .plan) b
+rangeOf (suc n) b q = peeledRange (q .table) (q .plan) b
+
+-- a range is told by its first index and the one past its last, an empty one by 0 and 0
+abbrev pub told : Range → Range
+told r = cond (ltb (r .from) (r .past)) r (record { from = 0; past = 0 })
+
+abbrev pub rangesOf : ℕ → ℕ → Planned → List ℕ
+rangesOf phase b q = joined (count (q .table)) (λ k. told (rangeOf phase b q k) .from ∷ told (rangeOf phase b q k) .past ∷ [])
 
 -- each entry, with so much room
 unfoldable pub amounts : List ℕ → ℕ → Given
@@ -56,3 +67,13 @@ fusedGiven = listGiven 0
 
 abbrev pub peeledGiven : List ℕ → Settings → ℕ → ℕ → Given
 peeledGiven = listGiven 1
+
+-- and its ranges
+unfoldable pub rangesGiven : ℕ → List ℕ → Settings → ℕ → ℕ → Given
+rangesGiven phase s w b room = after (plannedFor s w b) (λ q. numbers room (rangesOf phase b q))
+
+abbrev pub fusedRangesGiven : List ℕ → Settings → ℕ → ℕ → Given
+fusedRangesGiven = rangesGiven 0
+
+abbrev pub peeledRangesGiven : List ℕ → Settings → ℕ → ℕ → Given
+peeledRangesGiven = rangesGiven 1

@@ -4,6 +4,7 @@ use arithmetic::minus;
 use arithmetic::narrow;
 use arithmetic::wide;
 use blocks::Axis;
+use blocks::Range;
 use blocks::block_of as block_in;
 use model::Iteration;
 use outputs::Outcome;
@@ -18,21 +19,22 @@ ghost use mathlib.Core.List.{[], _∷_, _++_};
 ghost use Prim.Native.Nat.{suc, _+_, _-_, _*_, _^_, _<_, _≤_};
 ghost use lib.ListN.{length};
 ghost use Rattle.order.specs.Sequences.{joined};
-ghost use Rattle.reader.specs.Store.{tableIn};
+ghost use Rattle.reader.specs.Store.{lastAt, loopsIn, tableIn};
 ghost use Rattle.reader.specs.Held.{Held};
 ghost use Rattle.grounds.specs.Accepted.{Valid};
 ghost use Rattle.blocks.specs.Sums.{column};
-ghost use Rattle.blocks.specs.Blocks.{edge};
+ghost use Rattle.blocks.specs.Blocks.{edge, block};
 ghost use Rattle.lists.specs.Fusion.{fusionIn, work};
 ghost use Rattle.text.specs.Lent.{Put};
 ghost use Rattle.numbers.specs.Numbers.{four, encoded};
 ghost use Rattle.outputs.specs.Given.{fitted};
 ghost use Rattle.outputs.specs.Gives.{Gives};
 ghost use Rattle.plans.specs.Plans.{settings, thresholdOf};
-ghost use Rattle.plans.specs.Code.{Laid};
-ghost use Rattle.ranges.specs.Code.{listOf};
+ghost use Rattle.plans.specs.Code.{plannedIn, Laid};
+ghost use Rattle.ranges.specs.Code.{partIn, partAt, listOf};
+ghost use Rattle.ranges.specs.Code.{rangeOf as rangeIn};
 ghost use Rattle.sweeps.specs.Sweeps.{before, after};
-ghost use Rattle.entries.specs.Entries.{amountsOf, blocksOf, pairsOf, amounts, thresholds, sweepsGiven, blocksGiven, listGiven};
+ghost use Rattle.entries.specs.Entries.{amountsOf, blocksOf, pairsOf, told, rangesOf, amounts, thresholds, sweepsGiven, blocksGiven, listGiven, rangesGiven};
 ghost use Rattle.entries.specs.Code.{Fitting};
 
 // How many bytes a number has, and a pair of numbers.
@@ -228,4 +230,79 @@ pub fn list(s: &[u8], phase: u32, processors: u32, b: u32, out: &mut [u8]) -> Ou
         return refused(r);
     }
     give_list(out, phase, p.axis, b, &store)
+}
+
+// A range by its first index and the one past its last, an empty one by 0 and 0.
+fn put_range(out: &mut [u8], at: usize, r: Range) -> usize
+    requires { ⌜ at < 2 ^ 32 ⌝ }
+    ensures { λ x. ⌜ Put (now (out .entry)) at (four (told r .from) ++ four (told r .past)) 8 (now (out .exit)) x ⌝ }
+{
+    let from = r.from;
+    let past = r.past;
+    if past <= from {
+        return numbers::put_pair(out, at, 0, 0);
+    }
+    numbers::put_pair(out, at, from, past)
+}
+
+// The range of loop k in a phase of block b, whose indices are `blk`.
+fn put_part(
+    out: &mut [u8],
+    at: usize,
+    phase: u32,
+    a: Axis,
+    blk: Range,
+    b: u32,
+    k: usize,
+    store: &Store,
+) -> usize
+    requires { ⌜ at < 2 ^ 32 ⌝ }
+    requires { ⌜ (k < 16) × (b < a .blocks) × (lastAt (now store) k < 2 ^ 31) × (blk .from + column (a .peels) k < 2 ^ 32) × (blk .past + column (a .peels) k < 2 ^ 32) ⌝ }
+    ensures { λ r. ⌜ Put (now (out .entry)) at (four (told (partAt (partIn phase) a (now (store .entry)) blk b k) .from) ++ four (told (partAt (partIn phase) a (now (store .entry)) blk b k) .past)) 8 (now (out .exit)) r ⌝ }
+{
+    let part = ranges::part_in(phase);
+    let r = ranges::range_at(part, a, blk, b, k, store);
+    put_range(out, at, r)
+}
+
+// The ranges of the loops in a phase of block b.
+fn write_ranges(out: &mut [u8], phase: u32, a: Axis, b: u32, store: &Store) -> usize
+    requires { ⌜ Laid a (now store) × (b < a .blocks) ⌝ }
+    ensures { λ r. ⌜ Put (now (out .entry)) 0 (encoded (joined (loopsIn (now (store .entry))) (λ k. told (rangeIn phase a (now (store .entry)) b k) .from ∷ told (rangeIn phase a (now (store .entry)) b k) .past ∷ []))) (8 * loopsIn (now (store .entry))) (now (out .exit)) r ⌝ }
+{
+    let blk = block_in(a.first, a.count, a.blocks, b);
+    let loops = reader::loops_in(store);
+    let mut at: usize = 0;
+    let mut k: usize = 0;
+    while k < loops {
+        at = put_part(out, at, phase, a, blk, b, k, store);
+        k += 1;
+    }
+    at
+}
+
+// The ranges of processor b in a phase, or 13.
+fn give_ranges(out: &mut [u8], phase: u32, a: Axis, b: u32, store: &Store) -> Outcome
+    requires { ⌜ Laid a (now store) × (b < a .blocks) ⌝ }
+    ensures { λ r. ⌜ Gives (fitted (length (now (out .entry))) (encoded (rangesOf phase b (plannedIn a (now (store .entry)))))) (now (out .entry)) (now (out .exit)) r ⌝ }
+{
+    let loops = reader::loops_in(store);
+    if out.len() < PAIR * loops {
+        return short();
+    }
+    let n = write_ranges(out, phase, a, b, store);
+    written(n)
+}
+
+// Of each loop the range that processor b runs in a phase: 0 is before the barrier, 1 past it.
+pub fn ranges(s: &[u8], phase: u32, processors: u32, b: u32, out: &mut [u8]) -> Outcome
+    ensures { λ r. ⌜ Gives (rangesGiven phase (now (s .entry)) (settings processors) b (length (now (out .entry)))) (now (out .entry)) (now (out .exit)) r ⌝ }
+{
+    let mut store = [0u32; STORE];
+    let p = plans::plan_for(s, processors, b, &mut store);
+    let r = p.refusal;
+    if r.ground != 0 {
+        return refused(r);
+    }
+    give_ranges(out, phase, p.axis, b, &store)
 }

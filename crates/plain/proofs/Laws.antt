@@ -19,8 +19,8 @@ use Rattle.reader.specs.ReadInto.{ReadInto}
 use Rattle.reader.specs.ReadIntoLaws.{into-told}
 use Rattle.serial.specs.Serial.{table}
 use Rattle.grounds.specs.Accepted.{Valid}
-use Rattle.grounds.specs.AcceptedLaws.{accepted-valid, valid-last}
-use Rattle.tables.specs.Nine.{accepted-read}
+use Rattle.grounds.specs.AcceptedLaws.{valid-last}
+use Rattle.tables.specs.Nine.{valid}
 use Rattle.bodies.specs.Workable.{Based}
 use Rattle.iterations.specs.Memory.{elementTotal, remembered}
 use Rattle.iterations.specs.MemoryLaws.{remembered-as-long, remembered-unlike, run-length, looped-length}
@@ -150,7 +150,7 @@ module _ (s c : List ℕ) (r : Refusal) (through : ReadInto (table s) r c) (m : 
     pub run-held : Held c × Valid (tableIn c)
     run-held =
         let (e, h) = through .held nothing in
-        (h, accepted-valid s (tableIn c) (accepted-read s (tableIn c) e .0))
+        (h, valid s (tableIn c) e)
 
     pub run-accepted : (x : Refusal) (n : List Float) → x ≡ refusalOf (remembered elementTotal (length m) (accepted (tableIn c)))
         → n ≡ runOf (remembered elementTotal (length m) (accepted (tableIn c))) m → (x ≡ refusalOf (plainAnswer s (length m))) × (n ≡ plainMemory s m)

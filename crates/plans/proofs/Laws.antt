@@ -29,7 +29,8 @@ use Rattle.blocks.specs.SpanLaws.{span-found, span-same}
 use Rattle.blocks.specs.Blocks.{isShort}
 use Rattle.plans.specs.declared.Plan.{Plan}
 use Rattle.plans.specs.Plans.{Planned, settings, thresholdOf, planOf, shortFor, fits, fitting}
-use Rattle.plans.specs.Accepted.{valid, threshold-small}
+use Rattle.tables.specs.Nine.{valid}
+use Rattle.plans.specs.Accepted.{threshold-small}
 use Rattle.plans.specs.Code.{Plans, refusing}
 
 -- THE SPAN, over the loops of a store

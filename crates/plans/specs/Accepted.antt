@@ -16,8 +16,8 @@ use Rattle.refusals.specs.AnswerLaws.{if-accepted, after-accepted}
 use Rattle.reader.specs.Reading.{Answer}
 use Rattle.serial.specs.Serial.{table}
 use Rattle.grounds.specs.Accepted.{Valid}
-use Rattle.grounds.specs.AcceptedLaws.{accepted-valid, valid-last}
-use Rattle.tables.specs.Nine.{accepted-read, accepted-sound}
+use Rattle.grounds.specs.AcceptedLaws.{valid-last}
+use Rattle.tables.specs.Nine.{valid, accepted-sound}
 use Rattle.chains.specs.Dependence.{Dependence}
 use Rattle.chains.specs.Walk.{shifts, peels}
 use Rattle.chains.specs.Tables.{allRefs-refs, allRefs-below, refs-number, plan-legal}
@@ -117,9 +117,6 @@ module _ (t : Table) (v : Valid t) where
         }
 
 -- ACCEPTED
-pub valid : (s : List ℕ) (t : Table) → table s ≡ accepted t → Valid t
-valid s t e = accepted-valid s t (accepted-read s t e .0)
-
 fitting-accepted : (wrong : Bool) (w : Settings) (a : Answer) (q : Planned) → fitting wrong w a ≡ accepted q
     → (a ≡ accepted (q .table)) × (q .plan ≡ planOf (q .table) w) × (wrong ≡ false) × (shortFor (q .table) w ≡ false)
 unfolding fitting

@@ -25,7 +25,8 @@ use Rattle.lists.specs.Fusion.{work, fusedList, peeledList}
 use Rattle.lists.specs.FusionLaws.{Once, once, owner, phase}
 use Rattle.lists.specs.EachOnce.{EachOnce}
 use Rattle.plans.specs.Plans.{Settings, Planned, shiftOf, peelOf, thresholdOf, planned}
-use Rattle.plans.specs.Accepted.{AcceptedPlan, valid, planned-accepts}
+use Rattle.tables.specs.Nine.{valid}
+use Rattle.plans.specs.Accepted.{AcceptedPlan, planned-accepts}
 
 -- SHIFTS, PEELS, THRESHOLD
 module _ (s : List ℕ) (t : Table) (read : table s ≡ accepted t) where

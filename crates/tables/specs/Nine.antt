@@ -27,6 +27,7 @@ use Rattle.serial.specs.Parallel.{accepted-parallel}
 use Rattle.grounds.specs.StatementLaws.{ground-number}
 use Rattle.grounds.specs.Theorems.{refused-ground, refused-unnamed, accepted-none}
 use Rattle.tables.specs.Told.{Told, ground, serial}
+use Rattle.grounds.specs.Accepted.{Valid}
 use Rattle.grounds.specs.AcceptedLaws.{accepted-valid, valid-known, valid-within}
 
 -- a walk over the loops that stops: a loop collides, and no earlier one from k on, of n, does
@@ -132,7 +133,11 @@ module _ (s : List ℕ) where
       let v = accepted-valid s t f .each in
       (f, λ k l. none-parallel t k (v k l .statement) (v k l .only) (none k l))
 
-  -- so it meets none of 1 to 9
+  -- so it keeps all limits
+  pub valid : (t : Table) → table s ≡ accepted t → Valid t
+  valid t e = accepted-valid s t (accepted-read t e .0)
+
+  -- and it meets none of 1 to 9
   pub accepted-free : (t : Table) → table s ≡ accepted t → (r : Refusal) → Told r s → ⊥
   accepted-free t e r (ground {n} {p} g) = accepted-none s t (accepted-read t e .0) n p g
   accepted-free t e r (serial {p} u f g) =

@@ -14,15 +14,16 @@ use Rattle.stepping.specs.Step.{reportOf, step}
 abbrev pub answered : Refusal → List ℕ → List ℕ
 answered r xs = set (set (set (set xs 0 (r .ground)) 1 (r .place)) 2 (r .first)) 3 (r .second)
 
--- a report: 0, a loop and an iteration; 1 where the processor waits; 2 where it is finished. A refused call leaves it as found
+-- a report: 1, a loop and an iteration; 2 where the processor waits; 3 where it is finished. A refused call leaves it as found. So a
+-- first number that was 0 before the call is 0 after it only if the call was refused (`zero-refused`)
 abbrev pub written : ℕ → ℕ → ℕ → List ℕ → List ℕ
 written kind number index xs = set (set (set xs 0 kind) 1 number) 2 index
 
 unfoldable pub reported : Report → List ℕ → List ℕ
 reported (Refused r) xs = xs
-reported (Performed number index) xs = written 0 number index xs
-reported Waiting xs = written 1 0 0 xs
-reported Finished xs = written 2 0 0 xs
+reported (Performed number index) xs = written 1 number index xs
+reported Waiting xs = written 2 0 0 xs
+reported Finished xs = written 3 0 0 xs
 
 -- what is refused
 unfoldable pub refusalIn : Report → Refusal
@@ -34,6 +35,10 @@ refusalIn Finished = none
 -- what a step reports
 abbrev pub reportAt : List ℕ → Settings → ℕ → List ℕ → List Float → Report
 reportAt s w b counts m = reportOf (step s w b counts m .said)
+
+-- the library's version, 0.2.0: 10,000 times the first number, 100 times the second, and the third
+abbrev pub version : ℕ
+version = 200
 
 -- a report's numbers have room
 unfoldable pub ReportFits : Report → Type 0

@@ -9,13 +9,14 @@ ghost use Rattle.refusals.specs.Answers.{refusalOf};
 ghost use Rattle.serial.specs.Serial.{table as accepts};
 ghost use Rattle.outputs.specs.Given.{final, countOf};
 ghost use Rattle.joining.specs.Joining.{joining};
-ghost use Rattle.entries.specs.Entries.{amounts, thresholds, sweepsGiven, blocksGiven, fusedGiven, peeledGiven};
+ghost use Rattle.facts.specs.Facts.{factsGiven};
+ghost use Rattle.entries.specs.Entries.{amounts, thresholds, sweepsGiven, blocksGiven, fusedGiven, peeledGiven, fusedRangesGiven, peeledRangesGiven};
 ghost use Rattle.printing.specs.Printing.{listingGiven};
 ghost use Rattle.plain.specs.Plain.{plainAnswer, plainMemory};
 ghost use Rattle.plans.specs.Plans.{settings};
 ghost use Rattle.stepping.specs.Step.{step};
 ghost use Rattle.stepping.specs.Run.{runAnswer, runMemory, runIdle};
-ghost use Rattle.vempaldi.specs.Answers.{answered, written, reported, refusalIn, reportAt, ReportFits};
+ghost use Rattle.vempaldi.specs.Answers.{answered, written, reported, refusalIn, reportAt, version, ReportFits};
 
 // An answer is the ground's number, the place, and the two numbers that are named.
 fn write_answer(answer: &mut [u64; 4], r: Refusal)
@@ -34,6 +35,16 @@ fn tell_outcome(answer: &mut [u64; 4], o: Outcome) -> u64
 {
     write_answer(answer, o.refusal);
     o.written as u64
+}
+
+// The version: 10,000 times the first of its numbers, 100 times the second, and the third.
+const VERSION: u32 = 200;
+
+#[no_mangle]
+pub extern "C" fn vempaldi_version() -> u32
+    ensures { λ r. ⌜ r ≡ version ⌝ }
+{
+    VERSION
 }
 
 // Whether a table is accepted, or the refusal.
@@ -58,6 +69,17 @@ pub extern "C" fn vempaldi_join(
     ensures { λ r. ⌜ now (out .exit) ≡ final (joining (now (left .entry)) (now (right .entry)) (length (now (out .entry)))) (now (out .entry)) ⌝ }
 {
     let o = joining::join(left, right, out);
+    tell_outcome(answer, o)
+}
+
+// Facts of a table, four bytes each; answers how many bytes were written, 0 where it refuses.
+#[no_mangle]
+pub extern "C" fn vempaldi_facts(table: &[u8], out: &mut [u8], answer: &mut [u64; 4]) -> u64
+    ensures { λ r. ⌜ now (answer .exit) ≡ answered (refusalOf (factsGiven (now (table .entry)) (length (now (out .entry))))) (now (answer .entry)) ⌝ }
+    ensures { λ r. ⌜ r ≡ countOf (factsGiven (now (table .entry)) (length (now (out .entry)))) ⌝ }
+    ensures { λ r. ⌜ now (out .exit) ≡ final (factsGiven (now (table .entry)) (length (now (out .entry)))) (now (out .entry)) ⌝ }
+{
+    let o = facts::facts(table, out);
     tell_outcome(answer, o)
 }
 
@@ -164,6 +186,40 @@ pub extern "C" fn vempaldi_peeled_list(
     tell_outcome(answer, o)
 }
 
+// Of each loop the range that a processor runs before the barrier, four bytes each number; answers how many bytes were written, 0 where it refuses.
+#[no_mangle]
+pub extern "C" fn vempaldi_fused_ranges(
+    table: &[u8],
+    processors: u32,
+    processor: u32,
+    out: &mut [u8],
+    answer: &mut [u64; 4],
+) -> u64
+    ensures { λ r. ⌜ now (answer .exit) ≡ answered (refusalOf (fusedRangesGiven (now (table .entry)) (settings processors) processor (length (now (out .entry))))) (now (answer .entry)) ⌝ }
+    ensures { λ r. ⌜ r ≡ countOf (fusedRangesGiven (now (table .entry)) (settings processors) processor (length (now (out .entry)))) ⌝ }
+    ensures { λ r. ⌜ now (out .exit) ≡ final (fusedRangesGiven (now (table .entry)) (settings processors) processor (length (now (out .entry)))) (now (out .entry)) ⌝ }
+{
+    let o = entries::ranges(table, 0, processors, processor, out);
+    tell_outcome(answer, o)
+}
+
+// And past it.
+#[no_mangle]
+pub extern "C" fn vempaldi_peeled_ranges(
+    table: &[u8],
+    processors: u32,
+    processor: u32,
+    out: &mut [u8],
+    answer: &mut [u64; 4],
+) -> u64
+    ensures { λ r. ⌜ now (answer .exit) ≡ answered (refusalOf (peeledRangesGiven (now (table .entry)) (settings processors) processor (length (now (out .entry))))) (now (answer .entry)) ⌝ }
+    ensures { λ r. ⌜ r ≡ countOf (peeledRangesGiven (now (table .entry)) (settings processors) processor (length (now (out .entry)))) ⌝ }
+    ensures { λ r. ⌜ now (out .exit) ≡ final (peeledRangesGiven (now (table .entry)) (settings processors) processor (length (now (out .entry)))) (now (out .entry)) ⌝ }
+{
+    let o = entries::ranges(table, 1, processors, processor, out);
+    tell_outcome(answer, o)
+}
+
 // The plain run of a table in the lent memory. A refused run leaves the memory as found.
 #[no_mangle]
 pub extern "C" fn vempaldi_plain_run(table: &[u8], memory: &mut [f64], answer: &mut [u64; 4])
@@ -182,7 +238,8 @@ fn write_report(report: &mut [u32; 3], kind: u32, number: u32, index: u32)
     report[2] = index;
 }
 
-// What a call reports: 0, a loop and an iteration; 1 where its processor waits; 2 where it is finished. A refused call leaves it as found.
+// What a call reports: 1, a loop and an iteration; 2 where its processor waits; 3 where it is finished. A refused call leaves it as found, and 0 is
+// never written, so that a report which was zeroed says no iteration.
 fn tell_report(report: &mut [u32; 3], r: Report)
     requires { ⌜ ReportFits r ⌝ }
     ensures { λ _. ⌜ now (report .exit) ≡ reported r (now (report .entry)) ⌝ }
@@ -190,10 +247,10 @@ fn tell_report(report: &mut [u32; 3], r: Report)
     match r {
         Report::Refused(_) => {}
         Report::Performed { number, index } => {
-            write_report(report, 0, number as u32, index as u32)
+            write_report(report, 1, number as u32, index as u32)
         }
-        Report::Waiting => write_report(report, 1, 0, 0),
-        Report::Finished => write_report(report, 2, 0, 0),
+        Report::Waiting => write_report(report, 2, 0, 0),
+        Report::Finished => write_report(report, 3, 0, 0),
     }
 }
 

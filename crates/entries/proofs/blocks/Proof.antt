@@ -2,7 +2,8 @@ use denote.Ref.{now}
 use Rattle.plans.specs.Plans.{settings, planned}
 use Rattle.plans.specs.Code.{made-laid}
 use Rattle.entries.specs.Entries.{blocksGiven, blocksOf}
-use Rattle.entries.proofs.Laws.{entry-refused, entry-given, blocks-ask}
+use Rattle.numbers.specs.AskedLaws.{entry-refused, entry-given}
+use Rattle.entries.proofs.Laws.{blocks-ask}
 use borrow.Author.Needs.{needs}
 use Rattle.entries.proofs.blocks.Statement.{statement}
 use Rattle.entries.proofs.blocks.Tie as tie

@@ -3,7 +3,8 @@ use denote.Ref.{now}
 use Rattle.reader.specs.Store.{tableIn}
 use Rattle.reader.specs.Held.{few-loops}
 use Rattle.entries.specs.Entries.{amountsOf}
-use Rattle.entries.proofs.Laws.{amounts-are, amounts-size, numbers-short, numbers-put}
+use Rattle.numbers.specs.AskedLaws.{numbers-short, numbers-put}
+use Rattle.entries.proofs.Laws.{amounts-are, amounts-size}
 use borrow.Author.Needs.{needs}
 use Rattle.entries.proofs.give_amounts.Statement.{statement}
 use Rattle.entries.proofs.give_amounts.Tie as tie

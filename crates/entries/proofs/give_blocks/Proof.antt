@@ -1,7 +1,8 @@
 use denote.Ref.{now}
 use Rattle.lists.specs.Fusion.{fusionIn}
 use Rattle.entries.specs.Entries.{blocksOf}
-use Rattle.entries.proofs.Laws.{blocks-size, numbers-short, numbers-put}
+use Rattle.numbers.specs.AskedLaws.{numbers-short, numbers-put}
+use Rattle.entries.proofs.Laws.{blocks-size}
 use borrow.Author.Needs.{needs}
 use Rattle.entries.proofs.give_blocks.Statement.{statement}
 use Rattle.entries.proofs.give_blocks.Tie as tie

@@ -5,7 +5,8 @@ use Rattle.reader.specs.Held.{few-loops}
 use Rattle.lists.specs.Fusion.{fusionIn, work}
 use Rattle.ranges.specs.Listed.{list-in}
 use Rattle.entries.specs.Entries.{pairsOf}
-use Rattle.entries.proofs.Laws.{list-fits, list-size, numbers-short, numbers-put}
+use Rattle.numbers.specs.AskedLaws.{numbers-short, numbers-put}
+use Rattle.entries.proofs.Laws.{list-fits, list-size}
 use borrow.Author.Needs.{needs}
 use Rattle.entries.proofs.give_list.Statement.{statement}
 use Rattle.entries.proofs.give_list.Tie as tie

@@ -4,7 +4,7 @@ use mathlib.Core.List.{[], _∷_}
 use Rattle.reader.specs.Store.{tableIn}
 use Rattle.sweeps.specs.declared.Sweeps.{Sweeps}
 use Rattle.sweeps.specs.Sweeps.{before, after, sweeps}
-use Rattle.entries.proofs.Laws.{two-size, two-put, numbers-short, numbers-put}
+use Rattle.numbers.specs.AskedLaws.{two-size, two-put, numbers-short, numbers-put}
 use borrow.Author.Needs.{needs}
 use Rattle.entries.proofs.give_sweeps.Statement.{statement}
 use Rattle.entries.proofs.give_sweeps.Tie as tie

@@ -3,7 +3,8 @@ use mathlib.Core.Path.{_∙_}
 use mathlib.Core.List.{[], _∷_}
 use Rattle.reader.specs.Store.{tableIn}
 use Rattle.plans.specs.Plans.{thresholdOf}
-use Rattle.entries.proofs.Laws.{threshold-is, threshold-fits, one-size, one-put, numbers-short, numbers-put}
+use Rattle.numbers.specs.AskedLaws.{one-size, one-put, numbers-short, numbers-put}
+use Rattle.entries.proofs.Laws.{threshold-is, threshold-fits}
 use borrow.Author.Needs.{needs}
 use Rattle.entries.proofs.give_threshold.Statement.{statement}
 use Rattle.entries.proofs.give_threshold.Tie as tie

@@ -1,7 +1,8 @@
 use denote.Ref.{now}
 use Rattle.plans.specs.Plans.{settings, plannedFor}
 use Rattle.entries.specs.Entries.{listGiven, listedOf}
-use Rattle.entries.proofs.Laws.{entry-refused, entry-given, named-laid}
+use Rattle.numbers.specs.AskedLaws.{entry-refused, entry-given}
+use Rattle.entries.proofs.Laws.{named-laid}
 use borrow.Author.Needs.{needs}
 use Rattle.entries.proofs.list.Statement.{statement}
 use Rattle.entries.proofs.list.Tie as tie

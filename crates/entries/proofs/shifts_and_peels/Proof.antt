@@ -1,7 +1,7 @@
 use denote.Ref.{now}
 use Rattle.serial.specs.Serial.{table}
 use Rattle.entries.specs.Entries.{amounts, amountsOf}
-use Rattle.entries.proofs.Laws.{entry-refused, entry-given}
+use Rattle.numbers.specs.AskedLaws.{entry-refused, entry-given}
 use borrow.Author.Needs.{needs}
 use Rattle.entries.proofs.shifts_and_peels.Statement.{statement}
 use Rattle.entries.proofs.shifts_and_peels.Tie as tie

@@ -3,7 +3,7 @@ use Rattle.serial.specs.Serial.{table}
 use mathlib.Core.List.{[], _∷_}
 use Rattle.sweeps.specs.Sweeps.{before, after}
 use Rattle.entries.specs.Entries.{sweepsGiven}
-use Rattle.entries.proofs.Laws.{entry-refused, entry-given}
+use Rattle.numbers.specs.AskedLaws.{entry-refused, entry-given}
 use borrow.Author.Needs.{needs}
 use Rattle.entries.proofs.sweeps.Statement.{statement}
 use Rattle.entries.proofs.sweeps.Tie as tie

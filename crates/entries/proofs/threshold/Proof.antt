@@ -2,9 +2,9 @@ use denote.Ref.{now}
 use Rattle.serial.specs.Serial.{table}
 use mathlib.Core.List.{[], _∷_}
 use Rattle.plans.specs.Plans.{thresholdOf}
-use Rattle.plans.specs.Accepted.{valid}
+use Rattle.tables.specs.Nine.{valid}
 use Rattle.entries.specs.Entries.{thresholds}
-use Rattle.entries.proofs.Laws.{entry-refused, entry-given}
+use Rattle.numbers.specs.AskedLaws.{entry-refused, entry-given}
 use borrow.Author.Needs.{needs}
 use Rattle.entries.proofs.threshold.Statement.{statement}
 use Rattle.entries.proofs.threshold.Tie as tie

@@ -2,12 +2,12 @@ use native.Mathlib.Omega.{arith}
 use Prim.Native.Nat.{_-_}
 use Rattle.blocks.specs.Sums.{column}
 use Rattle.text.specs.Written.{put-length}
-use Rattle.entries.proofs.Laws.{Rowed, rowed-none, rowed-next, rowed-at, rowed-end}
+use Rattle.numbers.specs.Pairs.{Rowed, rowed-none, rowed-next, rowed-at, rowed-end}
 use Rattle.entries.proofs.write_amounts.Statement.{statement}
 use Rattle.entries.proofs.write_amounts.Tie as tie
 
 abbrev Inv-loop : tie.InvT-loop
-Inv-loop out₀ n a at₀ k₀ out at k = Rowed (column (a .shifts)) (column (a .peels)) n out₀ out k at
+Inv-loop out₀ n a at₀ k₀ out at k = Rowed (column (a .shifts)) (column (a .peels)) n 0 out₀ out k at
 
 abbrev μ-loop : tie.MeasureT-loop
 μ-loop out₀ n a at₀ k₀ out at k = n - k

@@ -2,12 +2,12 @@ use native.Mathlib.Omega.{arith}
 use Prim.Native.Nat.{suc, _-_}
 use Rattle.lists.specs.Fusion.{fusionIn}
 use Rattle.text.specs.Written.{put-length}
-use Rattle.entries.proofs.Laws.{Rowed, rowed-none, rowed-next, rowed-at, rowed-end}
+use Rattle.numbers.specs.Pairs.{Rowed, rowed-none, rowed-next, rowed-at, rowed-end}
 use Rattle.entries.proofs.write_blocks.Statement.{statement}
 use Rattle.entries.proofs.write_blocks.Tie as tie
 
 abbrev Inv-loop : tie.InvT-loop
-Inv-loop out₀ a at₀ b₀ out at b = Rowed (fusionIn a .edge) (λ j. fusionIn a .edge (suc j) - 1) (a .blocks) out₀ out b at
+Inv-loop out₀ a at₀ b₀ out at b = Rowed (fusionIn a .edge) (λ j. fusionIn a .edge (suc j) - 1) (a .blocks) 0 out₀ out b at
 
 abbrev μ-loop : tie.MeasureT-loop
 μ-loop out₀ a at₀ b₀ out at b = a .blocks - b

@@ -3,14 +3,15 @@ use denote.Ref.{now}
 use Prim.Native.Nat.{_-_}
 use Rattle.text.specs.Written.{put-length}
 use Rattle.ranges.specs.Code.{listOf}
-use Rattle.entries.proofs.Laws.{Rowed, rowed-none, rowed-next, rowed-at, rowed-end, loopAt, indexAt, list-put}
+use Rattle.numbers.specs.Pairs.{Rowed, rowed-none, rowed-next, rowed-at, rowed-end}
+use Rattle.entries.proofs.Laws.{loopAt, indexAt, list-put}
 use borrow.Author.Needs.{needs}
 use Rattle.entries.proofs.write_list.Statement.{statement}
 use Rattle.entries.proofs.write_list.Tie as tie
 
 abbrev Inv-loop : tie.InvT-loop
 Inv-loop out₀ phase loops size lists at₀ n₀ out at n =
-    Rowed (loopAt (listOf lists 0 loops phase)) (indexAt (listOf lists 0 loops phase)) size out₀ out n at
+    Rowed (loopAt (listOf lists 0 loops phase)) (indexAt (listOf lists 0 loops phase)) size 0 out₀ out n at
 
 abbrev μ-loop : tie.MeasureT-loop
 μ-loop out₀ phase loops size lists at₀ n₀ out at n = size - n

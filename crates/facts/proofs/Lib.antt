@@ -1,0 +1,2 @@
+-- the facts as one row of numbers
+pub mod Laws

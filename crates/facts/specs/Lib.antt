@@ -1,0 +1,2 @@
+-- facts of a table, as numbers
+pub mod Facts
