@@ -56,12 +56,9 @@ fn put_bounds(out: &mut [u8], from: usize, loops: usize, store: &Store) -> usize
     let mut at = from;
     let mut k: usize = 0;
     while k < loops {
-        at = numbers::put_pair(
-            out,
-            at,
-            reader::first_at(store, k),
-            reader::last_at(store, k),
-        );
+        let first = reader::first_at(store, k);
+        let last = reader::last_at(store, k);
+        at = numbers::put_pair(out, at, first, last);
         k += 1;
     }
     at

@@ -17,10 +17,10 @@ loop-holds : tie.Need-loop-holds Inv-loop μ-loop
 loop-holds c = rowed-none
 
 first-at-requires : tie.Need-first-at-requires Inv-loop μ-loop
-first-at-requires c κs = omega (arith, c .before .before .before .before .pre .1, c .before .loop-test .taken)
+first-at-requires c κs = omega (arith, c .before .before .before .pre .1, c .loop-test .taken)
 
 last-at-requires : tie.Need-last-at-requires Inv-loop μ-loop
-last-at-requires c κs = omega (arith, c .before .before .before .before .before .pre .1, c .before .before .loop-test .taken)
+last-at-requires c κs = omega (arith, c .before .before .before .before .pre .1, c .before .loop-test .taken)
 
 put-pair-requires : tie.Need-put-pair-requires Inv-loop μ-loop
 put-pair-requires c κs =
@@ -36,8 +36,8 @@ loop-less c = omega (arith, c .before .before .before .before .before .before .l
 
 loop-again : tie.Need-loop-again Inv-loop μ-loop
 loop-again c = let l = c .before .before .before .before .before .before .loop-test .taken in
-    let e = c .before .before .before .before .first-at .ensures in
-    let f = c .before .before .before .last-at .ensures in
+    let e = c .before .before .before .before .before .first-at .ensures in
+    let f = c .before .before .before .before .last-at .ensures in
     rowed-next (c .before .before .before .before .before .before .before .loop .inv) l (rw f at (rw e at (c .before .before .put-pair .ensures)))
 
 same-length : tie.Need-same-length Inv-loop μ-loop
