@@ -1,8 +1,7 @@
 #!/usr/bin/env bash
 # The builders of tables in C, Fortran and Rust. Each is given the same scripts of calls, and all must give the same bytes: the tables of
 # examples/, calls at the ends of what a field holds (typed, with what they give, in tests/builders/edges.txt), the room's end, and random
-# calls. Accepted tables must be what `vempaldi make` writes for the same table as a text, byte for byte. The bytes that docs/TABLE.md
-# prints are those of examples/example.table, and its examples of each language build that table.
+# calls. Accepted tables must be what `vempaldi make` writes for the same table as a text, byte for byte.
 set -eu
 cd "$(dirname "$0")/.."
 export CARGO_TARGET_DIR="${CARGO_TARGET_DIR:-$PWD/build/cargo}" VEMPALDI_LIB="${VEMPALDI_LIB:-$PWD/build}"
