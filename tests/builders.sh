@@ -52,12 +52,11 @@ all_build() {
 examples() {
     local name
     : > "$made/examples.script"
-    : > "$made/examples.lines"
     for name in example jacobi ll18 river; do
         awk -f tests/builders/from-text.awk "examples/$name.txt" > "$made/one.script"
         cat "$made/one.script" >> "$made/examples.script"
-        echo "0 $(wc -l < "$made/one.script") $(wc -c < "examples/$name.table") x$(hexadecimal "examples/$name.table")" >> "$made/examples.lines"
-    done
+        echo "0 $(wc -l < "$made/one.script") $(wc -c < "examples/$name.table") x$(hexadecimal "examples/$name.table")"
+    done > "$made/examples.lines"
     all_build "$made/examples.script" "$made/examples.lines"
 }
 

@@ -1,6 +1,7 @@
 #!/usr/bin/env bash
-# What docs/TABLE.md says, tried: the table that it prints byte by byte is examples/example.table; each row of bytes below 'The order of tests'
-# has the answer that stands behind it; and its examples of the builders in C, Fortran and Rust, as printed, build that table.
+# What docs/TABLE.md says, tried: the table that it prints byte by byte is examples/example.table; each row of bytes below 'The order of
+# tests' has the answer that stands behind it; its Fortran loops, compiled as printed, leave the numbers that the table's run leaves; and its
+# examples of the builders in C, Fortran and Rust, as printed, build that table.
 set -eu
 cd "$(dirname "$0")/.."
 export CARGO_TARGET_DIR="${CARGO_TARGET_DIR:-$PWD/build/cargo}" VEMPALDI_LIB="${VEMPALDI_LIB:-$PWD/build}"
@@ -57,6 +58,22 @@ answers() {
     [ "$rows" -ge 20 ] || wrong "only $rows rows of bytes with their answers"
 }
 
+# The loops that the table is made from, beginning with every element its own index, as `run` begins; the indices there count from 1.
+fortran_loops() {
+    {
+        printf 'program loops\nimplicit none\ninteger :: i, file\n'
+        block 'From a Fortran loop to a table' fortran | awk '/^do i/ && !begun++ { print "call begin" } { print }'
+        printf "open (newunit=file, file='%s', access='stream', status='replace')\n" "$made/loops.memory"
+        printf 'write (file) a0, a1, a2\nclose (file)\ncontains\nsubroutine begin\n'
+        printf 'a0 = [(real(i - 1, 8), i = 1, 12)]\na1 = a0\na2 = a0\nend subroutine\nend program\n'
+    } > "$made/loops.f90"
+    gfortran -std=f2018 -Wall -Wextra -Werror -fcheck=all -J"$made" "$made/loops.f90" -o "$made/loops"
+    rm -f "$made/loops.memory"
+    "$made/loops"
+    "$CARGO_TARGET_DIR/release/vempaldi" run examples/example.table -p 2 -o "$made/run.memory" > /dev/null
+    cmp "$made/run.memory" "$made/loops.memory" || wrong "the Fortran loops leave other numbers than the table's run"
+}
+
 c_example() {
     {
         printf '#include "vempaldi_builder.h"\n#include <stdio.h>\nint main(void)\n{\n'
@@ -93,9 +110,10 @@ rust_example() {
 cargo build --quiet --release --offline --manifest-path command/Cargo.toml
 byte_by_byte
 answers
+fortran_loops
 for language in c fortran rust; do
     rm -f "$made/$language.table"
     "${language}_example"
     cmp examples/example.table "$made/$language.table" || wrong "the example of the builder in $language builds another table"
 done
-echo "$document: its bytes are the example's, $rows rows have their answers, and the builders' examples build the example"
+echo "$document: its bytes are the example's, $rows rows have their answers, its Fortran loops and its builders agree with it"
