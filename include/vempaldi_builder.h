@@ -4,7 +4,7 @@
  *     vempaldi_builder_start(&b);
  *     int64_t from = vempaldi_builder_array(&b, 12);
  *     int64_t to = vempaldi_builder_array(&b, 12);
- *     vempaldi_builder_loop(&b, 1, 10, to, 0);               // for i = 1 to 10: to[i] =
+ *     vempaldi_builder_open_loop(&b, 1, 10, to, 0);          // for i = 1 to 10: to[i] =
  *     vempaldi_builder_read(&b, from, -1);                   //     from[i-1]
  *     vempaldi_builder_read(&b, from, 1);                    //     from[i+1]
  *     vempaldi_builder_operation(&b, VEMPALDI_ADD);          //     +
@@ -106,18 +106,28 @@ static inline int vempaldi_builder_refers(struct vempaldi_builder *builder, int6
     return vempaldi_builder_fits(builder, array, 0, 255) && vempaldi_builder_fits(builder, offset, -32768, 32767);
 }
 
+/* Used by the calls below: a record with one unsigned field of so many bytes. */
+static inline void vempaldi_builder_one_field(struct vempaldi_builder *builder, enum vempaldi_record kind, int64_t number, int bytes)
+{
+    uint8_t *body;
+    if (!vempaldi_builder_fits(builder, number, 0, ((int64_t)1 << (8 * bytes)) - 1))
+        return;
+    body = vempaldi_builder_record(builder, kind);
+    if (body != NULL)
+        vempaldi_builder_put(body, number, bytes);
+}
+
 /* An array of `length` elements. Gives its number, by which loops and reads name it: 0 for the first, and so on. */
 static inline int64_t vempaldi_builder_array(struct vempaldi_builder *builder, int64_t length)
 {
-    uint8_t *body;
-    if (vempaldi_builder_fits(builder, length, 0, 4294967295) && (body = vempaldi_builder_record(builder, VEMPALDI_RECORD_ARRAY)) != NULL)
-        vempaldi_builder_put(body, length, 4);
+    vempaldi_builder_one_field(builder, VEMPALDI_RECORD_ARRAY, length, 4);
     return builder->arrays++;
 }
 
 /* Opens a loop: i goes from `first` to `last`, and element i + `offset` of the array `destination` is stored. The items of its body follow;
  * the next loop or the end closes it. (One statement a loop; a call that opens a further statement can come to stand beside this one.) */
-static inline void vempaldi_builder_loop(struct vempaldi_builder *builder, int64_t first, int64_t last, int64_t destination, int64_t offset)
+static inline void vempaldi_builder_open_loop(struct vempaldi_builder *builder, int64_t first, int64_t last, int64_t destination,
+                                              int64_t offset)
 {
     uint8_t *body;
     if (!vempaldi_builder_fits(builder, first, 0, 4294967295) || !vempaldi_builder_fits(builder, last, 0, 4294967295))
@@ -149,20 +159,17 @@ static inline void vempaldi_builder_read(struct vempaldi_builder *builder, int64
 /* An item: a whole number, 0 to 4,294,967,295. */
 static inline void vempaldi_builder_constant(struct vempaldi_builder *builder, int64_t value)
 {
-    uint8_t *body;
-    if (vempaldi_builder_fits(builder, value, 0, 4294967295) && (body = vempaldi_builder_record(builder, VEMPALDI_RECORD_CONSTANT)) != NULL)
-        vempaldi_builder_put(body, value, 4);
+    vempaldi_builder_one_field(builder, VEMPALDI_RECORD_CONSTANT, value, 4);
 }
 
 /* An item: an operation, one of enum vempaldi_operation. */
 static inline void vempaldi_builder_operation(struct vempaldi_builder *builder, int64_t operation)
 {
-    uint8_t *body;
-    if (vempaldi_builder_fits(builder, operation, 0, 255) && (body = vempaldi_builder_record(builder, VEMPALDI_RECORD_OPERATION)) != NULL)
-        vempaldi_builder_put(body, operation, 1);
+    vempaldi_builder_one_field(builder, VEMPALDI_RECORD_OPERATION, operation, 1);
 }
 
-/* The end record. Gives the first error of all calls: with VEMPALDI_BUILT, the table is the first `length` of `bytes`. */
+/* The end record. Gives the first error of all calls: with VEMPALDI_BUILT, the table is the first `length` of `bytes`. (Calls behind it go on
+ * writing, and the library refuses that with 8; vempaldi_builder_start begins another table.) */
 static inline enum vempaldi_builder_error vempaldi_builder_end(struct vempaldi_builder *builder)
 {
     vempaldi_builder_record(builder, VEMPALDI_RECORD_END);
