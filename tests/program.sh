@@ -1,5 +1,5 @@
 #!/usr/bin/env bash
-# The program behind bin/plan: the paper's listing, the paper's line for an empty table, and words that are not to reach the program.
+# The program behind bin/plan: the example's listing, the line for an empty table, and words that are not to reach the program.
 set -eu
 cd "$(dirname "$0")/.."
 
@@ -25,4 +25,4 @@ says 2 "bin/plan: P is a number from 0 to 255, not '-1'" bin/plan -1 examples/ex
 says 2 "bin/plan: cannot read 'no-such-file'" bin/plan 2 no-such-file
 says 2 "bin/plan: cannot read 'examples'" bin/plan 2 examples
 says 2 "bin/plan: usage: bin/plan P FILE" bin/plan 2
-echo "bin/plan says what the paper says, and takes no number that is not a byte"
+echo "bin/plan says what docs/TABLE.md says, and takes no number that is not a byte"

@@ -1,6 +1,6 @@
 #!/usr/bin/env bash
-# Compiles and runs the examples of docs/REFUSALS.md that are in C, those of 13 and 15, as they are printed there, on the paper's
-# example. A comment in each says 'answer is' and four numbers: the call must answer these, and the first of them must be the
+# Compiles and runs the examples of docs/REFUSALS.md that are in C, those of 13 and 15, as they are printed there, on
+# examples/example.table. A comment in each says 'answer is' and four numbers: the call must answer these, and the first of them must be the
 # section's own number.
 set -eu
 cd "$(dirname "$0")/.."

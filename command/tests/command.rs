@@ -1,4 +1,4 @@
-//! What each command does. What is expected is typed from the paper, and for LL18 and Jacobi from the thesis that gives their shifts,
+//! What each command does. What is expected is typed from docs/TABLE.md, and for LL18 and Jacobi from the thesis named there, which gives their shifts,
 //! peels and sweeps.
 
 mod common;
@@ -6,7 +6,7 @@ mod common;
 use common::{bytes, fed, out_name, run, EXAMPLE};
 
 #[test]
-fn plan_prints_the_papers_listing() {
+fn plan_prints_the_examples_listing() {
     let told = run(&["plan", EXAMPLE, "-p", "2"]);
     let listing = "loop 0 0 0\nloop 1 1 1\nblock 0 1 5\nblock 1 6 10\nfused 0 0 1 5\nfused 0 1 1 4\n\
                    fused 1 0 6 10\nfused 1 1 7 10\npeeled 0 1 5 6\nsweeps 6 5\n";
@@ -95,7 +95,7 @@ fn run_agrees_with_the_plain_run_in_every_order() {
 }
 
 #[test]
-fn run_leaves_the_papers_values_and_counts_idle_bytes() {
+fn run_leaves_the_known_values_and_counts_idle_bytes() {
     let words = ["run", EXAMPLE, "-p", "2", "--values", "--order", "1,1,1,1,1,1,1,1,1,1,1,1"];
     let told = run(&words);
     for line in ["A2[1] 3", "A2[5] 12", "A2[10] 21"] {

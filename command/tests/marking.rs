@@ -1,4 +1,4 @@
-//! Refusal 9 shows the loop with the read that it names marked. What is expected is typed from the paper: which read is the lowest that
+//! Refusal 9 shows the loop with the read that it names marked. What is expected is typed from docs/TABLE.md: which read is the lowest that
 //! collides, and, with the read's offset o and the destination's c, that iteration i reads where iteration i + (o - c) stores.
 
 mod common;
@@ -43,7 +43,7 @@ fn an_earlier_iteration_stores_what_is_read() {
     );
 }
 
-/// The paper's: 1 to 10, A0 of 21 elements, A0[i] = A0[i+9]. Iteration 1 alone has another that far off.
+/// A known result: 1 to 10, A0 of 21 elements, A0[i] = A0[i+9]. Iteration 1 alone has another that far off.
 #[test]
 fn a_later_iteration_stores_what_is_read() {
     says(

@@ -1,5 +1,5 @@
 //! `--raw`: what scripts read. The standard output has the library's answers and nothing else, byte for byte; the standard error has
-//! nothing at all where there is no usage or input/output error. What is expected is typed from the paper.
+//! nothing at all where there is no usage or input/output error. What is expected is typed from docs/TABLE.md.
 
 mod common;
 
@@ -9,7 +9,7 @@ use vempaldi_checks::encoder::Encoder;
 
 const ADD: u8 = 1;
 
-/// The paper's listing of its example on two processors.
+/// The listing of the example on two processors.
 const LISTING: &str = "loop 0 0 0\nloop 1 1 1\nblock 0 1 5\nblock 1 6 10\nfused 0 0 1 5\nfused 0 1 1 4\n\
                        fused 1 0 6 10\nfused 1 1 7 10\npeeled 0 1 5 6\nsweeps 6 5\n";
 
@@ -122,7 +122,7 @@ fn run_writes_its_memory_to_a_file() {
     is(&run(&["run", "--raw", EXAMPLE, "-p", "2", "--order", "none", "-o", &out.0]), 0, "idle 0\n");
     let memory = out.read();
     assert_eq!(memory.len(), 36 * 8);
-    // The paper's values of A2, which has the elements 24 to 35.
+    // The known values of A2, which has the elements 24 to 35.
     for (element, value) in [(24 + 1, 3.0_f64), (24 + 5, 12.0), (24 + 10, 21.0)] {
         assert_eq!(memory[8 * element..8 * element + 8], value.to_le_bytes());
     }

@@ -1,4 +1,4 @@
-//! Tables that the paper gives in words, typed byte by byte or record by
+//! Tables that docs/TABLE.md gives in words, typed byte by byte or record by
 //! record.
 
 use crate::encoder::Encoder;

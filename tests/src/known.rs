@@ -1,4 +1,4 @@
-//! The known results of the paper that concern planning and running.
+//! The known results of docs/TABLE.md that concern planning and running.
 
 use crate::blocks::{plan, Range};
 use crate::encoder::Encoder;
@@ -139,7 +139,7 @@ fn idle_bytes_are_counted() {
 }
 
 #[test]
-fn zero_divided_by_zero_is_stored_as_the_paper_says() {
+fn zero_divided_by_zero_is_stored_with_the_bits_of_the_one_nan() {
     let table = Encoder::new().array(1).a_loop(0, 0, 0, 0).constant(0).constant(0).operation(4);
     let mut memory = [1.0];
     plain_run(&table.end().bytes, &mut memory).expect("accepted");

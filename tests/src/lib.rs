@@ -1,4 +1,4 @@
-//! A second implementation of the paper, made to be compared with the proved
+//! A second implementation of what docs/TABLE.md says, made to be compared with the proved
 //! library, and the calls into that library.
 
 pub mod blocks;

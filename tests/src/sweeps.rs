@@ -1,4 +1,4 @@
-//! Sweeps over the arrays before and after fusion (000, equation 4.1).
+//! Sweeps over the arrays before and after fusion (docs/TABLE.md, 'Sweeps').
 
 use crate::table::{Loop, Table};
 use std::collections::BTreeSet;

@@ -10,11 +10,13 @@
 //! }
 //! ```
 
+mod builder;
 mod foreign;
 mod planning;
 mod refusal;
 mod running;
 
+pub use builder::{BuildError, BuildFault, Builder, Operation, BODY_LENGTHS, BUILDER_BYTES};
 pub use planning::{
     blocks, check, fused_list, join, join_into, listing, peeled_list, shifts_and_peels, sweeps, threshold, Amounts, Block,
     Iteration, Sweeps,

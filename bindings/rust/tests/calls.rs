@@ -1,5 +1,5 @@
-//! Every call of the wrapper on the paper's example, and every ground that a caller can meet with it. What is expected is typed from
-//! the paper.
+//! Every call of the wrapper on examples/example.table, and every ground that a caller can meet with it. What is expected is typed
+//! from docs/TABLE.md.
 
 use vempaldi::*;
 
@@ -14,7 +14,7 @@ fn ground<T: std::fmt::Debug>(result: Result<T, Refusal>) -> u64 {
 }
 
 #[test]
-fn the_example_is_planned_as_the_paper_says() {
+fn the_example_is_planned_as_its_listing_says() {
     assert_eq!(check(EXAMPLE), Ok(()));
     assert_eq!(shifts_and_peels(EXAMPLE), Ok(vec![Amounts { shift: 0, peel: 0 }, Amounts { shift: 1, peel: 1 }]));
     assert_eq!(threshold(EXAMPLE), Ok(2));
