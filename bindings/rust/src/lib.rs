@@ -1,29 +1,33 @@
 //! Plans for a run of parallel loops made into one (shift-and-peel): safe calls into the proved library.
 //!
 //! A loop table is a row of bytes. Every call gives its result or a [`Refusal`], and a refused call leaves what it was lent as found.
+//! Enums, and structs that calls give, are `non_exhaustive`: a later release may add to them, and callers still compile.
 //!
-//! ```no_run
-//! let table = std::fs::read("examples/example.table").unwrap();
-//! match vempaldi::blocks(&table, 2) {
-//!     Ok(blocks) => println!("{} blocks", blocks.len()),
-//!     Err(refusal) => eprintln!("{refusal}"),
+//! ```
+//! let table = std::fs::read("../../examples/example.table").unwrap();
+//! for (processor, block) in vempaldi::blocks(&table, 2)?.iter().enumerate() {
+//!     println!("processor {processor}: indices {} to {}", block.first, block.last);
 //! }
+//! let refusal = vempaldi::blocks(&table, 6).unwrap_err();
+//! assert_eq!(refusal.to_string(), "refused 11 short: fewer indices than processors, or a block below the threshold");
+//! # Ok::<(), vempaldi::Refusal>(())
 //! ```
 
+mod facts;
 mod foreign;
+mod lent;
 mod planning;
 mod refusal;
 mod running;
+mod sizes;
+mod version;
 
+pub use facts::{facts, ArrayFacts, Facts, LoopFacts};
 pub use planning::{
-    blocks, check, fused_list, join, join_into, listing, peeled_list, shifts_and_peels, sweeps, threshold, Amounts, Block,
-    Iteration, Sweeps,
+    blocks, check, fused_list, fused_ranges, join, join_into, listing, peeled_list, peeled_ranges, shifts_and_peels, sweeps,
+    threshold, Amounts, Block, Iteration, Sweeps,
 };
 pub use refusal::{Ground, Refusal};
 pub use running::{plain_run, run, step, Report, State};
-
-/// The largest number of processors of a plan.
-pub const MOST_PROCESSORS: u32 = 64;
-
-/// The longest accepted table, in bytes.
-pub const MOST_TABLE_BYTES: usize = 2_065;
+pub use sizes::*;
+pub use version::{version, VERSION, VERSION_MAJOR, VERSION_MINOR, VERSION_PATCH};
