@@ -21,7 +21,7 @@ compare "sections that can be written (none is expected)" "" "$written"
 needed=$(nm --undefined-only --format=posix "$library" | sed -nE 's/^([^ ]+) U.*/\1/p' | grep -vxE 'mem(cpy|set|move|cmp)' || true)
 compare "what it needs beside memcpy, memset, memmove and memcmp (none is expected)" "" "$needed"
 
-declared=$(sed -nE 's/^(void|uint64_t) (vempaldi_[a-z_]+)\(.*/\2/p' include/vempaldi.h | sort)
+declared=$(sed -nE 's/^(void|uint32_t|uint64_t) (vempaldi_[a-z_]+)\(.*/\2/p' include/vempaldi.h | sort)
 defined=$(nm --defined-only --extern-only --format=posix "$library" | sed -nE 's/^([^ ]+) [A-Z] .*/\1/p' | sort)
 compare "functions, those of the header on the left" "$declared" "$defined"
 echo "libvempaldi.a: nothing that a call could write, and the $(printf '%s\n' "$defined" | wc -l) functions of the header"
