@@ -101,7 +101,7 @@ values_of_fortran() {
 
 # The public constants, and as TYPE::VARIANT those of enums whose variants have numbers.
 names_of_rust() {
-    sed -nE 's/^ *pub const ([A-Z0-9_]+):.*/\1/p' bindings/rust/src/*.rs | grep -vx BODY_LENGTHS
+    grep -ohE '\bpub const [A-Z0-9_]+:' bindings/rust/src/*.rs | sed 's/^pub const //; s/:$//' | grep -vx BODY_LENGTHS
     awk '/^pub enum / { type = $3 } /^}/ { type = "" } type && /^    [A-Z][A-Za-z]* = [0-9]+,/ { print type "::" $1 }' bindings/rust/src/*.rs
 }
 
