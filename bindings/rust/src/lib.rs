@@ -1,7 +1,6 @@
 //! Plans for a run of parallel loops made into one (shift-and-peel): safe calls into the proved library.
 //!
 //! A loop table is a row of bytes. Every call gives its result or a [`Refusal`], and a refused call leaves what it was lent as found.
-//! Enums, and structs that calls give, are `non_exhaustive`: a later release may add to them, and callers still compile.
 //!
 //! ```
 //! let table = std::fs::read("../../examples/example.table").unwrap();
@@ -11,6 +10,33 @@
 //! let refusal = vempaldi::blocks(&table, 6).unwrap_err();
 //! assert_eq!(refusal.to_string(), "refused 11 short: fewer indices than processors, or a block below the threshold");
 //! # Ok::<(), vempaldi::Refusal>(())
+//! ```
+//!
+//! Enums, and structs that calls give, are `non_exhaustive`: a later release may add to them, and callers still compile. So a match has an
+//! arm for what is newer than the program:
+//!
+//! ```
+//! fn word(report: vempaldi::Report) -> &'static str {
+//!     match report {
+//!         vempaldi::Report::Iteration { .. } => "an iteration",
+//!         vempaldi::Report::Waiting => "waiting",
+//!         vempaldi::Report::Finished => "finished",
+//!         _ => "something that this program does not know",
+//!     }
+//! }
+//! ```
+//!
+//! Without it, the match is an error even if it names every variant of today:
+//!
+//! ```compile_fail
+//! fn word(report: vempaldi::Report) -> &'static str {
+//!     match report {
+//!         vempaldi::Report::Iteration { .. } => "an iteration",
+//!         vempaldi::Report::Waiting => "waiting",
+//!         vempaldi::Report::Finished => "finished",
+//!         vempaldi::Report::Other(_) => "something that this program does not know",
+//!     }
+//! }
 //! ```
 
 mod facts;
