@@ -195,6 +195,17 @@ once() {
     [ -z "$found" ] || { echo "constants: what has a place of its own is written down again in" $found; bad=1; }
 }
 
+# Each ground stands in the documents with its number and its word.
+documented() {
+    local name word number
+    while read -r _ name word; do
+        number=${name#WORD_}
+        [ "$number" -gt 0 ] || continue
+        grep -qE "^\|.*\| *$number $word \|" <(sed 's/|/||/g' README.md) || { echo "constants: README.md has no cell '$number $word'"; bad=1; }
+        grep -q "^## $number $word: " docs/REFUSALS.md || { echo "constants: docs/REFUSALS.md has no section '## $number $word: '"; bad=1; }
+    done < <(grep '^c WORD_' "$made/all")
+}
+
 for language in c fortran rust; do
     "values_of_$language" > "$made/values"
     sed "s/^/$language /; s/  */ /g" "$made/values"
@@ -203,5 +214,6 @@ wrong=$(compare)
 [ -z "$wrong" ] || { printf '%s\n' "$wrong"; bad=1; }
 once '4, *11, *3, *4, *1' include/vempaldi.h bindings/rust/src/builder.rs bindings/fortran/vempaldi_builder.f90
 once "[\"'](torn|crowd|unlike)[\"']" include/vempaldi.h bindings/rust/src/refusal.rs bindings/fortran/vempaldi.f90
+documented
 [ "$bad" -eq 0 ] || exit 1
 echo "constants: $(cut -d' ' -f2 "$made/all" | sort -u | wc -l) of C, Fortran and Rust, alike where they are not said to be absent"
