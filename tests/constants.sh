@@ -54,9 +54,16 @@ C
     echo '}'
 }
 
+# The headers are also C of 1999, and C++ where there is a compiler of it.
 values_of_c() {
     program_of_c > "$made/constants.c"
     gcc -std=c11 -Wall -Wextra -Werror -pedantic -Iinclude "$made/constants.c" -o "$made/c"
+    gcc -std=c99 -Wall -Wextra -Werror -pedantic -Iinclude -fsyntax-only "$made/constants.c"
+    if command -v g++ > /dev/null; then
+        g++ -std=c++11 -Wall -Wextra -Werror -pedantic -Iinclude -fsyntax-only -x c++ "$made/constants.c"
+    else
+        echo "constants: no g++, so the headers are not tried as C++" >&2
+    fi
     "$made/c"
 }
 
