@@ -26,12 +26,29 @@ facts() {
         END { printf "%s", bounds; print "elements", elements }' "$1"
 }
 
-# One processor's list, from the listing: fused in rising order of index plus shift, equal sums in loop order; peeled loop by loop.
-list() {
-    awk -v kind="$1" -v processor="$2" '
+# All lists, from the listing: processor, phase, and in the order of the list loop and index. A fused list (0) rises in index plus shift, equal
+# sums in loop order; a peeled one (1) goes loop by loop.
+lists() {
+    awk '
         $1 == "loop" { shift[$2] = $3 }
-        $1 == kind && $2 == processor { for (i = $4; i <= $5; i++) print (kind == "fused" ? i + shift[$3] : 0), $3, i }' |
-        sort -n -k1,1 -k2,2 -k3,3 | awk -v kind="$1" -v processor="$2" '{ print kind "-iteration", processor, $2, $3 }'
+        $1 == "fused" { for (i = $4; i <= $5; i++) print $2, 0, i + shift[$3], $3, i }
+        $1 == "peeled" { for (i = $4; i <= $5; i++) print $2, 1, 0, $3, i }' | sort -n -k1,1 -k2,2 -k3,3 -k4,4 -k5,5
+}
+
+# What is told of each processor: its ranges, as the listing has them, and its lists.
+of_processors() {
+    awk -v processors="$1" '
+        function answers(one, other) { print "answer " one " 0 0 0 0"; print "answer " other " 0 0 0 0" }
+        FILENAME == ARGV[1] { list[$1] = list[$1] ($2 ? "peeled" : "fused") "-iteration " $1 " " $4 " " $5 "\n"; next }
+        $1 == "fused" || $1 == "peeled" { part[$2] = part[$2] $0 "\n" }
+        END {
+            for (b = 0; b < processors; b++) {
+                answers("fused ranges", "peeled ranges")
+                printf "%s", part[b]
+                answers("fused list", "peeled list")
+                printf "%s", list[b]
+            }
+        }' "$made/lists" -
 }
 
 # What every plan has, whether or not it is accepted for so many processors: numbers of the table.
@@ -55,23 +72,18 @@ joined() {
 }
 
 accepted() {
-    local processors=$1 listing=$2 b own iterations
+    local processors=$1 listing=$2 own iterations
     of_table
     answers "0 0 0 0" blocks
     printf '%s\n' "$listing" | grep '^block '
-    for ((b = 0; b < processors; b++)); do
-        answers "0 0 0 0" "fused ranges" "peeled ranges"
-        printf '%s\n' "$listing" | grep -E "^(fused|peeled) $b " || true
-        answers "0 0 0 0" "fused list" "peeled list"
-        printf '%s\n' "$listing" | list fused "$b"
-        printf '%s\n' "$listing" | list peeled "$b"
-    done
+    printf '%s\n' "$listing" | lists > "$made/lists"
+    printf '%s\n' "$listing" | of_processors "$processors"
     answers "10 0 0 0" "fused ranges" "peeled ranges" "fused list" "peeled list"
     answers "0 0 0 0" listing
     echo "listing-bytes $(printf '%s\n' "$listing" | wc -c)"
     joined
     # The order names processor 0 twice, then one that there is not.
-    own=$(printf '%s\n' "$listing" | list fused 0 | wc -l)
+    own=$(grep -c '^0 0 ' "$made/lists" || true)
     iterations=$(awk '$1 == "loop" { n += $3 - $2 + 1 } END { print n }' "$text")
     answers "0 0 0 0" "plain run" run
     echo "idle $((own < 2 ? 3 - own : 1))"
