@@ -29,4 +29,5 @@ same libvempaldi.a "$(nm --defined-only --extern-only --format=posix "$library" 
 same bindings/rust/src/foreign.rs "$(sed -nE 's/^ *pub fn (vempaldi_[a-z_]+)\(.*/\1/p' bindings/rust/src/foreign.rs | sort)"
 same bindings/fortran/vempaldi.f90 "$(sed -nE "s/.*bind\(c, name='(vempaldi_[a-z_]+)'\).*/\1/p" bindings/fortran/vempaldi.f90 | sort)"
 same README.md "$(sed -n '/^| function /,/^$/p' README.md | grep -oE 'vempaldi_[a-z_]+' | sort -u)"
-echo "libvempaldi.a: nothing that a call could write, and the $(printf '%s\n' "$declared" | wc -l) functions of the header, which the bindings have too"
+count=$(printf '%s\n' "$declared" | wc -l)
+echo "libvempaldi.a: nothing that a call could write, and the $count functions of the header, which the bindings have too"
