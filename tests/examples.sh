@@ -1,77 +1,177 @@
 #!/usr/bin/env bash
-# tests/examples.sh c|rust|fortran: compiles that example against the library of build/ and runs it on the paper's example for two
-# processors, and on a table that is refused with 9. What it must print is typed from the paper, the listing in tests/example.listing.
+# tests/examples.sh c|rust|fortran: compiles that example against the library of build/ and runs it on every table of examples/ for several
+# numbers of processors, on tables that are refused, and with arguments that are no good.
+# What it must print is made without it and without the library. The listing is the proved program's (bin/plan), and for the example on two
+# processors the typed one; counts are added up from that listing and from the table's text; the numbers are worked out from the text.
 set -eu
 cd "$(dirname "$0")/.."
+case ${1:-} in
+c | rust | fortran) language=$1 ;;
+*) echo "usage: tests/examples.sh c|rust|fortran" >&2; exit 2 ;;
+esac
 library=${VEMPALDI_LIB:-build}
 export CARGO_TARGET_DIR="$PWD/build/cargo"
 made=build/examples
 mkdir -p "$made"
+runs=0
 
-listing=$(cat tests/example.listing)
+compile() {
+    case $language in
+    c)
+        gcc -std=c11 -Wall -Wextra -Werror -pedantic examples/c/example.c $(pkg-config --cflags --libs "$library/vempaldi.pc") -o "$made/c"
+        ;;
+    rust)
+        cargo build --quiet --release --offline --manifest-path bindings/rust/Cargo.toml --example example
+        cp "$CARGO_TARGET_DIR/release/examples/example" "$made/rust"
+        ;;
+    fortran)
+        gfortran -std=f2018 -Wall -Wextra -Werror -fcheck=all -J"$made" bindings/fortran/vempaldi.f90 examples/fortran/example.f90 \
+            -L"$library" -lvempaldi -o "$made/fortran"
+        ;;
+    esac
+}
+
+# says STATUS OUTPUT ERRORS WORD..: what the example does with these words.
+says() {
+    local status=$1 output=$2 errors=$3 told=0
+    shift 3
+    runs=$((runs + 1))
+    "$made/$language" "$@" > "$made/output" 2> "$made/errors" || told=$?
+    if [ "$told" -ne "$status" ] || [ "$(cat "$made/output")" != "$output" ] || [ "$(cat "$made/errors")" != "$errors" ]; then
+        echo "the $language example with $*: status $told, and $status is expected; < is expected, > what it says:"
+        diff <(printf '%s\n' "$output" "$errors") <(printf '%s\n' "$(cat "$made/output")" "$(cat "$made/errors")") || true
+        exit 1
+    fi
+}
+
+# The iterations that the listing has before the barrier for a processor, and the threshold: the largest sum of shift and peel of one loop.
+added_up() {
+    awk -v processor="$1" '
+        $1 == "loop" && threshold < $3 + $4 { threshold = $3 + $4 }
+        $1 == "fused" && $2 == processor { count += $5 - $4 + 1 }
+        END { print count + 0, threshold + 0 }'
+}
+
+# What an accepted table's example prints, from its listing.
+expected() {
+    local listing=$1 processors=$2 own threshold
+    read -r own threshold < <(printf '%s\n' "$listing" | added_up $((processors - 1)))
+    printf '%s\n' "$listing" "threshold $threshold"
+    # The last processor is named for every iteration, and idles past its own.
+    [ "$language" != fortran ] || echo "idle $((iterations - own))"
+    printf '%s\n' "$iterations iterations on $elements elements, same bits as the plain run" "$last_array"
+}
+
+# The line of a refusal, from the call that is refused, number, word and place; a read for 9.
+refusal() {
+    local call=$1 number=$2 word=$3 place=$4 read=${5:-}
+    if [ "$language" != rust ]; then
+        echo "$call: refused $number $word, place $place${read:+, read $read}"
+        return
+    fi
+    case $number in
+    1) echo "refused 1 torn at byte $place: the bytes end inside a record or before the end record" ;;
+    2) echo "refused 2 kind at byte $place: a kind is unknown or out of its order, or there is no array or loop before the end" ;;
+    6) echo "refused 6 body at byte $place: too few waiting numbers, a ninth, or not one left" ;;
+    8) echo "refused 8 tail at byte $place: bytes follow the end record" ;;
+    9) echo "refused 9 serial at loop $place, read $read: two different iterations of one loop meet at an element, one storing" ;;
+    10) echo "refused 10 processors: P is outside 1 to 64, or a processor's number is not below P" ;;
+    11) echo "refused 11 short: fewer indices than processors, or a block below the threshold" ;;
+    esac
+}
+
+try_tables() {
+    local text table processors listing
+    for table in examples/*.table; do
+        text=${table%.table}.txt
+        { read -r last_array; read -r elements iterations; } < <(awk -f tests/text-run.awk "$text")
+        for processors in 0 1 2 3 4 5 6 7 8 13 31 63 64 65 255; do
+            listing=$(bin/plan "$processors" "$table")
+            case $listing in
+            "refused 10 0") says 1 "" "$(refusal listing 10 processors 0)" "$table" "$processors" ;;
+            "refused 11 0") says 1 "" "$(refusal listing 11 short 0)" "$table" "$processors" ;;
+            *) says 0 "$(expected "$listing" "$processors")" "" "$table" "$processors" ;;
+            esac
+        done
+    done
+}
+
+# The example on two processors by what is typed; Fortran takes two where it is given no number.
+try_typed() {
+    local typed
+    elements=36 iterations=20 last_array="last array:$(printf ' %s.000' 0 3 6 8 10 12 14 16 18 20 21 11)"
+    typed=$(expected "$(cat tests/example.listing)" 2)
+    says 0 "$typed" "" examples/example.table 2
+    says 0 "$typed" "" examples/example.table 00000000002
+    [ "$language" != fortran ] || says 0 "$typed" "" examples/example.table
+}
 
 # 1 to 10, A0 of 21 elements, A0[i] = A0[i] + A0[i+10] + A0[i+9] + A0[i+1]: the reads 2 and 3 meet the destination in another iteration.
-refused=$made/refused.table
-{
+serial_table() {
     printf '\1\25\0\0\0'
     printf '\2\1\0\0\0\12\0\0\0\0\0\0'
     printf '\3\0\0\0\3\0\12\0\5\1\3\0\11\0\5\1\3\0\1\0\5\1\6'
-} > "$refused"
-
-# A run that must end with status 1: its standard output, then its standard error.
-refuses() {
-    local status=0
-    "$@" 2> "$made/errors" || status=$?
-    cat "$made/errors"
-    [ "$status" -eq 1 ] || echo "status $status"
 }
 
-run_c() {
-    gcc -std=c11 -Wall -Wextra -Werror -pedantic examples/c/example.c $(pkg-config --cflags --libs "$library/vempaldi.pc") -o "$made/c"
-    "$made/c" examples/example.table 2 12 12 12
-    refuses "$made/c" "$refused" 2 21
+# Sixteen arrays, fifteen loops of the longest body that is accepted (16 constants, 15 sums, one change of sign), and a loop of 20 constants and
+# 12 sums that leave eight numbers. The end record, byte 2,076, finds them. No refusal lies further on.
+longest_table() {
+    local n constant='\4\1\0\0\0' sum='\5\1' negate='\5\5' head='\2\0\0\0\0\0\0\0\0\0\0\0'
+    repeat 16 '\1\1\0\0\0'
+    for n in {1..15}; do
+        printf "$head$constant"
+        repeat 15 "$constant$sum"
+        printf "$negate"
+    done
+    printf "$head"
+    repeat 8 "$constant"
+    repeat 12 "$sum$constant"
+    printf '\6'
 }
-c_says="$listing
-threshold 2
-20 steps, same bits as the plain run
-last array: 0 3 6 8 10 12 14 16 18 20 21 11
-listing: refused 9, place 0, read 2"
 
-run_rust() {
-    cargo run --quiet --release --offline --manifest-path bindings/rust/Cargo.toml --example example -- examples/example.table 2
-    refuses "$CARGO_TARGET_DIR/release/examples/example" "$refused" 2
+# repeat COUNT BYTES
+repeat() {
+    local n
+    for ((n = 0; n < $1; n++)); do printf "$2"; done
 }
-rust_says='loop 0: shift 0, peel 0
-loop 1: shift 1, peel 1
-processor 0: indices 1 to 5, 9 fused and 2 peeled iterations
-processor 1: indices 6 to 10, 9 fused and 0 peeled iterations
-20 steps, same bits as the plain run: true
-A2[1] = 3, A2[5] = 12, A2[10] = 21
-refused 9 serial at loop 0, read 2: two different iterations of one loop meet at an element, one storing'
 
-run_fortran() {
-    gfortran -std=f2018 -Wall -Wextra -Werror -fcheck=all -J"$made" bindings/fortran/vempaldi.f90 examples/fortran/example.f90 \
-        -L"$library" -lvempaldi -o "$made/fortran"
-    "$made/fortran" examples/example.table
-    refuses "$made/fortran" "$refused"
+try_refused() {
+    local table=$made/refused.table
+    serial_table > "$table"
+    says 1 "" "$(refusal facts 9 serial 0 2)" "$table" 2
+    longest_table > "$table"
+    [ "$(wc -c < "$table")" -eq 2077 ] || { echo "the longest refused table has $(wc -c < "$table") bytes, not 2077"; exit 1; }
+    says 1 "" "$(refusal facts 6 body 2076)" "$table" 2
+    head -c 3000 /dev/zero >> "$table"
+    says 1 "" "$(refusal facts 6 body 2076)" "$table" 2
+    head -c 2076 "$table" > "$made/torn.table"
+    says 1 "" "$(refusal facts 1 torn 2076)" "$made/torn.table" 2
+    : > "$table"
+    says 1 "" "$(refusal facts 1 torn 0)" "$table" 2
+    head -c 60 examples/example.table > "$table"
+    says 1 "" "$(refusal facts 1 torn 60)" "$table" 2
+    cat examples/example.table README.md > "$table"
+    says 1 "" "$(refusal facts 8 tail 61)" "$table" 2
+    says 1 "" "$(refusal facts 2 kind 0)" README.md 2
+    says 1 "" "$(refusal listing 10 processors 0)" examples/example.table 4294967295
 }
-fortran_says="$listing
-processor 0: 9 fused and 2 peeled iterations
-processor 1: 9 fused and 0 peeled iterations
-idle 3
-A2(1) = 3, A2(5) = 12, A2(10) = 21
-same bits as the plain run
-listing: refused 9 serial, place 0, read 2"
 
-case ${1:-} in
-c | rust | fortran) ;;
-*) echo "usage: tests/examples.sh c|rust|fortran" >&2; exit 2 ;;
-esac
-says=${1}_says
-told=$("run_$1")
-if [ "$told" != "${!says}" ]; then
-    echo "the $1 example says:"
-    diff <(printf '%s\n' "${!says}") <(printf '%s\n' "$told") || true
-    exit 1
-fi
-echo "the $1 example says what the paper says"
+try_words() {
+    local word usage="usage: example FILE P"
+    [ "$language" != fortran ] || usage="usage: example FILE [P]"
+    for word in two '' -1 +2 ' 2' '2 ' 2x 0x2 2.0 4294967296 18446744073709551618; do
+        says 2 "" "example: P is a number from 0 to 4294967295, not '$word'" examples/example.table "$word"
+    done
+    says 2 "" "$usage"
+    says 2 "" "$usage" examples/example.table 2 12
+    [ "$language" = fortran ] || says 2 "" "$usage" examples/example.table
+    says 2 "" "example: cannot read 'no-such-file'" no-such-file 2
+    says 2 "" "example: cannot read 'examples'" examples 2
+}
+
+compile
+try_tables
+try_typed
+try_refused
+try_words
+echo "the $language example: $runs runs, as the proved program, the texts of the tables and what is typed here say"

@@ -14,17 +14,37 @@ module vempaldi
   implicit none
   private
 
-  integer, parameter, public :: vempaldi_iteration = 0, vempaldi_waiting = 1, vempaldi_finished = 2
-  integer, parameter, public :: vempaldi_table_bytes = 2065, vempaldi_listing_bytes = 48400
+  ! The version of this module; vempaldi_version() is that of the library linked, its three numbers as one: 200 is 0.2.0.
+  integer, parameter, public :: vempaldi_version_major = 0, vempaldi_version_minor = 2, vempaldi_version_patch = 0
 
-  public :: vempaldi_check, vempaldi_join, vempaldi_shifts_and_peels, vempaldi_threshold, vempaldi_sweeps
-  public :: vempaldi_blocks, vempaldi_fused_list, vempaldi_peeled_list, vempaldi_listing
+  ! The first number of an answer.
+  integer, parameter, public :: vempaldi_accepted = 0, vempaldi_torn = 1, vempaldi_kind = 2, vempaldi_field = 3, &
+    vempaldi_crowd = 4, vempaldi_array = 5, vempaldi_body = 6, vempaldi_edge = 7, vempaldi_tail = 8, vempaldi_serial = 9, &
+    vempaldi_processors = 10, vempaldi_short = 11, vempaldi_memory = 12, vempaldi_buffer = 13, vempaldi_unlike = 14, &
+    vempaldi_state = 15
+
+  ! The first number of a report. vempaldi_no_report is never written: what is 0 before a call and still 0 after it was refused.
+  integer, parameter, public :: vempaldi_no_report = 0, vempaldi_iteration = 1, vempaldi_waiting = 2, vempaldi_finished = 3
+
+  ! No plan has more processors. No byte of a table past the deciding ones changes an answer. The other sizes always suffice; the
+  ! procedures below use them.
+  integer, parameter, public :: vempaldi_most_processors = 64, vempaldi_deciding_bytes = 2077
+  integer, parameter, public :: vempaldi_table_bytes = 2065, vempaldi_facts_bytes = 268, vempaldi_amount_bytes = 128, &
+    vempaldi_range_bytes = 128, vempaldi_block_bytes = 512, vempaldi_listing_bytes = 48400
+
+  public :: vempaldi_version, vempaldi_check, vempaldi_join, vempaldi_facts
+  public :: vempaldi_shifts_and_peels, vempaldi_threshold, vempaldi_sweeps, vempaldi_blocks, vempaldi_listing
+  public :: vempaldi_fused_list, vempaldi_peeled_list, vempaldi_fused_ranges, vempaldi_peeled_ranges
   public :: vempaldi_plain_run, vempaldi_step, vempaldi_run, vempaldi_word
 
   character(10), parameter :: words(0:15) = [character(10) :: 'accepted', 'torn', 'kind', 'field', 'crowd', 'array', 'body', &
     'edge', 'tail', 'serial', 'processors', 'short', 'memory', 'buffer', 'unlike', 'state']
 
   interface
+    function vempaldi_version() result(version) bind(c, name='vempaldi_version')
+      import :: c_int32_t
+      integer(c_int32_t) :: version
+    end function
     subroutine c_check(table, n, answer) bind(c, name='vempaldi_check')
       import :: c_int8_t, c_size_t, c_int64_t
       integer(c_int8_t), intent(in) :: table(*)
@@ -36,6 +56,14 @@ module vempaldi
       integer(c_int8_t), intent(in) :: left(*), right(*)
       integer(c_int8_t), intent(inout) :: out(*)
       integer(c_size_t), value :: n, m, room
+      integer(c_int64_t), intent(out) :: answer(4)
+      integer(c_int64_t) :: written
+    end function
+    function c_facts(table, n, out, room, answer) result(written) bind(c, name='vempaldi_facts')
+      import :: c_int8_t, c_size_t, c_int64_t
+      integer(c_int8_t), intent(in) :: table(*)
+      integer(c_int8_t), intent(inout) :: out(*)
+      integer(c_size_t), value :: n, room
       integer(c_int64_t), intent(out) :: answer(4)
       integer(c_int64_t) :: written
     end function
@@ -101,6 +129,26 @@ module vempaldi
       integer(c_int64_t), intent(out) :: answer(4)
       integer(c_int64_t) :: written
     end function
+    function c_fused_ranges(table, n, processors, processor, out, room, answer) result(written) &
+        bind(c, name='vempaldi_fused_ranges')
+      import :: c_int8_t, c_int32_t, c_size_t, c_int64_t
+      integer(c_int8_t), intent(in) :: table(*)
+      integer(c_int8_t), intent(inout) :: out(*)
+      integer(c_int32_t), value :: processors, processor
+      integer(c_size_t), value :: n, room
+      integer(c_int64_t), intent(out) :: answer(4)
+      integer(c_int64_t) :: written
+    end function
+    function c_peeled_ranges(table, n, processors, processor, out, room, answer) result(written) &
+        bind(c, name='vempaldi_peeled_ranges')
+      import :: c_int8_t, c_int32_t, c_size_t, c_int64_t
+      integer(c_int8_t), intent(in) :: table(*)
+      integer(c_int8_t), intent(inout) :: out(*)
+      integer(c_int32_t), value :: processors, processor
+      integer(c_size_t), value :: n, room
+      integer(c_int64_t), intent(out) :: answer(4)
+      integer(c_int64_t) :: written
+    end function
     subroutine c_plain_run(table, n, memory, numbers, answer) bind(c, name='vempaldi_plain_run')
       import :: c_int8_t, c_double, c_size_t, c_int64_t
       integer(c_int8_t), intent(in) :: table(*)
@@ -109,10 +157,10 @@ module vempaldi
       integer(c_int64_t), intent(out) :: answer(4)
     end subroutine
     subroutine c_step(table, n, processors, processor, counts, memory, numbers, report, answer) bind(c, name='vempaldi_step')
-      import :: c_int8_t, c_int32_t, c_double, c_size_t, c_int64_t
+      import :: c_int8_t, c_int32_t, c_double, c_size_t, c_int64_t, vempaldi_most_processors
       integer(c_int8_t), intent(in) :: table(*)
       integer(c_int32_t), value :: processors, processor
-      integer(c_int32_t), intent(inout) :: counts(64), report(3)
+      integer(c_int32_t), intent(inout) :: counts(vempaldi_most_processors), report(3)
       real(c_double), intent(inout) :: memory(*)
       integer(c_size_t), value :: n, numbers
       integer(c_int64_t), intent(out) :: answer(4)
@@ -135,7 +183,7 @@ contains
     integer(c_int64_t), intent(in) :: number
     character(:), allocatable :: word
     word = 'unknown'
-    if (number >= 0 .and. number <= 15) word = trim(words(int(number)))
+    if (number >= lbound(words, 1) .and. number <= ubound(words, 1)) word = trim(words(int(number)))
   end function
 
   subroutine vempaldi_check(table, answer)
@@ -156,12 +204,31 @@ contains
     joined = out(1:written)
   end subroutine
 
+  ! arrays(1, q) is the place of array q - 1 in the memory, counted from 0, arrays(2, q) its length; loops(1, k) is the first index of
+  ! loop k - 1, loops(2, k) its last; elements is how many numbers a memory has.
+  subroutine vempaldi_facts(table, arrays, loops, elements, answer)
+    integer(c_int8_t), contiguous, intent(in) :: table(:)
+    integer(c_int32_t), allocatable, intent(out) :: arrays(:, :), loops(:, :)
+    integer(c_int32_t), intent(inout) :: elements
+    integer(c_int64_t), intent(out) :: answer(4)
+    integer(c_int8_t) :: out(vempaldi_facts_bytes)
+    integer(c_int64_t) :: written
+    integer :: middle
+    out = 0
+    written = c_facts(table, size(table, kind=c_size_t), out, size(out, kind=c_size_t), answer)
+    ! Where the call is refused nothing is written, and there are no arrays and no loops.
+    middle = 12 + 8 * number(out(1:4))
+    arrays = pairs(out(13:middle))
+    loops = pairs(out(middle + 1:written))
+    if (written > 0) elements = number(out(9:12))
+  end subroutine
+
   ! amounts(1, k) is the shift of loop k - 1, amounts(2, k) its peel.
   subroutine vempaldi_shifts_and_peels(table, amounts, answer)
     integer(c_int8_t), contiguous, intent(in) :: table(:)
     integer(c_int32_t), allocatable, intent(out) :: amounts(:, :)
     integer(c_int64_t), intent(out) :: answer(4)
-    integer(c_int8_t) :: out(128)
+    integer(c_int8_t) :: out(vempaldi_amount_bytes)
     integer(c_int64_t) :: written
     out = 0
     written = c_shifts_and_peels(table, size(table, kind=c_size_t), out, size(out, kind=c_size_t), answer)
@@ -194,11 +261,38 @@ contains
     integer(c_int32_t), intent(in) :: processors
     integer(c_int32_t), allocatable, intent(out) :: blocks(:, :)
     integer(c_int64_t), intent(out) :: answer(4)
-    integer(c_int8_t) :: out(512)
+    integer(c_int8_t) :: out(vempaldi_block_bytes)
     integer(c_int64_t) :: written
     out = 0
     written = c_blocks(table, size(table, kind=c_size_t), processors, out, size(out, kind=c_size_t), answer)
     blocks = pairs(out(1:written))
+  end subroutine
+
+  ! ranges(1, k) is the first index that the processor runs of loop k - 1 before the barrier, ranges(2, k) the one past the last; both
+  ! are 0 where it runs none.
+  subroutine vempaldi_fused_ranges(table, processors, processor, ranges, answer)
+    integer(c_int8_t), contiguous, intent(in) :: table(:)
+    integer(c_int32_t), intent(in) :: processors, processor
+    integer(c_int32_t), allocatable, intent(out) :: ranges(:, :)
+    integer(c_int64_t), intent(out) :: answer(4)
+    integer(c_int8_t) :: out(vempaldi_range_bytes)
+    integer(c_int64_t) :: written
+    out = 0
+    written = c_fused_ranges(table, size(table, kind=c_size_t), processors, processor, out, size(out, kind=c_size_t), answer)
+    ranges = pairs(out(1:written))
+  end subroutine
+
+  ! The same past the barrier.
+  subroutine vempaldi_peeled_ranges(table, processors, processor, ranges, answer)
+    integer(c_int8_t), contiguous, intent(in) :: table(:)
+    integer(c_int32_t), intent(in) :: processors, processor
+    integer(c_int32_t), allocatable, intent(out) :: ranges(:, :)
+    integer(c_int64_t), intent(out) :: answer(4)
+    integer(c_int8_t) :: out(vempaldi_range_bytes)
+    integer(c_int64_t) :: written
+    out = 0
+    written = c_peeled_ranges(table, size(table, kind=c_size_t), processors, processor, out, size(out, kind=c_size_t), answer)
+    ranges = pairs(out(1:written))
   end subroutine
 
   ! list(1, n) is the loop of the n-th iteration before the barrier, list(2, n) its index.
@@ -207,18 +301,12 @@ contains
     integer(c_int32_t), intent(in) :: processors, processor
     integer(c_int32_t), allocatable, intent(out) :: list(:, :)
     integer(c_int64_t), intent(out) :: answer(4)
-    integer(c_int32_t), allocatable :: amounts(:, :), blocks(:, :)
+    integer(c_int32_t), allocatable :: ranges(:, :)
     integer(c_int8_t), allocatable :: out(:)
-    integer(c_size_t) :: room
     integer(c_int64_t) :: written
-    ! No list is longer than each loop once for each index of the block.
-    call vempaldi_shifts_and_peels(table, amounts, answer)
-    call vempaldi_blocks(table, processors, blocks, answer)
-    room = 0
-    if (processor >= 0 .and. processor < size(blocks, 2)) &
-      room = 8_c_size_t * size(amounts, 2) * (blocks(2, processor + 1) - blocks(1, processor + 1) + 1)
-    allocate (out(room), source=0_c_int8_t)
-    written = c_fused_list(table, size(table, kind=c_size_t), processors, processor, out, room, answer)
+    call vempaldi_fused_ranges(table, processors, processor, ranges, answer)
+    allocate (out(room_for(ranges)), source=0_c_int8_t)
+    written = c_fused_list(table, size(table, kind=c_size_t), processors, processor, out, size(out, kind=c_size_t), answer)
     list = pairs(out(1:written))
   end subroutine
 
@@ -228,18 +316,12 @@ contains
     integer(c_int32_t), intent(in) :: processors, processor
     integer(c_int32_t), allocatable, intent(out) :: list(:, :)
     integer(c_int64_t), intent(out) :: answer(4)
-    integer(c_int32_t), allocatable :: amounts(:, :)
-    integer(c_int32_t) :: threshold
+    integer(c_int32_t), allocatable :: ranges(:, :)
     integer(c_int8_t), allocatable :: out(:)
-    integer(c_size_t) :: room
     integer(c_int64_t) :: written
-    ! No list is longer than each loop once for each index of the threshold.
-    threshold = 0
-    call vempaldi_shifts_and_peels(table, amounts, answer)
-    call vempaldi_threshold(table, threshold, answer)
-    room = 8_c_size_t * size(amounts, 2) * threshold
-    allocate (out(room), source=0_c_int8_t)
-    written = c_peeled_list(table, size(table, kind=c_size_t), processors, processor, out, room, answer)
+    call vempaldi_peeled_ranges(table, processors, processor, ranges, answer)
+    allocate (out(room_for(ranges)), source=0_c_int8_t)
+    written = c_peeled_list(table, size(table, kind=c_size_t), processors, processor, out, size(out, kind=c_size_t), answer)
     list = pairs(out(1:written))
   end subroutine
 
@@ -266,11 +348,12 @@ contains
     call c_plain_run(table, size(table, kind=c_size_t), memory, size(memory, kind=c_size_t), answer)
   end subroutine
 
-  ! counts: 64 numbers, 0 before the first step. report: kind (vempaldi_iteration, _waiting, _finished), loop, index.
+  ! counts: a number for each processor that there can be, 0 before the first step. report: kind (vempaldi_iteration, _waiting,
+  ! _finished), loop, index.
   subroutine vempaldi_step(table, processors, processor, counts, memory, report, answer)
     integer(c_int8_t), contiguous, intent(in) :: table(:)
     integer(c_int32_t), intent(in) :: processors, processor
-    integer(c_int32_t), intent(inout) :: counts(64), report(3)
+    integer(c_int32_t), intent(inout) :: counts(vempaldi_most_processors), report(3)
     real(c_double), contiguous, intent(inout) :: memory(:)
     integer(c_int64_t), intent(out) :: answer(4)
     call c_step(table, size(table, kind=c_size_t), processors, processor, counts, memory, size(memory, kind=c_size_t), &
@@ -285,6 +368,13 @@ contains
     idle = c_run(table, size(table, kind=c_size_t), processors, order, size(order, kind=c_size_t), memory, &
       size(memory, kind=c_size_t), answer)
   end subroutine
+
+  ! A list has the iterations of its ranges, eight bytes each.
+  pure function room_for(ranges) result(room)
+    integer(c_int32_t), intent(in) :: ranges(:, :)
+    integer(c_size_t) :: room
+    room = 8 * sum(int(ranges(2, :) - ranges(1, :), c_size_t))
+  end function
 
   ! Four little-endian bytes, on a machine of either byte order.
   pure function number(bytes) result(value)

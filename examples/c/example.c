@@ -1,8 +1,9 @@
-/* Plans the loop table of a file and runs it on a memory in which every element is its own index within its array:
+/* Plans the loop table of a file for a number of processors, and runs the plan on a memory in which every element is its own index within
+ * its array, beside the plain run:
  *
- *     cc example.c $(pkg-config --cflags --libs build/vempaldi.pc) -o example && ./example ../example.table 2 12 12 12
+ *     cc example.c $(pkg-config --cflags --libs build/vempaldi.pc) -o example && ./example ../example.table 2
  *
- * The arguments are the file, the number of processors and the lengths of the table's arrays. */
+ * The exit status is 0 where the memories have the same bits, 1 where a call is refused, 2 where the arguments or the file are no good. */
 #include <inttypes.h>
 #include <stdio.h>
 #include <stdlib.h>
@@ -10,41 +11,59 @@
 
 #include "vempaldi.h"
 
-static uint8_t table[VEMPALDI_TABLE_BYTES + 1];
+static uint8_t table[VEMPALDI_DECIDING_BYTES];
 static uint8_t text[VEMPALDI_LISTING_BYTES];
+static uint8_t facts[VEMPALDI_FACTS_BYTES];
 
 static uint32_t number(const uint8_t *at) {
     return at[0] | (uint32_t)at[1] << 8 | (uint32_t)at[2] << 16 | (uint32_t)at[3] << 24;
 }
 
+/* The facts are three numbers, then two for each array and two for each loop. */
+static uint32_t fact(uint32_t n) { return number(facts + 4 * n); }
+
 static void stop_if_refused(const char *what, const uint64_t answer[4]) {
+    static const char *const words[] = VEMPALDI_WORDS;
     if (answer[0] == VEMPALDI_ACCEPTED) return;
-    fprintf(stderr, "%s: refused %" PRIu64 ", place %" PRIu64, what, answer[0], answer[1]);
+    const char *word = answer[0] < sizeof words / sizeof *words ? words[answer[0]] : "unknown";
+    fprintf(stderr, "%s: refused %" PRIu64 " %s, place %" PRIu64, what, answer[0], word, answer[1]);
     if (answer[0] == VEMPALDI_SERIAL) fprintf(stderr, ", read %" PRIu64, answer[2]);
     fprintf(stderr, "\n");
     exit(1);
 }
 
-/* One byte more than the longest table is enough: the library refuses what is longer. */
-static size_t read_table(const char *name) {
-    FILE *file = fopen(name, "rb");
-    if (!file) {
-        perror(name);
+/* The library takes any number and refuses those that are no P; what is no number, or none of 32 bits, is for the caller to find. */
+static uint32_t read_processors(const char *word) {
+    uint64_t value = 0;
+    size_t digits = strspn(word, "0123456789");
+    for (size_t i = 0; i < digits && value <= UINT32_MAX; i++) value = 10 * value + (uint64_t)(word[i] - '0');
+    if (digits == 0 || word[digits] || value > UINT32_MAX) {
+        fprintf(stderr, "example: P is a number from 0 to 4294967295, not '%s'\n", word);
         exit(2);
     }
-    size_t length = fread(table, 1, sizeof table, file);
+    return (uint32_t)value;
+}
+
+/* No byte past those that decide changes an answer, so the file may be of any length. */
+static size_t read_table(const char *name) {
+    FILE *file = fopen(name, "rb");
+    size_t length = file ? fread(table, 1, sizeof table, file) : 0;
+    if (!file || ferror(file)) {
+        fprintf(stderr, "example: cannot read '%s'\n", name);
+        exit(2);
+    }
     fclose(file);
     return length;
 }
 
-static double *own_index(int arrays, char **lengths, size_t *total) {
-    *total = 0;
-    for (int q = 0; q < arrays; q++) *total += strtoul(lengths[q], NULL, 10);
-    double *memory = malloc(*total * sizeof *memory + 1);
-    if (!memory) exit(2);
-    double *next = memory;
-    for (int q = 0; q < arrays; q++)
-        for (unsigned long i = 0; i < strtoul(lengths[q], NULL, 10); i++) *next++ = (double)i;
+static double *own_index(void) {
+    double *memory = malloc(fact(2) * sizeof *memory);
+    if (!memory) {
+        fprintf(stderr, "example: no room for %" PRIu32 " elements\n", fact(2));
+        exit(2);
+    }
+    for (uint32_t q = 0; q < fact(0); q++)
+        for (uint32_t i = 0; i < fact(4 + 2 * q); i++) memory[fact(3 + 2 * q) + i] = i;
     return memory;
 }
 
@@ -59,14 +78,14 @@ static void print_plan(size_t length, uint32_t processors) {
 }
 
 /* Steps the processors from the highest down until none performs an iteration. The result is how many were performed. */
-static unsigned long step_all(size_t length, uint32_t processors, double *memory, size_t total) {
-    uint32_t counts[64] = {0}, report[3];
+static unsigned long step_all(size_t length, uint32_t processors, double *memory) {
+    uint32_t counts[VEMPALDI_MOST_PROCESSORS] = {0}, report[3] = {VEMPALDI_NO_REPORT, 0, 0};
     unsigned long performed = 0, before;
     uint64_t answer[4];
     do {
         before = performed;
         for (uint32_t b = processors; b-- > 0;) {
-            vempaldi_step(table, length, processors, b, counts, memory, total, report, answer);
+            vempaldi_step(table, length, processors, b, counts, memory, fact(2), report, answer);
             stop_if_refused("step", answer);
             if (report[0] == VEMPALDI_ITERATION) performed++;
         }
@@ -74,27 +93,34 @@ static unsigned long step_all(size_t length, uint32_t processors, double *memory
     return performed;
 }
 
+/* The last array's first numbers. */
+static void print_last(const double *memory) {
+    uint32_t last = fact(0) - 1, from = fact(3 + 2 * last), length = fact(4 + 2 * last);
+    printf("last array:");
+    for (uint32_t i = 0; i < length && i < 12; i++) printf(" %.3f", memory[from + i]);
+    printf("\n");
+}
+
 int main(int count, char **word) {
-    if (count < 4) {
-        fprintf(stderr, "usage: example FILE P LENGTH..\n");
+    if (count != 3) {
+        fprintf(stderr, "usage: example FILE P\n");
         return 2;
     }
-    size_t length = read_table(word[1]), total;
-    uint32_t processors = (uint32_t)strtoul(word[2], NULL, 10);
+    uint32_t processors = read_processors(word[2]);
+    size_t length = read_table(word[1]);
+    uint64_t answer[4];
+    vempaldi_facts(table, length, facts, sizeof facts, answer);
+    stop_if_refused("facts", answer);
     print_plan(length, processors);
 
-    double *plain = own_index(count - 3, word + 3, &total);
-    double *stepped = own_index(count - 3, word + 3, &total);
-    uint64_t answer[4];
-    vempaldi_plain_run(table, length, plain, total, answer);
+    double *plain = own_index(), *stepped = own_index();
+    vempaldi_plain_run(table, length, plain, fact(2), answer);
     stop_if_refused("plain run", answer);
-    unsigned long performed = step_all(length, processors, stepped, total);
-    int same = memcmp(plain, stepped, total * sizeof *plain) == 0;
-    printf("%lu steps, %s\n", performed, same ? "same bits as the plain run" : "NOT the bits of the plain run");
-    printf("last array:");
-    unsigned long last = strtoul(word[count - 1], NULL, 10);
-    for (size_t i = total - last; i < total; i++) printf(" %g", stepped[i]);
-    printf("\n");
+    unsigned long performed = step_all(length, processors, stepped);
+    int same = memcmp(plain, stepped, fact(2) * sizeof *plain) == 0;
+    printf("%lu iterations on %" PRIu32 " elements, %s\n", performed, fact(2),
+           same ? "same bits as the plain run" : "NOT the bits of the plain run");
+    print_last(stepped);
     free(plain);
     free(stepped);
     return same ? 0 : 1;

@@ -1,78 +1,151 @@
-! Plans the paper's example for two processors, then runs it in an odd order beside the plain run:
+! Plans the loop table of a file for a number of processors, then runs it in an odd order on a memory in which every element is its own
+! index within its array, beside the plain run:
 !
-!     gfortran vempaldi.f90 example.f90 -Lbuild -lvempaldi -o example && ./example example.table
+!     gfortran vempaldi.f90 example.f90 -Lbuild -lvempaldi -o example && ./example example.table 2
+!
+! Without a number it is two processors. The exit status is 0 where the memories have the same bits, 1 where a call is refused, 2 where
+! the arguments or the file are no good.
 program example
   use, intrinsic :: iso_c_binding
   use, intrinsic :: iso_fortran_env, only: error_unit
   use vempaldi
   implicit none
 
-  integer(c_int32_t), parameter :: processors = 2
   integer(c_int8_t), allocatable :: table(:)
-  integer(c_int32_t), allocatable :: blocks(:, :), fused(:, :), peeled(:, :)
+  integer(c_int32_t), allocatable :: arrays(:, :), loops(:, :)
+  integer(c_int32_t) :: processors, threshold, elements
   integer(c_int64_t) :: answer(4)
   character(:), allocatable :: text
-  integer :: b
 
-  call read_table(table)
+  if (command_argument_count() < 1 .or. command_argument_count() > 2) call stop_for_caller('usage: example FILE [P]')
+  processors = 2
+  if (command_argument_count() == 2) call read_processors(argument(2))
+  call read_table(argument(1))
+
+  elements = 0
+  call vempaldi_facts(table, arrays, loops, elements, answer)
+  call stop_if_refused('facts')
   call vempaldi_listing(table, processors, text, answer)
   call stop_if_refused('listing')
   write (*, '(a)', advance='no') text
-  call vempaldi_blocks(table, processors, blocks, answer)
-  call stop_if_refused('blocks')
-  do b = 1, size(blocks, 2)
-    call vempaldi_fused_list(table, processors, b - 1, fused, answer)
-    call stop_if_refused('fused list')
-    call vempaldi_peeled_list(table, processors, b - 1, peeled, answer)
-    call stop_if_refused('peeled list')
-    print '(a,i0,a,i0,a,i0,a)', 'processor ', b - 1, ': ', size(fused, 2), ' fused and ', size(peeled, 2), ' peeled iterations'
-  end do
+  threshold = 0
+  call vempaldi_threshold(table, threshold, answer)
+  call stop_if_refused('threshold')
+  print '(a,i0)', 'threshold ', threshold
   call run_both()
 
 contains
 
-  subroutine read_table(bytes)
-    integer(c_int8_t), allocatable, intent(out) :: bytes(:)
-    character(4096) :: name
+  function argument(number) result(word)
+    integer, intent(in) :: number
+    character(:), allocatable :: word
+    integer :: length
+    call get_command_argument(number, length=length)
+    allocate (character(length) :: word)
+    call get_command_argument(number, word)
+  end function
+
+  subroutine stop_for_caller(message)
+    character(*), intent(in) :: message
+    write (error_unit, '(a)') message
+    stop 2, quiet=.true.
+  end subroutine
+
+  ! The library takes any number of 32 bits, unsigned, and refuses those that are no P.
+  subroutine read_processors(word)
+    character(*), intent(in) :: word
+    integer(c_int64_t), parameter :: most = 4294967295_c_int64_t
+    integer(c_int64_t) :: value
+    integer :: at
+    value = 0
+    if (len(word) == 0 .or. verify(word, '0123456789') /= 0) value = most + 1
+    do at = 1, len(word)
+      if (value <= most) value = 10 * value + (iachar(word(at:at)) - iachar('0'))
+    end do
+    if (value > most) call stop_for_caller("example: P is a number from 0 to 4294967295, not '"//word//"'")
+    ! The upper half has the bits of the negative numbers here.
+    if (value > huge(processors)) value = value - most - 1
+    processors = int(value, c_int32_t)
+  end subroutine
+
+  ! No byte past those that decide changes an answer, so the file may be of any length.
+  subroutine read_table(name)
+    character(*), intent(in) :: name
+    integer(c_int8_t) :: bytes(vempaldi_deciding_bytes)
     integer :: unit, length, status
-    call get_command_argument(1, name)
-    open (newunit=unit, file=trim(name), access='stream', form='unformatted', status='old', action='read', iostat=status)
-    if (status /= 0) then
-      write (error_unit, '(3a)') 'cannot read ', trim(name), '; usage: example FILE'
-      stop 2
-    end if
-    inquire (unit=unit, size=length)
-    allocate (bytes(length))
-    read (unit) bytes
+    open (newunit=unit, file=name, access='stream', form='unformatted', status='old', action='read', iostat=status)
+    if (status /= 0) call stop_for_caller("example: cannot read '"//name//"'")
+    do length = 0, size(bytes) - 1
+      read (unit, iostat=status) bytes(length + 1)
+      if (status /= 0) exit
+    end do
+    if (status /= 0 .and. .not. is_iostat_end(status)) call stop_for_caller("example: cannot read '"//name//"'")
     close (unit)
+    table = bytes(1:length)
   end subroutine
 
   subroutine stop_if_refused(what)
     character(*), intent(in) :: what
-    if (answer(1) == 0) return
+    if (answer(1) == vempaldi_accepted) return
     write (error_unit, '(2a,i0,3a,i0)', advance='no') what, ': refused ', answer(1), ' ', vempaldi_word(answer(1)), &
       ', place ', answer(2)
-    if (vempaldi_word(answer(1)) == 'serial') write (error_unit, '(a,i0)', advance='no') ', read ', answer(3)
+    if (answer(1) == vempaldi_serial) write (error_unit, '(a,i0)', advance='no') ', read ', answer(3)
     write (error_unit, '(a)') ''
     stop 1, quiet=.true.
   end subroutine
 
-  ! Every element is its own index within its array, as in the paper.
+  ! How many iterations the processors have in their lists.
+  function listed() result(iterations)
+    integer(c_int32_t), allocatable :: fused(:, :), peeled(:, :)
+    integer :: iterations, b
+    iterations = 0
+    do b = 0, processors - 1
+      call vempaldi_fused_list(table, processors, b, fused, answer)
+      call stop_if_refused('fused list')
+      call vempaldi_peeled_list(table, processors, b, peeled, answer)
+      call stop_if_refused('peeled list')
+      iterations = iterations + size(fused, 2) + size(peeled, 2)
+    end do
+  end function
+
   subroutine run_both()
-    real(c_double) :: plain(36), other(36)
+    real(c_double), allocatable :: plain(:), other(:)
+    integer(c_int8_t), allocatable :: order(:)
     integer(c_int64_t) :: idle
-    integer :: at
-    plain = [(real(mod(at, 12), c_double), at = 0, 35)]
+    integer :: q, i
+    allocate (plain(elements))
+    do q = 1, size(arrays, 2)
+      plain(arrays(1, q) + 1:arrays(1, q) + arrays(2, q)) = [(real(i, c_double), i = 0, arrays(2, q) - 1)]
+    end do
     other = plain
     call vempaldi_plain_run(table, plain, answer)
     call stop_if_refused('plain run')
-    ! Processor 1 is named 12 times; it has nine fused iterations and idles for the rest.
-    call vempaldi_run(table, processors, [(1_c_int8_t, at = 1, 12)], other, idle, answer)
+    ! The last processor is named once for every iteration that there is. It idles once it has performed its own.
+    allocate (order(listed()), source=int(processors - 1, c_int8_t))
+    call vempaldi_run(table, processors, order, other, idle, answer)
     call stop_if_refused('run')
     print '(a,i0)', 'idle ', idle
-    print '(3(a,i0))', 'A2(1) = ', nint(other(26)), ', A2(5) = ', nint(other(30)), ', A2(10) = ', nint(other(35))
-    if (any(transfer(plain, [0_c_int64_t]) /= transfer(other, [0_c_int64_t]))) stop 1
+    write (*, '(i0,a,i0,a)', advance='no') size(order), ' iterations on ', elements, ' elements, '
+    if (any(transfer(plain, [0_c_int64_t]) /= transfer(other, [0_c_int64_t]))) then
+      print '(a)', 'NOT the bits of the plain run'
+      stop 1, quiet=.true.
+    end if
     print '(a)', 'same bits as the plain run'
+    q = size(arrays, 2)
+    call print_first(other(arrays(1, q) + 1:arrays(1, q) + min(12, arrays(2, q))))
+  end subroutine
+
+  ! The last array's first numbers.
+  subroutine print_first(numbers)
+    real(c_double), intent(in) :: numbers(:)
+    character(40) :: word
+    integer :: i
+    write (*, '(a)', advance='no') 'last array:'
+    do i = 1, size(numbers)
+      write (word, '(f40.3)') numbers(i)
+      write (*, '(2a)', advance='no') ' ', trim(adjustl(word))
+    end do
+    print '(a)', ''
   end subroutine
 
 end program

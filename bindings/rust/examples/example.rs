@@ -1,31 +1,77 @@
-//! Plans the paper's example for a number of processors, then steps it in an odd order and compares with the plain run.
+//! Plans the loop table of a file for a number of processors, then steps it in an odd order on a memory in which every element is its own
+//! index within its array, beside the plain run.
 //!
 //!     cargo run --example example -- FILE P
+//!
+//! The exit status is 0 where the memories have the same bits, 1 where a call is refused, 2 where the arguments or the file are no good.
 
-use std::error::Error;
+use std::env;
+use std::fs::File;
+use std::io::Read;
+use std::ops::Range;
 use std::process::ExitCode;
-use std::{env, fs};
-use vempaldi::{Report, State};
+use vempaldi::{Facts, Refusal, Report, State};
 
-/// The example's arrays: three of twelve elements, each its own index.
-fn memory() -> Vec<f64> {
-    (0..36).map(|at| f64::from(at % 12)).collect()
+/// What a caller of this program did wrong, or what the library refused.
+enum Failure {
+    Caller(String),
+    Refused(Refusal),
 }
 
-fn plan(table: &[u8], processors: u32) -> Result<(), Box<dyn Error>> {
+impl From<Refusal> for Failure {
+    fn from(refusal: Refusal) -> Failure {
+        Failure::Refused(refusal)
+    }
+}
+
+/// The library takes any number and refuses those that are no P; what is no number, or none of 32 bits, is for the caller to find.
+fn read_processors(word: &str) -> Result<u32, Failure> {
+    let digits = word.bytes().all(|one| one.is_ascii_digit());
+    let wrong = || Failure::Caller(format!("example: P is a number from 0 to {}, not '{word}'", u32::MAX));
+    word.parse().ok().filter(|_| digits).ok_or_else(wrong)
+}
+
+/// No byte past those that decide changes an answer, so the file may be of any length.
+fn read_table(name: &str) -> Result<Vec<u8>, Failure> {
+    let mut table = Vec::new();
+    let read = File::open(name).and_then(|file| file.take(vempaldi::DECIDING_BYTES as u64).read_to_end(&mut table));
+    read.map(|_| table).map_err(|_| Failure::Caller(format!("example: cannot read '{name}'")))
+}
+
+fn own_index(facts: &Facts) -> Vec<f64> {
+    facts.arrays.iter().flat_map(|array| (0..array.length).map(f64::from)).collect()
+}
+
+/// The lines `fused` or `peeled` of a listing.
+fn print_ranges(word: &str, processor: u32, ranges: &[Range<u32>]) {
+    for (k, range) in ranges.iter().enumerate().filter(|(_, range)| !range.is_empty()) {
+        println!("{word} {processor} {k} {} {}", range.start, range.end - 1);
+    }
+}
+
+/// The plan by its numbers. `vempaldi::listing` gives the same lines as text.
+fn print_plan(table: &[u8], processors: u32) -> Result<(), Refusal> {
+    let blocks = vempaldi::blocks(table, processors)?;
     for (k, one) in vempaldi::shifts_and_peels(table)?.iter().enumerate() {
-        println!("loop {k}: shift {}, peel {}", one.shift, one.peel);
+        println!("loop {k} {} {}", one.shift, one.peel);
     }
-    for (b, block) in vempaldi::blocks(table, processors)?.iter().enumerate() {
-        let fused = vempaldi::fused_list(table, processors, b as u32)?.len();
-        let peeled = vempaldi::peeled_list(table, processors, b as u32)?.len();
-        println!("processor {b}: indices {} to {}, {fused} fused and {peeled} peeled iterations", block.first, block.last);
+    for (b, block) in blocks.iter().enumerate() {
+        println!("block {b} {} {}", block.first, block.last);
     }
+    for b in 0..processors {
+        print_ranges("fused", b, &vempaldi::fused_ranges(table, processors, b)?);
+    }
+    for b in 0..processors {
+        print_ranges("peeled", b, &vempaldi::peeled_ranges(table, processors, b)?);
+    }
+    let sweeps = vempaldi::sweeps(table)?;
+    println!("sweeps {} {}", sweeps.before, sweeps.after);
+    println!("threshold {}", vempaldi::threshold(table)?);
     Ok(())
 }
 
 /// The highest processor goes as far as it can, then the next one, until nobody performs an iteration.
-fn step_all(table: &[u8], processors: u32, memory: &mut [f64]) -> Result<usize, Box<dyn Error>> {
+fn step_all(table: &[u8], processors: u32, memory: &mut [f64]) -> Result<usize, Refusal> {
     let mut state = State::new();
     let mut performed = 0;
     loop {
@@ -41,34 +87,40 @@ fn step_all(table: &[u8], processors: u32, memory: &mut [f64]) -> Result<usize, 
     }
 }
 
-/// A refusal prints its ground, and where it was met.
-fn main() -> ExitCode {
-    match plan_and_run() {
-        Ok(()) => ExitCode::SUCCESS,
-        Err(error) => {
-            eprintln!("{error}");
-            ExitCode::FAILURE
-        }
-    }
-}
+/// Whether the memories have the same bits.
+fn plan_and_run(words: &[String]) -> Result<bool, Failure> {
+    let [file, processors] = words else { return Err(Failure::Caller("usage: example FILE P".to_string())) };
+    let processors = read_processors(processors)?;
+    let table = read_table(file)?;
+    let facts = vempaldi::facts(&table)?;
+    print_plan(&table, processors)?;
 
-fn plan_and_run() -> Result<(), Box<dyn Error>> {
-    let words: Vec<String> = env::args().collect();
-    let [_, file, processors] = &words[..] else { return Err("usage: example FILE P".into()) };
-    let table = fs::read(file)?;
-    let processors = processors.parse()?;
-    plan(&table, processors)?;
-
-    let mut plain = memory();
+    let (mut plain, mut stepped) = (own_index(&facts), own_index(&facts));
     vempaldi::plain_run(&table, &mut plain)?;
-    let mut stepped = memory();
     let performed = step_all(&table, processors, &mut stepped)?;
     let same = plain.iter().zip(&stepped).all(|(one, other)| one.to_bits() == other.to_bits());
-    println!("{performed} steps, same bits as the plain run: {same}");
-    println!("A2[1] = {}, A2[5] = {}, A2[10] = {}", stepped[25], stepped[29], stepped[34]);
-    if same {
-        Ok(())
-    } else {
-        Err("the memories differ".into())
+    let says = if same { "same bits as the plain run" } else { "NOT the bits of the plain run" };
+    println!("{performed} iterations on {} elements, {says}", facts.elements);
+    if let Some(last) = facts.arrays.last() {
+        let numbers = stepped[last.first as usize..].iter().take(12).map(|number| format!(" {number:.3}"));
+        println!("last array:{}", numbers.collect::<String>());
+    }
+    Ok(same)
+}
+
+/// A refusal prints its ground, and where it was met.
+fn main() -> ExitCode {
+    let words: Vec<String> = env::args().skip(1).collect();
+    match plan_and_run(&words) {
+        Ok(true) => ExitCode::SUCCESS,
+        Ok(false) => ExitCode::from(1),
+        Err(Failure::Refused(refusal)) => {
+            eprintln!("{refusal}");
+            ExitCode::from(1)
+        }
+        Err(Failure::Caller(message)) => {
+            eprintln!("{message}");
+            ExitCode::from(2)
+        }
     }
 }

@@ -8,7 +8,7 @@ pub const BODY_LENGTHS: [usize; 7] = [0, 4, 11, 3, 4, 1, 0];
 
 /// The room of a builder, in bytes: the 2,077 that decide, and the rest of the longest record that begins at the last of them. Every
 /// accepted table fits. Where a record does not, the bytes that decide are all there.
-pub const BUILDER_BYTES: usize = 2_077 + BODY_LENGTHS[LOOP];
+pub const BUILDER_BYTES: usize = crate::DECIDING_BYTES + BODY_LENGTHS[LOOP];
 
 const ARRAY: usize = 1;
 const LOOP: usize = 2;

@@ -9,6 +9,7 @@ pub type OfPlan = unsafe extern "C" fn(*const u8, usize, u32, *mut u8, usize, *m
 pub type OfProcessor = unsafe extern "C" fn(*const u8, usize, u32, u32, *mut u8, usize, *mut Answer) -> u64;
 
 extern "C" {
+    pub fn vempaldi_version() -> u32;
     pub fn vempaldi_check(table: *const u8, length: usize, answer: *mut Answer);
     pub fn vempaldi_join(
         left: *const u8,
@@ -19,6 +20,7 @@ extern "C" {
         out_length: usize,
         answer: *mut Answer,
     ) -> u64;
+    pub fn vempaldi_facts(t: *const u8, n: usize, out: *mut u8, room: usize, answer: *mut Answer) -> u64;
     pub fn vempaldi_shifts_and_peels(t: *const u8, n: usize, out: *mut u8, room: usize, answer: *mut Answer) -> u64;
     pub fn vempaldi_threshold(t: *const u8, n: usize, out: *mut u8, room: usize, answer: *mut Answer) -> u64;
     pub fn vempaldi_sweeps(t: *const u8, n: usize, out: *mut u8, room: usize, answer: *mut Answer) -> u64;
@@ -34,6 +36,24 @@ extern "C" {
         answer: *mut Answer,
     ) -> u64;
     pub fn vempaldi_peeled_list(
+        t: *const u8,
+        n: usize,
+        p: u32,
+        processor: u32,
+        out: *mut u8,
+        room: usize,
+        answer: *mut Answer,
+    ) -> u64;
+    pub fn vempaldi_fused_ranges(
+        t: *const u8,
+        n: usize,
+        p: u32,
+        processor: u32,
+        out: *mut u8,
+        room: usize,
+        answer: *mut Answer,
+    ) -> u64;
+    pub fn vempaldi_peeled_ranges(
         t: *const u8,
         n: usize,
         p: u32,

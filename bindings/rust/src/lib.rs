@@ -2,30 +2,60 @@
 //!
 //! A loop table is a row of bytes. Every call gives its result or a [`Refusal`], and a refused call leaves what it was lent as found.
 //!
-//! ```no_run
-//! let table = std::fs::read("examples/example.table").unwrap();
-//! match vempaldi::blocks(&table, 2) {
-//!     Ok(blocks) => println!("{} blocks", blocks.len()),
-//!     Err(refusal) => eprintln!("{refusal}"),
+//! ```
+//! let table = std::fs::read("../../examples/example.table").unwrap();
+//! for (processor, block) in vempaldi::blocks(&table, 2)?.iter().enumerate() {
+//!     println!("processor {processor}: indices {} to {}", block.first, block.last);
+//! }
+//! let refusal = vempaldi::blocks(&table, 6).unwrap_err();
+//! assert_eq!(refusal.to_string(), "refused 11 short: fewer indices than processors, or a block below the threshold");
+//! # Ok::<(), vempaldi::Refusal>(())
+//! ```
+//!
+//! Enums, and structs that calls give, are `non_exhaustive`: a later release may add to them, and callers still compile. So a match has an
+//! arm for what is newer than the program:
+//!
+//! ```
+//! fn word(report: vempaldi::Report) -> &'static str {
+//!     match report {
+//!         vempaldi::Report::Iteration { .. } => "an iteration",
+//!         vempaldi::Report::Waiting => "waiting",
+//!         vempaldi::Report::Finished => "finished",
+//!         _ => "something that this program does not know",
+//!     }
+//! }
+//! ```
+//!
+//! Without it, the match is an error even if it names every variant of today:
+//!
+//! ```compile_fail
+//! fn word(report: vempaldi::Report) -> &'static str {
+//!     match report {
+//!         vempaldi::Report::Iteration { .. } => "an iteration",
+//!         vempaldi::Report::Waiting => "waiting",
+//!         vempaldi::Report::Finished => "finished",
+//!         vempaldi::Report::Other(_) => "something that this program does not know",
+//!     }
 //! }
 //! ```
 
 mod builder;
+mod facts;
 mod foreign;
+mod lent;
 mod planning;
 mod refusal;
 mod running;
+mod sizes;
+mod version;
 
 pub use builder::{BuildError, BuildFault, Builder, Operation, BODY_LENGTHS, BUILDER_BYTES};
+pub use facts::{facts, ArrayFacts, Facts, LoopFacts};
 pub use planning::{
-    blocks, check, fused_list, join, join_into, listing, peeled_list, shifts_and_peels, sweeps, threshold, Amounts, Block,
-    Iteration, Sweeps,
+    blocks, check, fused_list, fused_ranges, join, join_into, listing, peeled_list, peeled_ranges, shifts_and_peels, sweeps,
+    threshold, Amounts, Block, Iteration, Sweeps,
 };
 pub use refusal::{Ground, Refusal};
 pub use running::{plain_run, run, step, Report, State};
-
-/// The largest number of processors of a plan.
-pub const MOST_PROCESSORS: u32 = 64;
-
-/// The longest accepted table, in bytes.
-pub const MOST_TABLE_BYTES: usize = 2_065;
+pub use sizes::*;
+pub use version::{version, VERSION, VERSION_MAJOR, VERSION_MINOR, VERSION_PATCH};

@@ -1,14 +1,13 @@
 //! Reading, joining and planning.
 
 use crate::foreign::*;
+use crate::lent::{numbers, of_plan, of_processor, of_table, pairs};
 use crate::refusal::Refusal;
-use crate::MOST_TABLE_BYTES;
-
-/// No listing has more bytes.
-const LISTING_ROOM: usize = 48_400;
-const MOST_LOOPS: usize = 16;
+use crate::sizes::{AMOUNT_BYTES, BLOCK_BYTES, LISTING_BYTES, RANGE_BYTES, TABLE_BYTES};
+use std::ops::Range;
 
 #[derive(Clone, Copy, Debug, PartialEq, Eq)]
+#[non_exhaustive]
 pub struct Amounts {
     pub shift: u32,
     pub peel: u32,
@@ -16,24 +15,36 @@ pub struct Amounts {
 
 /// First and last index of a processor's block.
 #[derive(Clone, Copy, Debug, PartialEq, Eq)]
+#[non_exhaustive]
 pub struct Block {
     pub first: u32,
     pub last: u32,
 }
 
 #[derive(Clone, Copy, Debug, PartialEq, Eq)]
+#[non_exhaustive]
 pub struct Iteration {
     pub loop_number: u32,
     pub index: u32,
 }
 
 #[derive(Clone, Copy, Debug, PartialEq, Eq)]
+#[non_exhaustive]
 pub struct Sweeps {
     pub before: u32,
     pub after: u32,
 }
 
 /// Whether a table is accepted.
+///
+/// ```
+/// use vempaldi::Ground;
+///
+/// let table = std::fs::read("../../examples/example.table").unwrap();
+/// assert_eq!(vempaldi::check(&table), Ok(()));
+/// let refusal = vempaldi::check(&table[..60]).unwrap_err();
+/// assert_eq!((refusal.ground, refusal.place), (Ground::Torn, 60));
+/// ```
 pub fn check(table: &[u8]) -> Result<(), Refusal> {
     let mut answer = [0; 4];
     // SAFETY: the pointer and length are those of a live slice, and the answer is lent for this call alone.
@@ -43,7 +54,7 @@ pub fn check(table: &[u8]) -> Result<(), Refusal> {
 
 /// Left's arrays, left's loops, right's loops.
 pub fn join(left: &[u8], right: &[u8]) -> Result<Vec<u8>, Refusal> {
-    let mut out = vec![0; MOST_TABLE_BYTES];
+    let mut out = vec![0; TABLE_BYTES];
     let written = join_into(left, right, &mut out)?;
     out.truncate(written);
     Ok(out)
@@ -60,7 +71,7 @@ pub fn join_into(left: &[u8], right: &[u8], out: &mut [u8]) -> Result<usize, Ref
 
 /// Shift and peel of each loop.
 pub fn shifts_and_peels(table: &[u8]) -> Result<Vec<Amounts>, Refusal> {
-    let numbers = of_table(vempaldi_shifts_and_peels, table, 8 * MOST_LOOPS)?;
+    let numbers = of_table(vempaldi_shifts_and_peels, table, AMOUNT_BYTES)?;
     Ok(pairs(&numbers).map(|(shift, peel)| Amounts { shift, peel }).collect())
 }
 
@@ -76,63 +87,54 @@ pub fn sweeps(table: &[u8]) -> Result<Sweeps, Refusal> {
 
 /// The blocks of a plan, one for each processor.
 pub fn blocks(table: &[u8], processors: u32) -> Result<Vec<Block>, Refusal> {
-    let numbers = of_plan(vempaldi_blocks, table, processors, 8 * crate::MOST_PROCESSORS as usize).map(|b| numbers(&b))?;
+    let numbers = numbers(&of_plan(vempaldi_blocks, table, processors, BLOCK_BYTES)?);
     Ok(pairs(&numbers).map(|(first, last)| Block { first, last }).collect())
 }
 
 /// The plan as text, line by line.
 pub fn listing(table: &[u8], processors: u32) -> Result<String, Refusal> {
-    let bytes = of_plan(vempaldi_listing, table, processors, LISTING_ROOM)?;
+    let bytes = of_plan(vempaldi_listing, table, processors, LISTING_BYTES)?;
     Ok(String::from_utf8_lossy(&bytes).into_owned())
+}
+
+/// What a processor runs before the barrier, as a range of each loop, `0..0` where it is empty. Its fused list has these iterations and
+/// no others, in rising order of index plus the loop's shift, equal sums in loop order.
+///
+/// ```
+/// let table = std::fs::read("../../examples/example.table").unwrap();
+/// assert_eq!(vempaldi::fused_ranges(&table, 2, 0)?, [1..6, 1..5]);
+/// assert_eq!(vempaldi::peeled_ranges(&table, 2, 0)?, [0..0, 5..7]);
+/// # Ok::<(), vempaldi::Refusal>(())
+/// ```
+pub fn fused_ranges(table: &[u8], processors: u32, processor: u32) -> Result<Vec<Range<u32>>, Refusal> {
+    ranges(vempaldi_fused_ranges, table, processors, processor)
+}
+
+/// What a processor runs past the barrier, as a range of each loop, `0..0` where it is empty. Its peeled list has them loop by loop.
+pub fn peeled_ranges(table: &[u8], processors: u32, processor: u32) -> Result<Vec<Range<u32>>, Refusal> {
+    ranges(vempaldi_peeled_ranges, table, processors, processor)
 }
 
 /// What a processor runs before the barrier, in its order.
 pub fn fused_list(table: &[u8], processors: u32, processor: u32) -> Result<Vec<Iteration>, Refusal> {
-    let block = blocks(table, processors)?.get(processor as usize).copied();
-    let indices = block.map_or(0, |block| (block.last - block.first + 1) as usize);
-    of_processor(vempaldi_fused_list, table, processors, processor, indices)
+    let ranges = fused_ranges(table, processors, processor)?;
+    list(vempaldi_fused_list, table, processors, processor, &ranges)
 }
 
 /// What a processor runs past the barrier, in its order.
 pub fn peeled_list(table: &[u8], processors: u32, processor: u32) -> Result<Vec<Iteration>, Refusal> {
-    let indices = threshold(table)? as usize;
-    of_processor(vempaldi_peeled_list, table, processors, processor, indices)
+    let ranges = peeled_ranges(table, processors, processor)?;
+    list(vempaldi_peeled_list, table, processors, processor, &ranges)
 }
 
-fn of_table(entry: OfTable, table: &[u8], room: usize) -> Result<Vec<u32>, Refusal> {
-    let mut answer = [0; 4];
-    let mut out = vec![0; room];
-    // SAFETY: every pointer and length is that of a live slice, and the lent ones are borrowed apart from each other.
-    let written = unsafe { entry(table.as_ptr(), table.len(), out.as_mut_ptr(), room, &mut answer) };
-    Refusal::of_answer(&answer).map(|()| numbers(&out[..written as usize]))
+fn ranges(entry: OfProcessor, table: &[u8], processors: u32, processor: u32) -> Result<Vec<Range<u32>>, Refusal> {
+    let numbers = of_processor(entry, table, processors, processor, RANGE_BYTES)?;
+    Ok(pairs(&numbers).map(|(first, past)| first..past).collect())
 }
 
-fn of_plan(entry: OfPlan, table: &[u8], processors: u32, room: usize) -> Result<Vec<u8>, Refusal> {
-    let mut answer = [0; 4];
-    let mut out = vec![0; room];
-    // SAFETY: as in `of_table`.
-    let written = unsafe { entry(table.as_ptr(), table.len(), processors, out.as_mut_ptr(), room, &mut answer) };
-    out.truncate(written as usize);
-    Refusal::of_answer(&answer).map(|()| out)
-}
-
-/// A list has at most `indices` iterations of each loop, so a buffer of that size is never too short.
-fn of_processor(entry: OfProcessor, table: &[u8], p: u32, processor: u32, indices: usize) -> Result<Vec<Iteration>, Refusal> {
-    let mut answer = [0; 4];
-    let mut out = vec![0; 8 * indices * shifts_and_peels(table)?.len()];
-    let (lent, room) = (out.as_mut_ptr(), out.len());
-    // SAFETY: as in `of_table`.
-    let written = unsafe { entry(table.as_ptr(), table.len(), p, processor, lent, room, &mut answer) };
-    Refusal::of_answer(&answer)?;
-    let numbers = numbers(&out[..written as usize]);
+/// A list has the iterations of its ranges, so a buffer for so many is never too short.
+fn list(entry: OfProcessor, table: &[u8], p: u32, processor: u32, ranges: &[Range<u32>]) -> Result<Vec<Iteration>, Refusal> {
+    let room = 8 * ranges.iter().map(ExactSizeIterator::len).sum::<usize>();
+    let numbers = of_processor(entry, table, p, processor, room)?;
     Ok(pairs(&numbers).map(|(loop_number, index)| Iteration { loop_number, index }).collect())
-}
-
-/// Four little-endian bytes each.
-fn numbers(bytes: &[u8]) -> Vec<u32> {
-    bytes.chunks_exact(4).map(|four| u32::from_le_bytes([four[0], four[1], four[2], four[3]])).collect()
-}
-
-fn pairs(numbers: &[u32]) -> impl Iterator<Item = (u32, u32)> + '_ {
-    numbers.chunks_exact(2).map(|two| (two[0], two[1]))
 }

@@ -5,6 +5,7 @@ use std::error::Error;
 use std::fmt;
 
 #[derive(Clone, Copy, Debug, PartialEq, Eq, Hash)]
+#[non_exhaustive]
 pub enum Ground {
     Torn,
     Kind,
@@ -21,7 +22,7 @@ pub enum Ground {
     Buffer,
     Unlike,
     State,
-    /// A number that this wrapper does not know: the library is newer.
+    /// A number that this wrapper does not know: the library is of another version.
     Other(u64),
 }
 
@@ -77,6 +78,7 @@ impl Ground {
 
 /// Why a call was refused.
 #[derive(Clone, Copy, Debug, PartialEq, Eq)]
+#[non_exhaustive]
 pub struct Refusal {
     pub ground: Ground,
     /// For torn to tail a byte of the table (for crowd 0 where joined tables have too many loops in all), for serial a loop, else 0.

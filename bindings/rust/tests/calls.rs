@@ -16,10 +16,13 @@ fn ground<T: std::fmt::Debug>(result: Result<T, Refusal>) -> u64 {
 #[test]
 fn the_example_is_planned_as_its_listing_says() {
     assert_eq!(check(EXAMPLE), Ok(()));
-    assert_eq!(shifts_and_peels(EXAMPLE), Ok(vec![Amounts { shift: 0, peel: 0 }, Amounts { shift: 1, peel: 1 }]));
+    let amounts = shifts_and_peels(EXAMPLE).expect("accepted");
+    assert_eq!(amounts.iter().map(|one| (one.shift, one.peel)).collect::<Vec<_>>(), [(0, 0), (1, 1)]);
     assert_eq!(threshold(EXAMPLE), Ok(2));
-    assert_eq!(sweeps(EXAMPLE), Ok(Sweeps { before: 6, after: 5 }));
-    assert_eq!(blocks(EXAMPLE, 2), Ok(vec![Block { first: 1, last: 5 }, Block { first: 6, last: 10 }]));
+    let sweeps = sweeps(EXAMPLE).expect("accepted");
+    assert_eq!((sweeps.before, sweeps.after), (6, 5));
+    let blocks = blocks(EXAMPLE, 2).expect("accepted");
+    assert_eq!(blocks.iter().map(|one| (one.first, one.last)).collect::<Vec<_>>(), [(1, 5), (6, 10)]);
     assert!(listing(EXAMPLE, 2).expect("accepted").starts_with("loop 0 0 0\nloop 1 1 1\nblock 0 1 5\n"));
     assert_eq!(ground(listing(EXAMPLE, 6)), 11);
 }
@@ -49,12 +52,36 @@ fn runs_leave_3_12_and_21() {
 fn a_step_reports_its_iteration_then_waits() {
     let (mut state, mut memory) = (State::new(), own_index());
     let first = step(EXAMPLE, 2, 1, &mut state, &mut memory);
-    assert_eq!(first, Ok(Report::Iteration { loop_number: 0, index: 6 }));
+    assert!(matches!(first, Ok(Report::Iteration { loop_number: 0, index: 6, .. })), "{first:?}");
     for _ in 1..9 {
         step(EXAMPLE, 2, 1, &mut state, &mut memory).expect("accepted");
     }
     assert_eq!(step(EXAMPLE, 2, 1, &mut state, &mut memory), Ok(Report::Waiting));
     assert_eq!(state.counts[..3], [0, 9, 0]);
+}
+
+/// The last of two processors has nine fused iterations and no peeled ones, the first nine and two.
+#[test]
+fn a_processor_is_finished_once_the_barrier_is_open() {
+    let (mut state, mut memory) = (State::new(), own_index());
+    let mut said = Vec::new();
+    for processor in [[1; 10], [0; 10]].concat() {
+        said.push(step(EXAMPLE, 2, processor, &mut state, &mut memory).expect("accepted"));
+    }
+    assert_eq!(said[9], Report::Waiting);
+    assert_eq!(step(EXAMPLE, 2, 1, &mut state, &mut memory), Ok(Report::Finished));
+    assert!(matches!(said[19], Report::Iteration { loop_number: 1, index: 5, .. }), "{:?}", said[19]);
+    let last = step(EXAMPLE, 2, 0, &mut state, &mut memory);
+    assert!(matches!(last, Ok(Report::Iteration { loop_number: 1, index: 6, .. })), "{last:?}");
+    assert_eq!(step(EXAMPLE, 2, 0, &mut state, &mut memory), Ok(Report::Finished));
+}
+
+#[test]
+fn a_report_that_is_not_known_is_no_iteration() {
+    assert_eq!(Report::of_numbers([0, 0, 0]), Report::Other(0));
+    assert_eq!(Report::of_numbers([4, 1, 2]), Report::Other(4));
+    assert_eq!(Report::of_numbers([2, 0, 0]), Report::Waiting);
+    assert_eq!(Report::of_numbers([3, 0, 0]), Report::Finished);
 }
 
 #[test]
@@ -107,12 +134,15 @@ fn every_call_names_the_same_read() {
     let mut memory = own_index();
     assert_eq!(join(EXAMPLE, SERIAL), Err(serial));
     assert_eq!(join(SERIAL, EXAMPLE), Err(serial));
+    assert_eq!(facts(SERIAL), Err(serial));
     assert_eq!(shifts_and_peels(SERIAL), Err(serial));
     assert_eq!(threshold(SERIAL), Err(serial));
     assert_eq!(sweeps(SERIAL), Err(serial));
     assert_eq!(blocks(SERIAL, 2), Err(serial));
     assert_eq!(fused_list(SERIAL, 2, 0), Err(serial));
     assert_eq!(peeled_list(SERIAL, 2, 0), Err(serial));
+    assert_eq!(fused_ranges(SERIAL, 2, 0), Err(serial));
+    assert_eq!(peeled_ranges(SERIAL, 2, 0), Err(serial));
     assert_eq!(plain_run(SERIAL, &mut memory), Err(serial));
     assert_eq!(step(SERIAL, 2, 0, &mut State::new(), &mut memory), Err(serial));
     assert_eq!(run(SERIAL, 2, &[], &mut memory), Err(serial));

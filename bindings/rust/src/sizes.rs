@@ -1,0 +1,28 @@
+//! The header's numbers, under its names without the prefix.
+
+/// The largest number of processors of a plan.
+pub const MOST_PROCESSORS: u32 = 64;
+
+/// The longest accepted table, so also the longest joined one.
+pub const TABLE_BYTES: usize = 2_065;
+
+/// No byte past these changes an answer: reading so many of a file is enough.
+pub const DECIDING_BYTES: usize = 2_077;
+
+/// Facts of 16 arrays and 16 loops.
+pub const FACTS_BYTES: usize = 268;
+
+/// Shifts and peels of 16 loops.
+pub const AMOUNT_BYTES: usize = 128;
+
+/// A processor's ranges in 16 loops.
+pub const RANGE_BYTES: usize = 128;
+
+/// First and last index of 64 blocks.
+pub const BLOCK_BYTES: usize = 512;
+
+/// No listing has more.
+pub const LISTING_BYTES: usize = 48_400;
+
+#[deprecated(since = "0.2.0", note = "it is TABLE_BYTES, as in C")]
+pub const MOST_TABLE_BYTES: usize = TABLE_BYTES;

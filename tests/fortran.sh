@@ -1,0 +1,166 @@
+#!/usr/bin/env bash
+# Every procedure of the Fortran module on every table of examples/, for several numbers of processors, and on refused ones. What
+# tests/fortran/calls.f90 must print is made from the proved program's listing (bin/plan) and from the table's text.
+set -eu
+cd "$(dirname "$0")/.."
+library=${VEMPALDI_LIB:-build}
+made=build/fortran
+mkdir -p "$made"
+gfortran -std=f2018 -Wall -Wextra -Werror -fcheck=all -J"$made" bindings/fortran/vempaldi.f90 tests/fortran/calls.f90 \
+    -L"$library" -lvempaldi -o "$made/calls"
+version=$(sed -nE 's/^#define VEMPALDI_VERSION ([0-9]+).*/\1/p' include/vempaldi.h)
+runs=0
+
+# The answer of each call that follows.
+answers() {
+    local numbers=$1 call
+    shift
+    for call; do echo "answer $call $numbers"; done
+}
+
+# Arrays, bounds and elements, from the text.
+facts() {
+    awk '
+        $1 == "array" { print "array", arrays++, elements + 0, $3; elements += $3 }
+        $1 == "loop" { bounds = bounds "bounds " loops++ " " $2 " " $3 "\n" }
+        END { printf "%s", bounds; print "elements", elements }' "$1"
+}
+
+# All lists, from the listing: processor, phase, and in the order of the list loop and index. A fused list (0) rises in index plus shift, equal
+# sums in loop order; a peeled one (1) goes loop by loop.
+lists() {
+    awk '
+        $1 == "loop" { shift[$2] = $3 }
+        $1 == "fused" { for (i = $4; i <= $5; i++) print $2, 0, i + shift[$3], $3, i }
+        $1 == "peeled" { for (i = $4; i <= $5; i++) print $2, 1, 0, $3, i }' | sort -n -k1,1 -k2,2 -k3,3 -k4,4 -k5,5
+}
+
+# What is told of each processor: its ranges, as the listing has them, and its lists.
+of_processors() {
+    awk -v processors="$1" '
+        function answers(one, other) { print "answer " one " 0 0 0 0"; print "answer " other " 0 0 0 0" }
+        FILENAME == ARGV[1] { list[$1] = list[$1] ($2 ? "peeled" : "fused") "-iteration " $1 " " $4 " " $5 "\n"; next }
+        $1 == "fused" || $1 == "peeled" { part[$2] = part[$2] $0 "\n" }
+        END {
+            for (b = 0; b < processors; b++) {
+                answers("fused ranges", "peeled ranges")
+                printf "%s", part[b]
+                answers("fused list", "peeled list")
+                printf "%s", list[b]
+            }
+        }' "$made/lists" -
+}
+
+# What every plan has, whether or not it is accepted for so many processors: numbers of the table.
+of_table() {
+    echo "version $version"
+    answers "0 0 0 0" check facts
+    facts "$text"
+    answers "0 0 0 0" amounts
+    printf '%s\n' "$one" | grep '^loop '
+    answers "0 0 0 0" threshold
+    printf '%s\n' "$one" | awk '$1 == "loop" && most < $3 + $4 { most = $3 + $4 } END { print "threshold", most + 0 }'
+    answers "0 0 0 0" sweeps
+    printf '%s\n' "$one" | grep '^sweeps '
+}
+
+joined() {
+    local arrays
+    arrays=$(grep -c '^array ' "$text")
+    answers "0 0 0 0" join
+    echo "joined-bytes $((2 * $(wc -c < "$table") - 5 * arrays - 1))"
+}
+
+accepted() {
+    local processors=$1 listing=$2 own iterations
+    of_table
+    answers "0 0 0 0" blocks
+    printf '%s\n' "$listing" | grep '^block '
+    printf '%s\n' "$listing" | lists > "$made/lists"
+    printf '%s\n' "$listing" | of_processors "$processors"
+    answers "10 0 0 0" "fused ranges" "peeled ranges" "fused list" "peeled list"
+    answers "0 0 0 0" listing
+    echo "listing-bytes $(printf '%s\n' "$listing" | wc -c)"
+    joined
+    # The order names processor 0 twice, then one that there is not.
+    own=$(grep -c '^0 0 ' "$made/lists" || true)
+    iterations=$(awk '$1 == "loop" { n += $3 - $2 + 1 } END { print n }' "$text")
+    answers "0 0 0 0" "plain run" run
+    echo "idle $((own < 2 ? 3 - own : 1))"
+    answers "10 0 0 0" step
+    printf '%s\n' "performed $iterations $iterations" "finished T" "alike T T"
+    answers "12 0 0 0" "longer memory"
+}
+
+# A plan that is refused with 10 or 11. The processor behind the last one is refused with 10 first.
+refused() {
+    local processors=$1 ground=$2 b
+    of_table
+    answers "$ground 0 0 0" blocks
+    for ((b = 0; b <= processors; b++)); do
+        [ "$b" -lt "$processors" ] || ground=10
+        answers "$ground 0 0 0" "fused ranges" "peeled ranges" "fused list" "peeled list"
+    done
+    answers "$2 0 0 0" listing
+    echo "listing-bytes 0"
+    joined
+    answers "0 0 0 0" "plain run"
+    answers "$2 0 0 0" run
+    echo "idle 0"
+    answers "10 0 0 0" step
+    printf '%s\n' "performed 0 0" "finished $([ "$processors" -eq 0 ] && echo T || echo F)" "alike F F"
+    answers "12 0 0 0" "longer memory"
+}
+
+# A table that is refused: each call gives the same answer, and nothing else.
+no_table() {
+    echo "version $version"
+    answers "$1" check facts
+    echo "elements -1"
+    answers "$1" amounts threshold
+    echo "threshold -1"
+    answers "$1" sweeps
+    echo "sweeps -1 -1"
+    answers "$1" blocks "fused ranges" "peeled ranges" "fused list" "peeled list" "fused ranges" "peeled ranges" "fused list" "peeled list"
+    answers "$1" listing
+    echo "listing-bytes 0"
+    answers "$1" join
+    echo "joined-bytes 0"
+    answers "$1" "plain run" run
+    echo "idle 0"
+    answers "$1" step
+    printf '%s\n' "performed 0 0" "finished F" "alike T T"
+    answers "$1" "longer memory"
+}
+
+# same FILE P: the program says what is in $made/expected.
+same() {
+    runs=$((runs + 1))
+    "$made/calls" "$1" "$2" > "$made/told" 2>&1 || true
+    if ! cmp -s "$made/expected" "$made/told"; then
+        echo "the Fortran module on $1, P = $2; < is expected, > what it says:"
+        diff "$made/expected" "$made/told" | head -20
+        exit 1
+    fi
+}
+
+for table in examples/*.table; do
+    text=${table%.table}.txt
+    one=$(bin/plan 1 "$table")
+    for processors in 0 1 2 3 5 6 8 17 64 65; do
+        listing=$(bin/plan "$processors" "$table")
+        case $listing in
+        refused*) refused "$processors" "$(echo "$listing" | cut -d' ' -f2)" > "$made/expected" ;;
+        *) accepted "$processors" "$listing" > "$made/expected" ;;
+        esac
+        same "$table" "$processors"
+    done
+done
+# A0[i] = A0[i] + A0[i+10] + A0[i+9] + A0[i+1], 1 to 10: the reads 2 and 3 meet the destination in another iteration.
+printf '\1\25\0\0\0\2\1\0\0\0\12\0\0\0\0\0\0\3\0\0\0\3\0\12\0\5\1\3\0\11\0\5\1\3\0\1\0\5\1\6' > "$made/serial.table"
+no_table "9 0 2 0" > "$made/expected"
+same "$made/serial.table" 1
+head -c 60 examples/example.table > "$made/torn.table"
+no_table "1 60 0 0" > "$made/expected"
+same "$made/torn.table" 1
+echo "the Fortran module: $runs runs of every procedure, as the proved program and the texts of the tables say"
