@@ -17,7 +17,7 @@ use Rattle.blocks.specs.BlockLaws.{short-given, short-not}
 use Rattle.turns.specs.Turn.{closed, wrongCount, wrongState}
 use Rattle.plans.specs.Plans.{Settings, Planned, thresholdOf, badProcessors, badNumber, shortFor}
 use Rattle.stepping.specs.Step.{workOf, fused, peeled}
-use Rattle.stepping.specs.Paper.{wrong-is, barrier-is}
+use Rattle.stepping.specs.Worded.{wrong-is, barrier-is}
 use Rattle.answers.specs.Statements.{BadProcessors, BadNumber, Short, AboveLists, BeforeBarrier, BadCount, above, early, beyond, BadState}
 
 -- a test and a statement say the same

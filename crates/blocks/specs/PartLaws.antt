@@ -55,7 +55,7 @@ module _ (P : ℕ) (E : ℕ → ℕ) (own : Range) (s p i b : ℕ) (proper : b <
             λ q. (omega (arith, q .1 .low), omega (arith, q .1 .high)),
           )
 
--- where ground 11 is not given, the paper's blocks have the gaps
+-- where ground 11 is not given, its blocks have the gaps
 pub not-short-gaps : (first T P threshold : ℕ) → 0 < P → isShort T P threshold ≡ false → Gaps P (edge first T P) threshold
 not-short-gaps first T P threshold pos e = record {
   some = pos;

@@ -1,4 +1,4 @@
--- The order inside one record: a refusal with 1 to 7 carries the number of the first test, in the paper's order, that holds at its place;
+-- The order inside one record: a refusal with 1 to 7 carries the number of the first test, in docs/TABLE.md's order, that holds at its place;
 -- and the other way, that number is what an input is refused with.
 use Prim.Native.Nat.{ℕ, _≤_}
 use native.Mathlib.Omega.{arith}

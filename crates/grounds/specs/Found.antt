@@ -1,4 +1,4 @@
--- What the tests of a record give is the number of the first test that holds, in the paper's order; and that number's ground holds there.
+-- What the tests of a record give is the number of the first test that holds, in docs/TABLE.md's order; and that number's ground holds there.
 use Prim.Native.Nat.{ℕ, zero, suc, _+_, _≤_, _<_}
 use native.Mathlib.Omega.{arith}
 use mathlib.Core.Path.{_≡_, refl, sym, subst, _∙_}

@@ -6,7 +6,7 @@ pub mod PlaceLaws
 pub mod Statements
 -- a ground by its number, and its place
 pub mod StatementLaws
--- the tests of a record, in the paper's order
+-- the tests of a record, in docs/TABLE.md's order
 pub mod Tests
 -- the summary that the tests look at, in the words of the statements
 pub mod Counted

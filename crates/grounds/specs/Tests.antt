@@ -1,5 +1,5 @@
--- The tests of the record at a place, in the paper's order: 'Records are tested left to right. Within one: 2, then 6 for a body left
--- unfinished, 4, 1, fields in byte order (3 and 5), the element total (4), 6, 7. An absent kind byte is 1'.
+-- The tests of the record at a place, in docs/TABLE.md's order. Records are tested left to right; within one: 2, then 6 for a body left
+-- unfinished, 4, 1, fields in byte order (3 and 5), the element total (4), 6, 7. An absent kind byte is 1.
 use Prim.Native.Nat.{ℕ, _≤_, _<_}
 use mathlib.Core.Path.{_≡_}
 use mathlib.Core.Logic.{_⊎_}

@@ -1,4 +1,4 @@
--- The known results, from bytes and by computation, in the paper's order, and one of what 9 names.
+-- The known results, from bytes and by computation, in docs/TABLE.md's order, and one of what 9 names.
 use mathlib.Core.Path.{_≡_, refl}
 use mathlib.Core.List.{[], _∷_}
 use lib.Ieee.{nan, binary64, toBits}

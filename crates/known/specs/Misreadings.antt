@@ -1,4 +1,4 @@
--- The paper's misreadings, each with a table of which it would say something else. (Stopping a chain at distance 0: Known's `distances`.)
+-- Misreadings of docs/TABLE.md, each with a table of which it would say something else. (Stopping a chain at distance 0: Known's `distances`.)
 use mathlib.Core.Path.{_≡_, refl}
 use mathlib.Core.List.{[], _∷_}
 use Rattle.model.specs.Table.{iteration}

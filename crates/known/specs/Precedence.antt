@@ -1,4 +1,4 @@
--- Where a table meets several grounds, the earliest record decides, and in one record the paper's order: an example for each two that can meet.
+-- Where a table meets several grounds, the earliest record decides, and in one record docs/TABLE.md's order: an example for each two that can meet.
 use mathlib.Core.Path.{_≡_, refl}
 use mathlib.Core.List.{[], _∷_, _++_}
 use Rattle.refusals.specs.Refusals.{met}

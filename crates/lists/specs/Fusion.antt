@@ -48,7 +48,7 @@ module _ (t : Table) (c : Fusion) where
   work zero b = fusedList b
   work (suc n) b = peeledList b
 
--- with the blocks as the paper cuts them: P of the indices from the least first to the greatest last
+-- with the blocks as docs/TABLE.md cuts them: P of the indices from the least first to the greatest last
 abbrev pub fusionOf : Table → ℕ → (ℕ → ℕ) → (ℕ → ℕ) → Fusion
 fusionOf t P s p = record { shift = s; peel = p; processors = P; edge = edgeOf (tableSpan t .first) (tableSpan t .count) P }
 

@@ -1,4 +1,4 @@
--- The tests of one record, in the paper's order. 0: none of the grounds holds.
+-- The tests of one record, in docs/TABLE.md's order. 0: none of the grounds holds.
 use Prim.Native.Nat.{ℕ, _+_}
 use mathlib.Core.Bool.{Bool, true, false, not}
 use mathlib.Core.List.{List}

@@ -1,4 +1,4 @@
--- The record at a place is the one that the paper's table says; what is kept of an offset tells whether it is one from −255 to 255, and
+-- The record at a place is the one that docs/TABLE.md says; what is kept of an offset tells whether it is one from −255 to 255, and
 -- every such offset can be written.
 use Prim.Native.Nat.{ℕ, zero, suc, _+_, _*_, _-_, _%_, _≤_, _<_}
 use native.Mathlib.Omega.{arith}

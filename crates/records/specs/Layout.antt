@@ -1,4 +1,4 @@
--- A record in bytes, as the paper's table lays it out: 'Numbers are little-endian; an offset is a signed 16-bit number, the rest are unsigned'.
+-- A record in bytes, as docs/TABLE.md lays it out: numbers are little-endian; an offset is a signed 16-bit number, the rest are unsigned.
 use Prim.Native.Nat.{ℕ, _+_, _*_, _<_}
 use mathlib.Core.Path.{_≡_}
 use mathlib.Core.Logic.{_⊎_}

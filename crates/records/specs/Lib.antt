@@ -16,7 +16,7 @@ pub mod Ways
 pub mod Passing
 -- a record is told by its own bytes alone
 pub mod Same
--- a record in bytes, as the paper's table lays it out
+-- a record in bytes, as docs/TABLE.md lays it out
 pub mod Layout
 -- the record at a place is the one that the table says
 pub mod LaidOut

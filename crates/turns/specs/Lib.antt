@@ -1,6 +1,6 @@
 -- a turn, the counts that are refused, and a step
 pub mod Turn
--- the same for two phases, as the paper says it
+-- the same for two phases, as docs/TABLE.md says it
 pub mod TwoPhases
 -- rows of calls, and what holds of them whatever a call does
 pub mod Row

@@ -1,4 +1,4 @@
--- TWO PHASES, a fused and a peeled list for each processor: a turn, and ground 15's counts, as the paper says them.
+-- TWO PHASES, a fused and a peeled list for each processor: a turn, and ground 15's counts, as docs/TABLE.md says them.
 use Prim.Native.Nat.{ℕ, _+_, _-_, _<_}
 use native.Mathlib.Omega.{arith}
 use native.Mathlib.Decide.{decLt}

@@ -1,4 +1,4 @@
--- The barrier, 15 and a turn as the paper says them, of a processor's fused list and the peeled list that it runs past the barrier.
+-- The barrier, 15 and a turn as docs/TABLE.md says them, of a processor's fused list and the peeled list that it runs past the barrier.
 use Prim.Native.Nat.{ℕ, _+_, _-_}
 use mathlib.Core.Path.{_≡_, refl}
 use mathlib.Core.Bool.{cond, _&&_, _||_}
