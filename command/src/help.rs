@@ -23,9 +23,9 @@ pub const PLAN: Help = Help {
     usage: "vempaldi plan FILE.. -p N [-o DIR] [--json] [--raw]",
     does: "the plan for N processors",
     options: "  -p N         how many processors, 1 to 64
-  -o DIR       a file in DIR for each table instead of printing: NAME.plan, with --json NAME.json, NAME
-               being the file's name without directory and extension (stdin for -). Files of these
-               names are removed first; a refused table has no NAME.plan
+  -o DIR       a file in DIR for each table instead of printing: NAME.plan, with --json NAME.json,
+               NAME being the file's name without directory and extension (stdin for -). Files of
+               these names are removed first; a refused table has no NAME.plan
   --json       an object of JSON for each table, in a line of its own
 ",
     parts: &[LINES, JSON],
@@ -75,10 +75,10 @@ pub const DRAW: Help = Help {
 const ALL: [&Help; 7] = [&CHECK, &PLAN, &JOIN, &RUN, &DUMP, &MAKE, &DRAW];
 
 const FILES: &str = "
-FILE is a table or a text (vempaldi make --help describes texts): a text is what has 'array' or 'loop'
-as its first word outside comments. One FILE may be - for the standard input. With several files a
-last line on the standard error counts them. -p2 is -p 2, --order=turns is --order turns; behind --
-all words are files.
+FILE is a table or a text (vempaldi make --help describes texts): what has 'array' or 'loop' as its
+first word outside comments is a text. One FILE may be - for the standard input. With several files
+a last line on the standard error counts them. -p2 is -p 2, --order=turns is --order turns; behind
+-- all words are files.
 ";
 
 const STATUS: &str = "
@@ -101,8 +101,8 @@ The lines of a plan:
 ";
 
 const JSON: &str = "
-plan --json: docs/plan.schema.json has the form of the objects. A refused table and a wrong text have
-theirs too, with 'accepted' false; a file that cannot be read has none.
+plan --json: docs/plan.schema.json has the form of the objects. A refused table and a wrong text
+have theirs too, with 'accepted' false; a file that cannot be read has none.
 ";
 
 const ORDERS: &str = "
@@ -134,8 +134,8 @@ Accepted:
   plan, draw                    the plan's lines
   run: idle N                   N being the idle count
   join: N                       the count of bytes written
-join, make and draw then need -o OUT, a file, for what they make. --values, --json and plan's -o are
-not for --raw.
+join, make and draw then need -o OUT, a file, for what they make. --values, --json and plan's -o
+are not for --raw.
 ";
 
 const TEXT: &str = "
