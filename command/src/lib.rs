@@ -36,11 +36,12 @@ mod svg;
 mod text;
 mod wording;
 
-pub use explain::explain;
+pub use explain::{explain, Explanation};
 pub use infix::{assignment, Infix};
 pub use names::Names;
 pub use parse::{make, Made, TextError};
 pub use records::{decode, Item, Loop, Table};
+pub use serial::explain_serial;
 pub use text::dump;
 
 use outcome::Failure;

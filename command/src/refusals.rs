@@ -4,7 +4,7 @@
 use crate::explain::{explain, record_at, Explanation};
 use crate::input::{first_word, Input};
 use crate::parse::Told;
-use crate::serial::Serial;
+use crate::serial::{explain_serial, Serial};
 use crate::stand_in::facts;
 use crate::wording::{counted, quoted};
 use vempaldi::{Ground, Refusal};
@@ -38,7 +38,7 @@ pub fn text_place(input: &Input, refusal: &Refusal) -> Option<Told> {
 
 fn explanation(input: &Input, refusal: &Refusal) -> Option<Explanation> {
     match refusal.read() {
-        Some(read) => Serial::new(&input.table, &input.names, refusal.place, read).explain(),
+        Some(read) => explain_serial(&input.table, &input.names, refusal.place, read),
         None => explain(&input.table, &input.names, refusal),
     }
 }

@@ -85,3 +85,8 @@ fn meeting_words(one: &Loop, offset: i16) -> String {
     let when = if apart < 0 { "earlier" } else { "later" };
     format!("iteration i reads the element that the {when} iteration i{apart:+} stores (i = {})", spread(from, to))
 }
+
+/// What refusal 9 is about.
+pub fn explain_serial(table: &[u8], names: &Names, place: u64, read: u64) -> Option<Explanation> {
+    Serial::new(table, names, place, read).explain()
+}
