@@ -57,7 +57,11 @@ fn words(left: &Input, right: &Input, refusal: &Refusal) -> Option<String> {
             let (count, other) = (first.arrays.len(), second.arrays.len());
             Some(match different {
                 Some((array, (ours, theirs))) => {
-                    format!("array {array} has {}, in the second table {}", counted(ours.length as usize, "element"), theirs.length)
+                    format!(
+                        "array {array} has {}, in the second table {}",
+                        counted(ours.length as usize, "element"),
+                        theirs.length
+                    )
                 }
                 None => format!("the first table has {}, the second one {other}", counted(count, "array")),
             })

@@ -175,7 +175,7 @@ impl Maker {
         } else if begins_with_digit(word.text) {
             let value: u32 = word.text.parse().map_err(|_| wrong(word, no_whole_number(word.text)))?;
             self.record(&[&[4][..], &value.to_le_bytes()].concat(), word, &[]);
-        } else if let Some(positive) = word.text.strip_prefix('-').filter(|rest| begins_with_digit(rest)) {
+        } else if let Some(positive) = word.text.strip_prefix('-').filter(|rest| is_digits(rest)) {
             return Err(wrong(word, self.no_negative(word.text, positive)));
         } else {
             let read = self.reference(word, "no item: NAME[i+OFFSET], a whole number, or one of + - * / neg")?;
@@ -187,10 +187,8 @@ impl Maker {
 
     fn no_negative(&self, word: &str, positive: &str) -> String {
         let name = self.made.names.of(0);
-        format!(
-            "{} is no item: a whole number is not negative. Write '0 {positive} -' or '{positive} neg'; an offset is written {name}[i{word}]",
-            quoted(word)
-        )
+        let forms = format!("Write '0 {positive} -' or '{positive} neg'; an offset is written {name}[i{word}]");
+        format!("{} is no item: a whole number is not negative. {forms}", quoted(word))
     }
 
     fn reference(&self, word: &Piece, what: &str) -> Result<Reference, Wrong> {
@@ -237,6 +235,10 @@ fn number(word: &Piece, what: &str) -> Result<u32, Wrong> {
 
 fn begins_with_digit(word: &str) -> bool {
     word.starts_with(|first: char| first.is_ascii_digit())
+}
+
+fn is_digits(word: &str) -> bool {
+    !word.is_empty() && word.chars().all(|one| one.is_ascii_digit())
 }
 
 fn is_name(word: &str) -> bool {

@@ -53,7 +53,9 @@ pub fn message(input: &Input, refusal: &Refusal, asked: &Asked) -> String {
         _ => String::new(),
     };
     let words = match ground {
-        Ground::Processors => asked.processors.map(|count| format!("P is {count}, allowed are 1 to {}", vempaldi::MOST_PROCESSORS)),
+        Ground::Processors => {
+            asked.processors.map(|count| format!("P is {count}, allowed are 1 to {}", vempaldi::MOST_PROCESSORS))
+        }
         Ground::Short => asked.processors.and_then(|count| short(&input.table, count)),
         Ground::Memory => asked.numbers.and_then(|numbers| lengths(&input.table, numbers)),
         _ => explanation(input, refusal).map(|explanation| explanation.words),
@@ -78,7 +80,10 @@ fn short(table: &[u8], processors: u32) -> Option<String> {
         format!("{} for {}", counted(indices as usize, "index"), counted(processors as usize, "processor"))
     } else {
         let (least, threshold) = (indices / processors, vempaldi::threshold(table).ok()?);
-        format!("{} in {processors} blocks leave a block of {least}, the threshold is {threshold}", counted(indices as usize, "index"))
+        format!(
+            "{} in {processors} blocks leave a block of {least}, the threshold is {threshold}",
+            counted(indices as usize, "index")
+        )
     };
     let most = (1..=vempaldi::MOST_PROCESSORS).rev().find(|&count| vempaldi::blocks(table, count).is_ok())?;
     Some(format!("{why}; there is a plan for {} at most", counted(most as usize, "processor")))

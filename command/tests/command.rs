@@ -64,7 +64,10 @@ fn make_gives_the_examples_bytes_and_names_wrong_lines() {
         std::fs::remove_file(&out).expect("removed");
     }
     let told = fed(&["make", "-"], b"array A 12\n\nloop 1 10 -> A[i]: B[i]\n");
-    assert_eq!((told.status, told.err.as_str()), (1, "-:3:20: no array 'B'; there is A\n  loop 1 10 -> A[i]: B[i]\n                     ^\n"));
+    assert_eq!(
+        (told.status, told.err.as_str()),
+        (1, "-:3:20: no array 'B'; there is A\n  loop 1 10 -> A[i]: B[i]\n                     ^\n")
+    );
     let told = fed(&["make", "-"], b"array A 12\nloop 1 10 -> A[i]:\n  1\n  +\n");
     assert!(told.err.starts_with("-:4:3: refused 6 body"), "{}", told.err);
 }

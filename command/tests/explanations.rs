@@ -190,7 +190,8 @@ impl Case<'_> {
                 let code = usize::from(self.body()[0]);
                 let takes = if code == 5 { "1 waiting number" } else { "2 waiting numbers" };
                 let there = ["none", "one"][left];
-                left < if code == 5 { 1 } else { 2 } && self.words == format!("{} takes {takes}, {there} is there", OPERATIONS[code])
+                left < if code == 5 { 1 } else { 2 }
+                    && self.words == format!("{} takes {takes}, {there} is there", OPERATIONS[code])
             }
         }
     }
@@ -209,7 +210,12 @@ impl Case<'_> {
         let span = |from: i64, to: i64| if from == to { from.to_string() } else { format!("{from} to {to}") };
         let (low, high) = (first + offset, last + offset);
         let many = if low == high { "element" } else { "elements" };
-        let said = format!("A{array}[{index}] reaches {many} {} for i = {}, A{array} has {}", span(low, high), span(first, last), span(0, end));
+        let said = format!(
+            "A{array}[{index}] reaches {many} {} for i = {}, A{array} has {}",
+            span(low, high),
+            span(first, last),
+            span(0, end)
+        );
         (low < 0 || high > end) && self.words == said
     }
 
@@ -241,7 +247,9 @@ impl Case<'_> {
 fn holds(bytes: &[u8]) -> Option<((u64, String), bool)> {
     let refusal = vempaldi::check(bytes).err()?;
     let names = Names::default();
-    let found = refusal.read().map_or_else(|| explain(bytes, &names, &refusal), |read| explain_serial(bytes, &names, refusal.place, read));
+    let found = refusal
+        .read()
+        .map_or_else(|| explain(bytes, &names, &refusal), |read| explain_serial(bytes, &names, refusal.place, read));
     let Explanation { words, .. } = found.unwrap_or_else(|| panic!("no words for {refusal}: {bytes:?}"));
     let case = Case { bytes, place: refusal.place as usize, words: &words, said: numbers(&words) };
     let number = refusal.ground.number();
@@ -266,10 +274,9 @@ fn in_text(bytes: &[u8], refusal: &vempaldi::Refusal, words: &str) -> bool {
     let names = Names::default();
     let text = dump(bytes, &names);
     let Some(made) = make(&text).ok().filter(|made| made.bytes == bytes) else { return false };
-    let found = refusal.read().map_or_else(
-        || explain(bytes, &made.names, refusal),
-        |read| explain_serial(bytes, &made.names, refusal.place, read),
-    );
+    let found = refusal
+        .read()
+        .map_or_else(|| explain(bytes, &made.names, refusal), |read| explain_serial(bytes, &made.names, refusal.place, read));
     let Explanation { record, field, .. } = found.expect("words");
     let told = made.place(record, field);
     let line: Vec<char> = text.lines().nth(told.line - 1).unwrap_or("").chars().collect();

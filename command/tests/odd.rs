@@ -107,7 +107,8 @@ fn what_is_neither_text_nor_table_is_said_so() {
         let told = run(&[words, &["README.md"]].concat());
         assert_eq!(told.status, 1);
         let said = told.out + &told.err;
-        let hint = "kind 35, allowed are 1 to 6 (this looks like text, but begins with 'Vempaldi' and not with 'array' or 'loop')\n";
+        let hint =
+            "kind 35, allowed are 1 to 6 (this looks like text, but begins with 'Vempaldi' and not with 'array' or 'loop')\n";
         assert!(said.contains("refused 2 kind") && said.ends_with(hint), "{said}");
     }
     let told = run(&["make", EXAMPLE]);
@@ -125,7 +126,10 @@ fn a_wrong_text_is_named_by_line_and_word() {
         (long.as_str(), "-:1:1: 'xxxxxxxxxxxxxxxxxxxxxxxxxxxxxxxxxxxxxxxx..' where a line begins with 'array' or 'loop'\n"),
         ("\u{1b}[2J", "-:1:1: '\\u{1b}[2J' where a line begins with 'array' or 'loop'\n   [2J\n"),
         ("array A 12\nloop 1 10 -> A[i]: A[i]+1", "-:2:20: 'A[i]+1' is no item"),
-        ("array A 12\nloop 1 10 -> A[i]: 1.5", "-:2:20: '1.5' is not a whole number up to 4294967295; a fraction is a division: 3 2 /\n"),
+        (
+            "array A 12\nloop 1 10 -> A[i]: 1.5",
+            "-:2:20: '1.5' is not a whole number up to 4294967295; a fraction is a division: 3 2 /\n",
+        ),
         ("array A 12\nloop 1 10 -> A[i + 1]: 1", "-:2:17: ' + 1' is not an offset: +3 or -3\n"),
         ("array A 12\nloop 1 20 -> A[i]: 1", "-:2:14: refused 7 edge"),
     ] {

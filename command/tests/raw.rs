@@ -161,7 +161,10 @@ fn make_of_what_is_no_text_is_said_as_ever() {
     let out = Output::new("no-text");
     let wrong = b"array A 12\n\nloop 1 10 -> A[i]: B[i]\n";
     let told = fed(&["make", "--raw", "-", "-o", &out.0], wrong);
-    assert_eq!((told.status, told.out.as_str(), told.err.as_str()), (1, "", "-:3:20: no array 'B'; there is A\n  loop 1 10 -> A[i]: B[i]\n                     ^\n"));
+    assert_eq!(
+        (told.status, told.out.as_str(), told.err.as_str()),
+        (1, "", "-:3:20: no array 'B'; there is A\n  loop 1 10 -> A[i]: B[i]\n                     ^\n")
+    );
     let told = run(&["make", "--raw", EXAMPLE, "-o", &out.0]);
     assert_eq!((told.status, told.out.as_str()), (1, ""));
     assert!(told.err.starts_with("examples/example.table: this is a table, not a text"), "{}", told.err);
