@@ -168,6 +168,10 @@ fn columns_count_characters() {
     let item = "'\u{e4}\u{4e2d}' is no item: NAME[i+OFFSET], a whole number, or one of + - * / neg";
     let said = told_of("2:20", "loop 1 10 -> H[i]: \u{e4}\u{4e2d} 1", "                   ^^", item);
     assert_eq!(run_of(&["make", "-"], text), (1, String::new(), said));
+    // A wide blank is one character of three bytes.
+    let told = fed(&["make", "-"], "array H 12\nloop 1 10 -> H[i]:\u{3000}1 oops\n".as_bytes());
+    assert!(told.err.starts_with("-:2:22: 'oops' is no item"), "{}", told.err);
+    assert!(told.err.ends_with(&format!("\n  {}^^^^\n", " ".repeat(21))), "{}", told.err);
     // Bytes that are no UTF-8 are one character each.
     let told = fed(&["make", "-"], b"array H 12\nloop 1 10 -> H[i]: \xff\xfe 1 x\n");
     assert!(told.err.starts_with("-:2:20: '"), "{}", told.err);
