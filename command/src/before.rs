@@ -2,12 +2,6 @@
 
 use crate::records::{a_loop, kind_name, number, records, Record};
 
-pub const MOST_ARRAYS: usize = 16;
-pub const MOST_LOOPS: usize = 16;
-pub const MOST_ITEMS: usize = 32;
-pub const MOST_WAITING: usize = 8;
-pub const MOST_ELEMENTS: u32 = 262_144;
-
 #[derive(Default)]
 pub struct Before {
     /// How many records stand before the place, so also the number of the record there.

@@ -1,8 +1,9 @@
 //! What in a record meets a ground from 1 to 8. The ground and its place are the library's; here the record at that place is only put
 //! into words, in the order of the library's tests. Where nothing in it fits the ground there are no words.
 
-use crate::before::{a_kind, operands, Before, MOST_ARRAYS, MOST_ELEMENTS, MOST_ITEMS, MOST_LOOPS, MOST_WAITING};
+use crate::before::{a_kind, operands, Before};
 use crate::infix::named_reference;
+use crate::limits::*;
 use crate::names::Names;
 use crate::records::{a_loop, body_length, kind_name, number, offset, OPERATIONS};
 use crate::spans::Field;
@@ -11,11 +12,6 @@ use crate::wording::{counted, ordinal};
 use std::fmt::Display;
 use std::ops::RangeInclusive;
 use vempaldi::{Ground, Refusal};
-
-const LENGTHS: RangeInclusive<u32> = 1..=65_536;
-const INDICES: RangeInclusive<u32> = 0..=131_071;
-const OFFSETS: RangeInclusive<i16> = -255..=255;
-const OPERATION_CODES: RangeInclusive<u8> = 1..=5;
 
 /// The words, and which field of which record they are about.
 pub struct Explanation {
@@ -91,7 +87,7 @@ impl Place<'_> {
             (3..=5, _, 0) => whole(format!("{} before any loop, items belong to a loop", a_kind(kind))),
             (6, 0, _) => whole("the end comes before any array".to_string()),
             (6, _, 0) => whole("the end comes before any loop".to_string()),
-            _ => whole(outside("kind", kind, &(1..=6))?),
+            _ => whole(outside("kind", kind, &KINDS)?),
         }
     }
 

@@ -2,8 +2,8 @@
 
 use crate::answers;
 use crate::batch;
-use crate::before::MOST_LOOPS;
 use crate::input::Input;
+use crate::limits::MOST_LOOPS;
 use crate::options::Options;
 use crate::outcome::{Failure, Outcome};
 use crate::refusals::{line, Asked};

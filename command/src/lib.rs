@@ -13,6 +13,7 @@ mod infix;
 mod input;
 mod join;
 mod json;
+mod limits;
 mod make;
 mod memories;
 mod names;

@@ -1,12 +1,13 @@
 //! The bytes of a table from its text, and where in the text each of its records and fields stands.
 
+use crate::limits::{INDICES, LENGTHS, OFFSETS};
 use crate::names::Names;
 use crate::pieces::Piece;
 use crate::records::OPERATIONS;
 use crate::spans::{column, marked, Field, Span, Spot};
 use crate::wording::quoted;
 use std::fmt;
-use std::ops::Range;
+use std::ops::{Range, RangeInclusive};
 
 /// What is wrong with a text, and where: line and column count from 1, columns in characters.
 #[derive(Debug)]
@@ -138,7 +139,7 @@ impl Maker {
         if self.made.names.0.iter().any(|known| known == name.text) {
             return Err(wrong(&name, format!("there is an array {} already", name.text)));
         }
-        let value = number(&length, "a length, 1 to 65536")?;
+        let value = number(&length, "a length", &LENGTHS)?;
         self.made.names.0.push(name.text.to_string());
         self.record(&[&[1][..], &value.to_le_bytes()].concat(), keyword, &[(Field::Length, length.bytes())]);
         Ok(())
@@ -149,7 +150,7 @@ impl Maker {
         let (bounds, store) = head.split("->").ok_or_else(|| wrong(keyword, format!("a '->' is missing: {LOOP_FORM}")))?;
         let words: Vec<Piece> = bounds.words().collect();
         let [first, last] = words[..] else { return Err(wrong(words.get(2).unwrap_or(keyword), LOOP_FORM)) };
-        let bounds = [number(&first, "an index, 0 to 131071")?, number(&last, "an index, 0 to 131071")?];
+        let bounds = [number(&first, "an index", &INDICES)?, number(&last, "an index", &INDICES)?];
         let store = store.trimmed();
         let stored = self.reference(&store, "not what a loop stores: NAME[i], NAME[i+3] or NAME[i-3]")?;
         let fields = [
@@ -207,9 +208,10 @@ impl Maker {
 
 fn offset_value(offset: &Piece) -> Result<i16, Wrong> {
     let signed = offset.text.starts_with(['+', '-']);
+    let too_large = |text: &str| format!("{} is not an offset, {} to {}", quoted(text), OFFSETS.start(), OFFSETS.end());
     match offset.text {
         "" => Ok(0),
-        text if signed => text.parse().map_err(|_| wrong(offset, format!("{} is not an offset, -255 to 255", quoted(text)))),
+        text if signed => text.parse().map_err(|_| wrong(offset, too_large(text))),
         text => Err(wrong(offset, format!("{} is not an offset: +3 or -3", quoted(text)))),
     }
 }
@@ -228,9 +230,10 @@ fn no_whole_number(word: &str) -> String {
 }
 
 /// A length or an index. The library says whether it is in its range; here it only has to fit its four bytes.
-fn number(word: &Piece, what: &str) -> Result<u32, Wrong> {
+fn number(word: &Piece, what: &str, allowed: &RangeInclusive<u32>) -> Result<u32, Wrong> {
     let hint = if word.text.starts_with('-') { " (it is not negative)" } else { "" };
-    word.text.parse().map_err(|_| wrong(word, format!("{} is not {what}{hint}", quoted(word.text))))
+    let no_number = || format!("{} is not {what}, {} to {}{hint}", quoted(word.text), allowed.start(), allowed.end());
+    word.text.parse().map_err(|_| wrong(word, no_number()))
 }
 
 fn begins_with_digit(word: &str) -> bool {

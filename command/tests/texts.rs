@@ -4,6 +4,8 @@
 mod common;
 
 use common::{bytes, fed, out_name, run, EXAMPLE};
+use vempaldi_checks::random::Random;
+use vempaldi_command::{explain, explain_serial, make};
 
 const RIVER: &str = "examples/river.txt";
 
@@ -283,4 +285,59 @@ fn a_wrong_text_among_others_is_counted() {
         format!("{wrong}:1:9: 'x' is not a length, 1 to 65536\n  array H x\n          ^\n3 files: 2 accepted, 1 refused\n");
     assert_eq!(told.err, lines);
     std::fs::remove_file(&wrong).expect("removed");
+}
+
+/// The examples with some characters changed, taken away or put in between, mostly ones that mean something in a text.
+fn scribbled(random: &mut Random, text: &str) -> String {
+    let mut all: Vec<char> = text.chars().collect();
+    for _ in 0..random.between(1, 3) {
+        let at = random.below(all.len());
+        let one = random
+            .pick(&[' ', '\n', '#', ':', '[', ']', '-', '>', '+', '9', '0', 'i', 'A', 'x', '\t', '\u{e4}', '\u{3000}', '\0']);
+        match random.below(3) {
+            0 => all[at] = one,
+            1 => all.insert(at, one),
+            _ => {
+                all.remove(at);
+            }
+        }
+    }
+    all.into_iter().collect()
+}
+
+/// The token stands in the text at the line and column that are told.
+fn stands(text: &str, line: usize, column: usize, token: &str) {
+    let found: String = text.lines().nth(line - 1).unwrap_or("").chars().skip(column - 1).take(token.chars().count()).collect();
+    assert_eq!(found, token, "{line}:{column}\n{text}");
+}
+
+#[test]
+fn whatever_is_wrong_with_a_text_stands_where_it_is_told() {
+    let mut random = Random::new(71);
+    let examples =
+        ["example", "jacobi", "river"].map(|name| String::from_utf8(bytes(&format!("examples/{name}.txt"))).expect("text"));
+    let (mut wrong, mut refused) = (0, 0);
+    for round in 0..6_000 {
+        let text = scribbled(&mut random, &examples[round % 3]);
+        let made = match make(&text) {
+            Ok(made) => made,
+            Err(error) => {
+                stands(&text, error.line, error.column, &error.token);
+                assert!(error.to_string().lines().count() == 3, "{error}");
+                wrong += 1;
+                continue;
+            }
+        };
+        if let Err(refusal) = vempaldi::check(&made.bytes) {
+            let found = match refusal.read() {
+                Some(read) => explain_serial(&made.bytes, &made.names, refusal.place, read),
+                None => explain(&made.bytes, &made.names, &refusal),
+            };
+            let found = found.unwrap_or_else(|| panic!("no words for {refusal}\n{text}"));
+            let told = made.place(found.record, found.field);
+            stands(&text, told.line, told.column, &told.token);
+            refused += 1;
+        }
+    }
+    assert!(wrong > 1_000 && refused > 100, "{wrong} wrong, {refused} refused");
 }
