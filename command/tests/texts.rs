@@ -108,48 +108,55 @@ fn told_of(place: &str, line: &str, marks: &str, what: &str) -> String {
     format!("-:{place}: {what}\n  {line}\n  {marks}\n")
 }
 
-/// Each wrong line with the mark below it, behind a first line that has an array; every command says the same, `make` too.
+/// Wrong lines behind an array H: the line, the mark below it, what is said.
+const WRONG: [(&str, &str, &str); 23] = [
+    ("loop 1 10 -> H[i]: H[i] -1 +", "                        ^^", NEGATIVE_1),
+    ("loop 1 10 -> H[i]: -20", "                   ^^^", NEGATIVE_20),
+    (
+        "loop 1 10 -> H[i]: H[i]+1",
+        "                   ^^^^^^",
+        "'H[i]+1' is no item: NAME[i+OFFSET], a whole number, or one of + - * / neg",
+    ),
+    (
+        "loop 1 10 -> H[i]: 1 2 ++",
+        "                       ^^",
+        "'++' is no item: NAME[i+OFFSET], a whole number, or one of + - * / neg",
+    ),
+    ("loop 1 10 -> H[i]: 4294967296", "                   ^^^^^^^^^^", "'4294967296' is not a whole number up to 4294967295"),
+    ("loop 1 10 -> H[i]: Q[i-1]", "                   ^", "no array 'Q'; there is H"),
+    ("loop 1 10 -> Q[i]: 1", "             ^", "no array 'Q'; there is H"),
+    ("loop 1 10 -> H: 1", "             ^", "'H' is not what a loop stores: NAME[i], NAME[i+3] or NAME[i-3]"),
+    ("loop 1 10 -> H[i+99999]: 1", "                ^^^^^^", "'+99999' is not an offset, -255 to 255"),
+    ("loop 1 10 -> H[i3]: 1", "                ^", "'3' is not an offset: +3 or -3"),
+    ("loop -1 10 -> H[i]: 1", "     ^^", "'-1' is not an index, 0 to 131071 (it is not negative)"),
+    ("loop 1 x -> H[i]: 1", "       ^", "'x' is not an index, 0 to 131071"),
+    ("loop 1 2 3 -> H[i]: 1", "         ^", "a loop is 'loop FIRST LAST -> NAME[i+OFFSET]: ITEMS'"),
+    ("loop 1 -> H[i]: 1", "^^^^", "a loop is 'loop FIRST LAST -> NAME[i+OFFSET]: ITEMS'"),
+    ("loop 1 10 H[i]: 1", "^^^^", "a '->' is missing: a loop is 'loop FIRST LAST -> NAME[i+OFFSET]: ITEMS'"),
+    ("loop 1 10 -> H[i] 1", "^^^^", NO_COLON),
+    ("array Q -5", "        ^^", "'-5' is not a length, 1 to 65536 (it is not negative)"),
+    ("array Q 1e3", "        ^^^", "'1e3' is not a length, 1 to 65536"),
+    ("array 2 10", "      ^", "'2' is not a name: a letter, then letters, digits or _"),
+    ("array H 10", "      ^", "there is an array H already"),
+    ("array Q", "^^^^^", "an array is 'array NAME LENGTH'"),
+    ("array Q 10 11", "           ^^", "an array is 'array NAME LENGTH'"),
+    ("1 +", "^", "'1' where a line begins with 'array' or 'loop'"),
+];
+const NEGATIVE_1: &str = "'-1' is no item: a whole number is not negative. Write '0 1 -' or '1 neg'; an offset is written H[i-1]";
+const NEGATIVE_20: &str =
+    "'-20' is no item: a whole number is not negative. Write '0 20 -' or '20 neg'; an offset is written H[i-20]";
+
+/// The column of the first mark, from 1.
+fn column(marks: &str) -> usize {
+    marks.len() - marks.trim_start().len() + 1
+}
+
+/// Every command says the same.
 #[test]
 fn a_wrong_text_is_told_with_its_line_and_a_mark() {
-    let item = "no item: NAME[i+OFFSET], a whole number, or one of + - * / neg";
-    let negative = |word: &str, n: &str| {
-        format!(
-            "'{word}' is no item: a whole number is not negative. Write '0 {n} -' or '{n} neg'; an offset is written H[i{word}]"
-        )
-    };
-    for (line, marks, what) in [
-        ("loop 1 10 -> H[i]: H[i] -1 +", "                        ^^", negative("-1", "1")),
-        ("loop 1 10 -> H[i]: -20", "                   ^^^", negative("-20", "20")),
-        ("loop 1 10 -> H[i]: H[i]+1", "                   ^^^^^^", format!("'H[i]+1' is {item}")),
-        ("loop 1 10 -> H[i]: 1 2 ++", "                       ^^", format!("'++' is {item}")),
-        (
-            "loop 1 10 -> H[i]: 4294967296",
-            "                   ^^^^^^^^^^",
-            "'4294967296' is not a whole number up to 4294967295".to_string(),
-        ),
-        ("loop 1 10 -> H[i]: Q[i-1]", "                   ^", "no array 'Q'; there is H".to_string()),
-        ("loop 1 10 -> Q[i]: 1", "             ^", "no array 'Q'; there is H".to_string()),
-        ("loop 1 10 -> H: 1", "             ^", "'H' is not what a loop stores: NAME[i], NAME[i+3] or NAME[i-3]".to_string()),
-        ("loop 1 10 -> H[i+99999]: 1", "                ^^^^^^", "'+99999' is not an offset, -255 to 255".to_string()),
-        ("loop 1 10 -> H[i3]: 1", "                ^", "'3' is not an offset: +3 or -3".to_string()),
-        ("loop -1 10 -> H[i]: 1", "     ^^", "'-1' is not an index, 0 to 131071 (it is not negative)".to_string()),
-        ("loop 1 x -> H[i]: 1", "       ^", "'x' is not an index, 0 to 131071".to_string()),
-        ("loop 1 2 3 -> H[i]: 1", "         ^", "a loop is 'loop FIRST LAST -> NAME[i+OFFSET]: ITEMS'".to_string()),
-        ("loop 1 -> H[i]: 1", "^^^^", "a loop is 'loop FIRST LAST -> NAME[i+OFFSET]: ITEMS'".to_string()),
-        ("loop 1 10 H[i]: 1", "^^^^", "a '->' is missing: a loop is 'loop FIRST LAST -> NAME[i+OFFSET]: ITEMS'".to_string()),
-        ("loop 1 10 -> H[i] 1", "^^^^", NO_COLON.to_string()),
-        ("array Q -5", "        ^^", "'-5' is not a length, 1 to 65536 (it is not negative)".to_string()),
-        ("array Q 1e3", "        ^^^", "'1e3' is not a length, 1 to 65536".to_string()),
-        ("array 2 10", "      ^", "'2' is not a name: a letter, then letters, digits or _".to_string()),
-        ("array H 10", "      ^", "there is an array H already".to_string()),
-        ("array Q", "^^^^^", "an array is 'array NAME LENGTH'".to_string()),
-        ("array Q 10 11", "           ^^", "an array is 'array NAME LENGTH'".to_string()),
-        ("1 +", "^", "'1' where a line begins with 'array' or 'loop'".to_string()),
-    ] {
-        let text = format!("array H 12\n{line}   # and so on\n");
-        let place = format!("2:{}", marks.len() - marks.trim_start().len() + 1);
-        let shown = format!("{line}   # and so on");
-        let said = told_of(&place, &shown, marks, &what);
+    for (line, marks, what) in WRONG {
+        let line = format!("{line}   # and so on");
+        let said = told_of(&format!("2:{}", column(marks)), &line, marks, what);
         for words in [
             &["make", "-"][..],
             &["check", "-"],
@@ -158,7 +165,7 @@ fn a_wrong_text_is_told_with_its_line_and_a_mark() {
             &["dump", "-"],
             &["join", EXAMPLE, "-"],
         ] {
-            assert_eq!(run_of(words, &text), (1, String::new(), said.clone()), "{words:?}");
+            assert_eq!(run_of(words, &format!("array H 12\n{line}\n")), (1, String::new(), said.clone()), "{words:?}");
         }
     }
 }
@@ -193,68 +200,59 @@ fn long_lines_are_shown_in_part() {
     assert!(fed(&["make", "-"], long.as_bytes()).err.lines().all(|line| line.len() < 120));
 }
 
+/// Refused texts: the line of the word in question, the mark below that line, what is said.
+const REFUSED: [(&str, usize, &str, &str); 8] = [
+    (
+        "array H 12\narray Q 70000\n",
+        2,
+        "        ^^^^^",
+        "3 field at record 1 (array), byte 5: length 70000, allowed are 1 to 65536",
+    ),
+    (
+        "array H 12\nloop 1 131072 -> H[i]: 1\n",
+        2,
+        "       ^^^^^^",
+        "3 field at record 1 (loop), byte 5: last 131072, allowed are 0 to 131071",
+    ),
+    (
+        "array H 12\nloop 1 2 -> H[i-256]: 1\n",
+        2,
+        "               ^^^^",
+        "3 field at record 1 (loop), byte 5: offset -256, allowed are -255 to 255",
+    ),
+    (
+        "array H 12\nloop 1 12 -> H[i]: 1\n",
+        2,
+        "             ^^^^",
+        "7 edge at record 1 (loop), byte 5: H[i] reaches elements 1 to 12 for i = 1 to 12, H has 0 to 11",
+    ),
+    (
+        "array H 12\nloop 1 2 -> H[i]:\n  1 2\n  # no more\n\n",
+        3,
+        "    ^",
+        "6 body at record 4 (end), byte 27: the body of loop 0 leaves 2 numbers, one must be left",
+    ),
+    (
+        "array H 12\nloop 1 2 -> H[i]:\nloop 1 2 -> H[i]: 1\n",
+        2,
+        "^^^^",
+        "6 body at record 2 (loop), byte 17: the body of loop 0 is empty, one number must be left",
+    ),
+    (
+        "array H 12\nloop 1 2 -> H[i]: 1 2 3 4 5 6 7 8 H[i]\n",
+        2,
+        "                                  ^^^^",
+        "6 body at record 10 (read), byte 57: a 9th waiting number, at most 8 may wait",
+    ),
+    ("array H 12\narray Q 12\n", 2, "^^^^^", "2 kind at record 2 (end), byte 10: the end comes before any loop"),
+];
+
 /// The library's refusals are led back to the word in question.
 #[test]
 fn refusals_are_told_with_their_word() {
-    for (text, place, line, marks, said) in [
-        (
-            "array H 12\narray Q 70000\n",
-            "2:9",
-            "array Q 70000",
-            "        ^^^^^",
-            "3 field at record 1 (array), byte 5: length 70000, allowed are 1 to 65536",
-        ),
-        (
-            "array H 12\nloop 1 131072 -> H[i]: 1\n",
-            "2:8",
-            "loop 1 131072 -> H[i]: 1",
-            "       ^^^^^^",
-            "3 field at record 1 (loop), byte 5: last 131072, allowed are 0 to 131071",
-        ),
-        (
-            "array H 12\nloop 1 2 -> H[i-256]: 1\n",
-            "2:16",
-            "loop 1 2 -> H[i-256]: 1",
-            "               ^^^^",
-            "3 field at record 1 (loop), byte 5: offset -256, allowed are -255 to 255",
-        ),
-        (
-            "array H 12\nloop 1 12 -> H[i]: 1\n",
-            "2:14",
-            "loop 1 12 -> H[i]: 1",
-            "             ^^^^",
-            "7 edge at record 1 (loop), byte 5: H[i] reaches elements 1 to 12 for i = 1 to 12, H has 0 to 11",
-        ),
-        (
-            "array H 12\nloop 1 2 -> H[i]:\n  1 2\n  # no more\n\n",
-            "3:5",
-            "  1 2",
-            "    ^",
-            "6 body at record 4 (end), byte 27: the body of loop 0 leaves 2 numbers, one must be left",
-        ),
-        (
-            "array H 12\nloop 1 2 -> H[i]:\nloop 1 2 -> H[i]: 1\n",
-            "2:1",
-            "loop 1 2 -> H[i]:",
-            "^^^^",
-            "6 body at record 2 (loop), byte 17: the body of loop 0 is empty, one number must be left",
-        ),
-        (
-            "array H 12\nloop 1 2 -> H[i]: 1 2 3 4 5 6 7 8 H[i]\n",
-            "2:35",
-            "loop 1 2 -> H[i]: 1 2 3 4 5 6 7 8 H[i]",
-            "                                  ^^^^",
-            "6 body at record 10 (read), byte 57: a 9th waiting number, at most 8 may wait",
-        ),
-        (
-            "array H 12\narray Q 12\n",
-            "2:1",
-            "array Q 12",
-            "^^^^^",
-            "2 kind at record 2 (end), byte 10: the end comes before any loop",
-        ),
-    ] {
-        let said = format!("-:{place}: refused {said}\n  {line}\n  {marks}\n");
+    for (text, number, marks, said) in REFUSED {
+        let line = text.lines().nth(number - 1).expect("a line");
+        let said = told_of(&format!("{number}:{}", column(marks)), line, marks, &format!("refused {said}"));
         assert_eq!(run_of(&["make", "-"], text), (1, String::new(), said.clone()));
         assert_eq!(run_of(&["check", "-"], text), (1, said.clone(), String::new()));
         assert_eq!(run_of(&["plan", "-p2", "-"], text), (1, String::new(), said));
