@@ -1,11 +1,17 @@
 //! What a refusal's words say holds of the table: over many damaged tables every number in them is compared with the bytes, read here by
 //! code of its own, and a value that is said to be outside its range is outside it. The ranges are typed from the description of tables.
 
+// Only its way to run the command is needed here.
+#[allow(dead_code)]
+mod common;
+
+use common::fed;
 use std::collections::BTreeMap;
 use vempaldi_checks::collisions;
 use vempaldi_checks::damage;
 use vempaldi_checks::encoder::encode;
 use vempaldi_checks::limits;
+use vempaldi_checks::processors;
 use vempaldi_checks::random::Random;
 use vempaldi_checks::tables::{self, Shape, LARGE, MIDDLE, SMALL};
 use vempaldi_command::{dump, explain, explain_serial, make, Explanation, Names};
@@ -410,4 +416,50 @@ fn a_long_tail_is_counted_as_far_as_it_is_read() {
     for more in [1, 2, 2_000, 4_000] {
         holds(&[&good[..], &vec![0; more]].concat());
     }
+}
+
+/// What `plan` or `run` says behind the file's name, which is one line.
+fn told(words: &[&str], table: &[u8]) -> String {
+    let told = fed(words, table);
+    assert_eq!((told.status, told.out.as_str(), told.err.lines().count()), (1, "", 1), "{}", told.err);
+    told.err.strip_prefix("-: refused ").expect("a refusal").trim_end().to_string()
+}
+
+/// 10, 11 and 12, whose numbers are those of the call. The most processors are found by the second planner.
+#[test]
+fn words_about_a_call_hold_too() {
+    let mut random = Random::new(52);
+    let (mut few, mut short) = (0, 0);
+    for round in 0..60 {
+        let table = tables::any(&mut random, &[SMALL, SMALL, MIDDLE][round % 3]);
+        let (bytes, most) = (encode(&table), processors::most(&table));
+        let first = table.loops.iter().map(|one| one.first).min().expect("a loop");
+        let indices = table.loops.iter().map(|one| one.last).max().expect("a loop") - first + 1;
+        for count in [0, 65, u32::MAX] {
+            let said = told(&["plan", "-", "-p", &count.to_string()], &bytes);
+            assert_eq!(said, format!("10 processors: P is {count}, allowed are 1 to 64"));
+        }
+        for count in most + 1..=(most + 3).min(64) {
+            let said = told(&["plan", "-", "-p", &count.to_string()], &bytes);
+            let (why, at_most) = said.split_once("; there is a plan for ").expect("how many");
+            assert_eq!(at_most, format!("{most} processor{} at most", if most == 1 { "" } else { "s" }));
+            match numbers(why)[..] {
+                [11, all, asked] => {
+                    assert!((all, asked) == (indices.into(), count.into()) && all < asked, "{said}");
+                    few += 1;
+                }
+                [11, all, asked, least, threshold] => {
+                    assert!((all, asked) == (indices.into(), count.into()) && all >= asked, "{said}");
+                    assert!(least == all / asked && least < threshold, "{said}");
+                    short += 1;
+                }
+                _ => panic!("{said}"),
+            }
+        }
+        let elements = table.elements();
+        let said = told(&["run", "-", "-p1", "--memory", "@/dev/null"], &bytes);
+        let many = if elements == 1 { "" } else { "s" };
+        assert_eq!(said, format!("12 memory: the memory has 0 numbers, the table {elements} element{many}"));
+    }
+    assert!(few > 10 && short > 10, "{few} {short}");
 }
