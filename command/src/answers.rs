@@ -2,8 +2,11 @@
 //! whose standard output then has nothing else.
 
 use crate::batch;
+use crate::input::Input;
 use crate::options::Options;
 use crate::outcome::{Failure, Outcome};
+use crate::parse::TextError;
+use crate::refusals::{describe, Asked};
 use vempaldi::Refusal;
 
 type Told = Result<(), Failure>;
@@ -24,8 +27,22 @@ pub fn accepted(options: &Options, lines: &str, words: impl FnOnce() -> Told) ->
 }
 
 /// A refused call: its line for a script, else what a person is told.
-pub fn refused(options: &Options, refusal: &Refusal, words: impl FnOnce() -> Told) -> Result<Outcome, Failure> {
+pub fn refused_with(options: &Options, refusal: &Refusal, words: impl FnOnce() -> Told) -> Result<Outcome, Failure> {
     either(options, || batch::print(line(refusal).as_bytes()), words)?;
+    Ok(Outcome::Bad)
+}
+
+/// The same, a person being told on the standard error.
+pub fn refused(options: &Options, input: &Input, refusal: &Refusal, asked: &Asked) -> Result<Outcome, Failure> {
+    refused_with(options, refusal, || {
+        batch::say(&describe(input, refusal, asked));
+        Ok(())
+    })
+}
+
+/// What is wrong with a text. The library has answered nothing then, so a script has no line for it either.
+pub fn wrong_text(name: &str, error: &TextError) -> Result<Outcome, Failure> {
+    batch::say(&format!("{name}:{error}"));
     Ok(Outcome::Bad)
 }
 

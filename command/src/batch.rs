@@ -1,16 +1,17 @@
 //! Several files, one after the other: reading, progress, the line that counts them.
 
+use crate::answers;
+use crate::input::Input;
 use crate::options::Options;
 use crate::outcome::{Failure, Outcome};
+use crate::parse::TextError;
+use crate::stand_in::DECIDING_BYTES;
 use std::fs::{self, File};
 use std::io::{self, IsTerminal, Read, Write};
 use std::sync::atomic::{AtomicBool, Ordering};
 
 /// From how many files on a terminal shows how far the work is.
 const MANY: usize = 20;
-
-/// No table's answer depends on bytes behind these, so no more is read of a file that is none.
-const MOST_BYTES: u64 = 4_096;
 
 /// Whether a line of progress stands on the terminal, which has to go before anything else is written there.
 static SHOWN: AtomicBool = AtomicBool::new(false);
@@ -21,24 +22,32 @@ pub struct Words {
     pub bad: &'static str,
 }
 
+/// A file or the standard input.
+pub fn open(name: &str) -> Result<Box<dyn Read>, Failure> {
+    match name {
+        "-" => Ok(Box::new(io::stdin().lock())),
+        _ => Ok(Box::new(File::open(name).map_err(|error| Failure::Io(name.to_string(), error))?)),
+    }
+}
+
+/// As many bytes as decide what the library answers to a table, so that no more is read of what is none.
+pub fn some(name: &str, reader: &mut dyn Read) -> Result<Vec<u8>, Failure> {
+    rest(name, &mut reader.take(DECIDING_BYTES as u64))
+}
+
+pub fn rest(name: &str, reader: &mut dyn Read) -> Result<Vec<u8>, Failure> {
+    let mut bytes = Vec::new();
+    reader.read_to_end(&mut bytes).map_err(|error| Failure::Io(name.to_string(), error))?;
+    Ok(bytes)
+}
+
 /// The bytes of a table, from a file or the standard input.
 pub fn read_table(name: &str) -> Result<Vec<u8>, Failure> {
-    read(name, MOST_BYTES)
+    some(name, &mut open(name)?)
 }
 
 pub fn read_whole(name: &str) -> Result<Vec<u8>, Failure> {
-    read(name, u64::MAX)
-}
-
-fn read(name: &str, most: u64) -> Result<Vec<u8>, Failure> {
-    let failed = |error| Failure::Io(name.to_string(), error);
-    let mut bytes = Vec::new();
-    if name == "-" {
-        io::stdin().lock().take(most).read_to_end(&mut bytes).map_err(failed)?;
-    } else {
-        File::open(name).map_err(failed)?.take(most).read_to_end(&mut bytes).map_err(failed)?;
-    }
-    Ok(bytes)
+    rest(name, &mut open(name)?)
 }
 
 /// Writes to a file, or to the standard output for `-` and where none is named.
@@ -77,48 +86,75 @@ fn clear_progress() {
     }
 }
 
-/// Does the work for each file. Of several files one that cannot be read is named, and the others are still done; an output that cannot
-/// be written ends it. A script (`--raw`) is told of no progress and no counts.
+/// Does the work for each table or text. What is wrong with a text is said.
 pub fn each(
     options: &Options,
     words: &Words,
-    mut work: impl FnMut(&str, &[u8]) -> Result<Outcome, Failure>,
+    mut work: impl FnMut(&Input) -> Result<Outcome, Failure>,
 ) -> Result<Outcome, Failure> {
-    let (mut good, mut bad, mut unread) = (0, 0, 0);
+    each_given(options, words, |name, given| match given {
+        Ok(input) => work(&input),
+        Err(error) => answers::wrong_text(name, &error),
+    })
+}
+
+/// Does the work for each file, also for a text that is wrong. Of several files one that cannot be read is named, and the others are still
+/// done; an output that cannot be written ends it. A script is told of no progress and no counts.
+pub fn each_given(
+    options: &Options,
+    words: &Words,
+    mut work: impl FnMut(&str, Result<Input, TextError>) -> Result<Outcome, Failure>,
+) -> Result<Outcome, Failure> {
+    let mut count = Count::default();
     let files = options.some_files()?;
-    let told = files.len() > 1 && !options.raw();
+    let told = files.len() > 1 && !options.for_scripts();
     let shown = told && files.len() >= MANY && io::stderr().is_terminal();
     for (at, name) in files.iter().enumerate() {
         if shown {
-            show_progress(&format!("{} of {}, {bad} {}: {name}", at + 1, files.len(), words.bad));
+            show_progress(&format!("{} of {}, {} {}: {name}", at + 1, files.len(), count.bad, words.bad));
         }
-        match read_table(name) {
-            Ok(bytes) => match work(name, &bytes)? {
-                Outcome::Good => good += 1,
-                _ => bad += 1,
+        match Input::read(name) {
+            Ok(given) => match work(name, given)? {
+                Outcome::Good => count.good += 1,
+                _ => count.bad += 1,
             },
             Err(failure) if files.len() == 1 => return Err(failure),
             Err(failure) => {
                 say(&format!("vempaldi: {failure}"));
-                unread += 1;
+                count.unread += 1;
             }
         }
     }
     clear_progress();
     if told {
-        say(&counted(words, good, bad, unread));
+        say(&count.line(words));
     }
-    Ok(match (bad, unread) {
-        (_, 1..) => Outcome::Unread,
-        (1.., _) => Outcome::Bad,
-        _ => Outcome::Good,
-    })
+    Ok(count.outcome())
 }
 
-fn counted(words: &Words, good: usize, bad: usize, unread: usize) -> String {
-    let mut line = format!("{} files: {good} {}, {bad} {}", good + bad + unread, words.good, words.bad);
-    if unread > 0 {
-        line += &format!(", {unread} not read");
+/// How many files came to what.
+#[derive(Default)]
+struct Count {
+    good: usize,
+    bad: usize,
+    unread: usize,
+}
+
+impl Count {
+    fn outcome(&self) -> Outcome {
+        match (self.bad, self.unread) {
+            (_, 1..) => Outcome::Unread,
+            (1.., _) => Outcome::Bad,
+            _ => Outcome::Good,
+        }
     }
-    line
+
+    fn line(&self, words: &Words) -> String {
+        let Count { good, bad, unread } = self;
+        let mut line = format!("{} files: {good} {}, {bad} {}", good + bad + unread, words.good, words.bad);
+        if *unread > 0 {
+            line += &format!(", {unread} not read");
+        }
+        line
+    }
 }

@@ -1,13 +1,20 @@
 //! Bodies and references as a person writes them.
 
+use crate::names::Names;
 use crate::records::{Item, Loop, OPERATIONS};
 use std::ops::Range;
 
 /// `A0[i-1]`.
 pub fn reference(array: u8, offset: i16) -> String {
+    named_reference(&Names::default(), array, offset)
+}
+
+/// `H[i-1]`.
+pub fn named_reference(names: &Names, array: u8, offset: i16) -> String {
+    let name = names.of(usize::from(array));
     match offset {
-        0 => format!("A{array}[i]"),
-        _ => format!("A{array}[i{offset:+}]"),
+        0 => format!("{name}[i]"),
+        _ => format!("{name}[i{offset:+}]"),
     }
 }
 
@@ -19,10 +26,15 @@ pub struct Infix {
 
 /// `A2[i] = A0[i-1] + A0[i+1]`, or nothing where the body does not leave one number.
 pub fn assignment(one: &Loop) -> Option<Infix> {
+    named_assignment(one, &Names::default())
+}
+
+/// `S[i] = H[i-1] + H[i+1]`.
+pub fn named_assignment(one: &Loop, names: &Names) -> Option<Infix> {
     let mut waiting: Vec<Part> = Vec::new();
     for item in &one.items {
         let part = match *item {
-            Item::Read(array, offset) => Part::read(reference(array, offset)),
+            Item::Read(array, offset) => Part::read(named_reference(names, array, offset)),
             Item::Constant(value) => Part::constant(value),
             Item::Operation(5) => waiting.pop()?.negated(),
             Item::Operation(code) => {
@@ -33,7 +45,7 @@ pub fn assignment(one: &Loop) -> Option<Infix> {
         waiting.push(part);
     }
     let whole = waiting.pop().filter(|_| waiting.is_empty())?;
-    Some(whole.infix.behind(&format!("{} = ", reference(one.array, one.offset))))
+    Some(whole.infix.behind(&format!("{} = ", named_reference(names, one.array, one.offset))))
 }
 
 impl Infix {

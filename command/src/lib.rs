@@ -3,41 +3,57 @@
 
 mod answers;
 mod batch;
+mod before;
 mod check;
+mod commands;
 mod draw;
+mod explain;
 mod help;
 mod infix;
+mod input;
 mod join;
+mod json;
+mod limits;
+mod make;
 mod memories;
+mod names;
+mod nearest;
+mod objects;
 mod options;
 mod orders;
 mod outcome;
+mod outputs;
 mod parse;
+mod pieces;
 mod plan;
 mod records;
 mod refusals;
 mod run;
 mod scale;
+mod serial;
+mod spans;
+mod stand_in;
 mod svg;
 mod text;
 mod wording;
 
+pub use explain::{explain, Explanation};
 pub use infix::{assignment, Infix};
+pub use names::Names;
 pub use parse::{make, Made, TextError};
 pub use records::{decode, Item, Loop, Table};
+pub use serial::explain_serial;
 pub use text::dump;
 
-use options::Options;
-use outcome::{Failure, Outcome};
+use outcome::Failure;
 use std::ffi::OsString;
-use wording::quoted;
 
 /// Runs the command with the words behind its name. The result is the exit status.
 pub fn main(words: impl Iterator<Item = OsString>) -> i32 {
     let words: Result<Vec<String>, OsString> = words.map(OsString::into_string).collect();
     let told = match words {
-        Ok(words) => begin(&words),
-        Err(word) => Err(Failure::Usage(format!("{word:?} is not UTF-8"))),
+        Ok(words) => commands::begin(&words),
+        Err(word) => Err(Failure::Usage(format!("{word:?} is not UTF-8")).with_help("")),
     };
     match told {
         Ok(outcome) => outcome.status(),
@@ -45,33 +61,5 @@ pub fn main(words: impl Iterator<Item = OsString>) -> i32 {
             batch::say(&format!("vempaldi: {failure}"));
             outcome::TROUBLE
         }
-    }
-}
-
-fn begin(words: &[String]) -> Result<Outcome, Failure> {
-    match words.first().map(String::as_str) {
-        None => Err(Failure::Usage(format!("no command is given; {COMMANDS}"))),
-        Some("--help" | "-h" | "help") => help::print(),
-        Some("--version") => help::version(),
-        Some(command) => dispatch(command, &words[1..]),
-    }
-}
-
-const COMMANDS: &str = "there are check, plan, join, run, dump, make and draw";
-
-fn dispatch(command: &str, words: &[String]) -> Result<Outcome, Failure> {
-    if words.iter().any(|word| word == "--help" || word == "-h") {
-        return help::print();
-    }
-    let options = Options::read(words)?;
-    match command {
-        "check" => check::check(&options.only(&["-q", "--raw"])?),
-        "plan" => plan::plan(&options.only(&["-p", "--raw"])?),
-        "join" => join::join(&options.only(&["-o", "--raw"])?),
-        "run" => run::run(&options.only(&["-p", "-o", "--order", "--memory", "--values", "--raw"])?),
-        "dump" => text::dump_files(&options.only(&["--raw"])?),
-        "make" => parse::make_file(&options.only(&["-o", "--raw"])?),
-        "draw" => draw::draw(&options.only(&["-p", "-o", "--raw"])?),
-        other => Err(Failure::Usage(format!("no command {}; {COMMANDS}", quoted(other)))),
     }
 }

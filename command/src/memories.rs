@@ -3,7 +3,7 @@
 use crate::batch;
 use crate::orders::Draw;
 use crate::outcome::Failure;
-use crate::records::Table;
+use crate::stand_in::Facts;
 use crate::wording::{counted, quoted};
 
 pub enum Memory {
@@ -28,13 +28,13 @@ impl Memory {
     }
 
     /// A file's numbers are taken as they are: a wrong count is the library's to refuse.
-    pub fn numbers(&self, table: &Table) -> Vec<f64> {
+    pub fn numbers(&self, table: &Facts) -> Vec<f64> {
         match self {
-            Memory::Index => table.arrays.iter().flat_map(|&length| (0..length).map(f64::from)).collect(),
-            Memory::Zero => vec![0.0; table.elements()],
+            Memory::Index => table.arrays.iter().flat_map(|array| (0..array.length).map(f64::from)).collect(),
+            Memory::Zero => vec![0.0; table.elements as usize],
             Memory::Random(seed) => {
                 let mut drawn = Draw(*seed);
-                (0..table.elements()).map(|_| any(&mut drawn)).collect()
+                (0..table.elements).map(|_| any(&mut drawn)).collect()
             }
             Memory::Numbers(numbers) => numbers.clone(),
         }

@@ -1,5 +1,6 @@
 //! The words behind a command: files and options, in any order.
 
+use crate::nearest::nearest;
 use crate::outcome::Failure;
 use crate::wording::quoted;
 
@@ -7,11 +8,11 @@ use crate::wording::quoted;
 pub struct Options {
     pub files: Vec<String>,
     /// An option's name and its value, empty for one that has none.
-    given: Vec<(String, String)>,
+    given: Vec<(&'static str, String)>,
 }
 
 const WITH_VALUE: [&str; 4] = ["-p", "-o", "--order", "--memory"];
-const ALONE: [&str; 3] = ["-q", "--values", "--raw"];
+const ALONE: [&str; 4] = ["-q", "--values", "--raw", "--json"];
 
 impl Options {
     pub fn read(words: &[String]) -> Result<Options, Failure> {
@@ -20,19 +21,34 @@ impl Options {
         while let Some(word) = words.next() {
             if word == "--" {
                 options.files.extend(words.by_ref().cloned());
-            } else if WITH_VALUE.contains(&word.as_str()) {
-                let value = words.next().ok_or_else(|| Failure::Usage(format!("{word} needs a value")))?;
-                options.given.push((word.clone(), value.clone()));
-            } else if ALONE.contains(&word.as_str()) {
-                options.given.push((word.clone(), String::new()));
-            } else if word.starts_with('-') && word != "-" {
-                return Err(Failure::Usage(format!("no option {}", quoted(word))));
-            } else {
+            } else if !word.starts_with('-') || word == "-" {
                 options.files.push(word.clone());
+            } else {
+                let (name, attached) = apart(word)?;
+                options.give(name, attached, &mut words)?;
             }
         }
         options.input_once()?;
         Ok(options)
+    }
+
+    fn give<'a>(
+        &mut self,
+        name: &'static str,
+        attached: Option<&str>,
+        words: &mut impl Iterator<Item = &'a String>,
+    ) -> Result<(), Failure> {
+        if self.has(name) {
+            return Err(Failure::Usage(format!("{name} is given twice")));
+        }
+        let value = match (WITH_VALUE.contains(&name), attached) {
+            (true, Some(value)) => value.to_string(),
+            (true, None) => words.next().cloned().ok_or_else(|| Failure::Usage(format!("{name} needs a value")))?,
+            (false, None) => String::new(),
+            (false, Some(_)) => return Err(Failure::Usage(format!("{name} has no value"))),
+        };
+        self.given.push((name, value));
+        Ok(())
     }
 
     /// The standard input has one table, order or memory: a second reader would find nothing.
@@ -47,15 +63,14 @@ impl Options {
 
     /// Refuses options that the command at hand does not have.
     pub fn only(self, names: &[&str]) -> Result<Options, Failure> {
-        match self.given.iter().find(|(name, _)| !names.contains(&name.as_str())) {
+        match self.given.iter().find(|(name, _)| !names.contains(name)) {
             Some((name, _)) => Err(Failure::Usage(format!("{name} is not for this command"))),
             None => Ok(self),
         }
     }
 
-    /// The last value given for an option.
     pub fn value(&self, name: &str) -> Option<&str> {
-        self.given.iter().rev().find(|(given, _)| given == name).map(|(_, value)| value.as_str())
+        self.given.iter().find(|(given, _)| *given == name).map(|(_, value)| value.as_str())
     }
 
     pub fn has(&self, name: &str) -> bool {
@@ -65,6 +80,11 @@ impl Options {
     /// Whether the answer alone is to be printed, for a script.
     pub fn raw(&self) -> bool {
         self.has("--raw")
+    }
+
+    /// Whether a script reads what is printed: it needs no progress and no counts.
+    pub fn for_scripts(&self) -> bool {
+        self.raw() || self.has("--json")
     }
 
     pub fn processors(&self) -> Result<u32, Failure> {
@@ -85,5 +105,23 @@ impl Options {
             [file] => Ok(file),
             files => Err(Failure::Usage(format!("one file, not {}", files.len()))),
         }
+    }
+}
+
+/// An option's name and the value that is written in the same word: `-p2`, `--order=turns`.
+fn apart(word: &str) -> Result<(&'static str, Option<&str>), Failure> {
+    let all = || WITH_VALUE.into_iter().chain(ALONE);
+    let short = |name: &&str| name.len() == 2 && word.starts_with(*name) && WITH_VALUE.contains(name);
+    let (long, value) = word.split_once('=').map_or((word, None), |(name, value)| (name, Some(value)));
+    if let Some(name) = all().find(|name| *name == word) {
+        Ok((name, None))
+    } else if let Some(name) = all().find(short) {
+        Ok((name, Some(&word[2..])))
+    } else if let Some(name) = all().find(|name| name.starts_with("--") && *name == long) {
+        Ok((name, value))
+    } else {
+        let names: Vec<&str> = all().filter(|name| name.starts_with("--")).collect();
+        let meant = nearest(long, &names).map_or(String::new(), |name| format!("; is {name} meant?"));
+        Err(Failure::Usage(format!("no option {}{meant}", quoted(word))))
     }
 }

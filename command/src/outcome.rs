@@ -32,10 +32,20 @@ pub enum Failure {
     Io(String, io::Error),
 }
 
+impl Failure {
+    /// A usage error says which help says how it is done: that of a command, or that of all.
+    pub fn with_help(self, command: &str) -> Failure {
+        match self {
+            Failure::Usage(what) => Failure::Usage(format!("{what} (vempaldi {command}--help says how)")),
+            other => other,
+        }
+    }
+}
+
 impl fmt::Display for Failure {
     fn fmt(&self, out: &mut fmt::Formatter<'_>) -> fmt::Result {
         match self {
-            Failure::Usage(what) => write!(out, "{what} (vempaldi --help says how)"),
+            Failure::Usage(what) => write!(out, "{what}"),
             Failure::Io(name, error) if name.is_empty() => write!(out, "'': {error}"),
             Failure::Io(name, error) => write!(out, "{name}: {error}"),
         }

@@ -1,173 +1,247 @@
-//! `make`: the bytes of a table from its text.
+//! The bytes of a table from its text, and where in the text each of its records and fields stands.
 
-use crate::answers;
-use crate::batch;
-use crate::options::Options;
-use crate::outcome::{Failure, Outcome};
+use crate::limits::{INDICES, LENGTHS, OFFSETS};
+use crate::names::Names;
+use crate::pieces::Piece;
 use crate::records::OPERATIONS;
-use crate::refusals::describe;
+use crate::spans::{column, marked, Field, Span, Spot};
 use crate::wording::quoted;
 use std::fmt;
-use vempaldi::{Ground, Refusal};
+use std::ops::{Range, RangeInclusive};
 
-/// What is wrong with a text, and in which line, counted from 1.
+/// What is wrong with a text, and where: line and column count from 1, columns in characters.
 #[derive(Debug)]
 pub struct TextError {
     pub line: usize,
+    pub column: usize,
+    pub token: String,
     pub what: String,
+    /// The line with a mark below the token.
+    shown: String,
 }
 
 impl fmt::Display for TextError {
     fn fmt(&self, out: &mut fmt::Formatter<'_>) -> fmt::Result {
-        write!(out, "{}: {}", self.line, self.what)
+        write!(out, "{}:{}: {}\n{}", self.line, self.column, self.what, self.shown)
     }
 }
 
-/// The bytes, and for each record the byte where it begins and the line that it came from.
+/// The bytes, the arrays' names, and for each record where it stands in the text.
 pub struct Made {
     pub bytes: Vec<u8>,
-    lines: Vec<(usize, usize)>,
+    pub names: Names,
+    spots: Vec<Spot>,
+    lines: Vec<String>,
 }
 
-pub fn make_file(options: &Options) -> Result<Outcome, Failure> {
-    let name = options.one_file()?;
-    answers::needs_file(options)?;
-    let bytes = batch::read_whole(name)?;
-    if vempaldi::check(&bytes).is_ok() {
-        batch::say(&format!("{name}: this is a table, not a text (vempaldi dump gives the text of a table)"));
-        return Ok(Outcome::Bad);
-    }
-    let made = match make(&String::from_utf8_lossy(&bytes)) {
-        Ok(made) => made,
-        Err(error) => {
-            batch::say(&format!("{name}:{error}"));
-            return Ok(Outcome::Bad);
+/// A place in a text as it is told: line, column, the token, and the line with a mark below.
+pub struct Told {
+    pub line: usize,
+    pub column: usize,
+    pub token: String,
+    pub shown: String,
+}
+
+impl Made {
+    /// Where a record's field stands in the text.
+    pub fn place(&self, record: usize, field: Field) -> Told {
+        let nowhere = Span { line: 1, bytes: 0..0 };
+        let span = self.spots.get(record).map_or(&nowhere, |spot| spot.span(field));
+        let line = self.lines.get(span.line - 1).map_or("", String::as_str);
+        Told {
+            line: span.line,
+            column: column(line, span.bytes.start),
+            token: line[span.bytes.clone()].to_string(),
+            shown: marked(line, &span.bytes),
         }
-    };
-    match vempaldi::check(&made.bytes) {
-        Ok(()) => answers::made(options, &made.bytes, "accepted\n"),
-        Err(refusal) => answers::refused(options, &refusal, || {
-            batch::say(&format!("{name}:{}: {}", made.line_of(&refusal), describe(&made.bytes, &refusal)));
-            Ok(())
-        }),
     }
+}
+
+/// What is wrong, and with which bytes of the line.
+struct Wrong {
+    bytes: Range<usize>,
+    what: String,
+}
+
+fn wrong(piece: &Piece, what: impl Into<String>) -> Wrong {
+    Wrong { bytes: piece.bytes(), what: what.into() }
 }
 
 /// The table of a text. Its numbers are only asked to fit their fields; whether the table is accepted is the library's to say.
 pub fn make(text: &str) -> Result<Made, TextError> {
-    let mut maker = Maker { names: Vec::new(), in_loop: false, line: 1, made: Made { bytes: Vec::new(), lines: Vec::new() } };
-    for (at, line) in text.lines().enumerate() {
-        maker.line = at + 1;
-        let said = line.split('#').next().unwrap_or("").trim();
-        maker.take(said).map_err(|what| TextError { line: at + 1, what })?;
+    let made = Made { bytes: Vec::new(), names: Names::default(), spots: Vec::new(), lines: Vec::new() };
+    let mut maker = Maker { in_loop: false, made };
+    for line in text.lines() {
+        maker.made.lines.push(line.to_string());
+        maker.take(Piece::of_line(line)).map_err(|wrong| text_error(maker.made.lines.len(), line, wrong))?;
     }
-    maker.record(&[6]);
+    maker.end();
     Ok(maker.made)
 }
 
-impl Made {
-    /// The line of the record that a refusal names. For two meeting iterations that is their loop's line.
-    fn line_of(&self, refusal: &Refusal) -> usize {
-        let place = match refusal.ground {
-            Ground::Serial => self.loop_place(refusal.place as usize),
-            _ => refusal.place as usize,
-        };
-        let until = self.lines.iter().take_while(|(at, _)| *at <= place);
-        until.last().map_or(1, |(_, line)| *line)
-    }
-
-    fn loop_place(&self, number: usize) -> usize {
-        let mut loops = self.lines.iter().filter(|(at, _)| self.bytes[*at] == 2);
-        loops.nth(number).map_or(0, |(at, _)| *at)
+fn text_error(number: usize, line: &str, wrong: Wrong) -> TextError {
+    TextError {
+        line: number,
+        column: column(line, wrong.bytes.start),
+        token: line[wrong.bytes.clone()].to_string(),
+        what: wrong.what,
+        shown: marked(line, &wrong.bytes),
     }
 }
 
 struct Maker {
-    names: Vec<String>,
     in_loop: bool,
-    line: usize,
     made: Made,
 }
 
+/// The three bytes of an array's number and an offset, and where both stand.
+struct Reference {
+    encoded: [u8; 3],
+    array: Range<usize>,
+    offset: Range<usize>,
+}
+
+const LOOP_FORM: &str = "a loop is 'loop FIRST LAST -> NAME[i+OFFSET]: ITEMS'";
+const ARRAY_FORM: &str = "an array is 'array NAME LENGTH'";
+
 impl Maker {
-    fn take(&mut self, said: &str) -> Result<(), String> {
-        match said.split_whitespace().next() {
-            None => Ok(()),
-            Some("array") => self.array(&said["array".len()..]),
-            Some("loop") => self.a_loop(&said["loop".len()..]),
-            Some(_) if self.in_loop => self.items(said),
-            Some(word) => Err(format!("{} where a line begins with 'array' or 'loop'", quoted(word))),
+    fn take(&mut self, line: Piece) -> Result<(), Wrong> {
+        let Some(first) = line.words().next() else { return Ok(()) };
+        match first.text {
+            "array" => self.array(&first, line.behind(&first)),
+            "loop" => self.a_loop(&first, line.behind(&first)),
+            _ if self.in_loop => self.items(line),
+            word => Err(wrong(&first, format!("{} where a line begins with 'array' or 'loop'", quoted(word)))),
         }
     }
 
-    fn record(&mut self, bytes: &[u8]) {
-        self.made.lines.push((self.made.bytes.len(), self.line));
+    fn record(&mut self, bytes: &[u8], word: &Piece, fields: &[(Field, Range<usize>)]) {
+        let line = self.made.lines.len();
+        let span = |bytes: &Range<usize>| Span { line, bytes: bytes.clone() };
+        let fields = fields.iter().map(|(field, bytes)| (*field, span(bytes))).collect();
+        self.made.spots.push(Spot { whole: span(&word.bytes()), fields });
         self.made.bytes.extend_from_slice(bytes);
     }
 
-    fn array(&mut self, said: &str) -> Result<(), String> {
-        let words: Vec<&str> = said.split_whitespace().collect();
-        let [name, length] = words[..] else { return Err("an array is 'array NAME LENGTH'".to_string()) };
-        if !is_name(name) {
-            return Err(format!("{} is not a name: a letter, then letters, digits or _", quoted(name)));
+    /// The end has no word of its own: it stands where the last record does.
+    fn end(&mut self) {
+        let whole = self.made.spots.last().map_or(Span { line: 1, bytes: 0..0 }, |spot| spot.whole.clone());
+        self.made.spots.push(Spot { whole, fields: Vec::new() });
+        self.made.bytes.push(6);
+    }
+
+    fn array(&mut self, keyword: &Piece, said: Piece) -> Result<(), Wrong> {
+        let words: Vec<Piece> = said.words().collect();
+        let [name, length] = words[..] else { return Err(wrong(words.get(2).unwrap_or(keyword), ARRAY_FORM)) };
+        if !is_name(name.text) {
+            return Err(wrong(&name, format!("{} is not a name: a letter, then letters, digits or _", quoted(name.text))));
         }
-        if self.names.iter().any(|known| known == name) {
-            return Err(format!("there is an array {name} already"));
+        if self.made.names.0.iter().any(|known| known == name.text) {
+            return Err(wrong(&name, format!("there is an array {} already", name.text)));
         }
-        let length: u32 = length.parse().map_err(|_| format!("{} is not a length", quoted(length)))?;
-        self.names.push(name.to_string());
-        self.record(&[&[1][..], &length.to_le_bytes()].concat());
+        let value = number(&length, "a length", &LENGTHS)?;
+        self.made.names.0.push(name.text.to_string());
+        self.record(&[&[1][..], &value.to_le_bytes()].concat(), keyword, &[(Field::Length, length.bytes())]);
         Ok(())
     }
 
-    fn a_loop(&mut self, said: &str) -> Result<(), String> {
-        let form = "a loop is 'loop FIRST LAST -> NAME[i+OFFSET]: ITEMS'";
-        let (head, body) = said.split_once(':').ok_or(form)?;
-        let (bounds, store) = head.split_once("->").ok_or(form)?;
-        let bounds: Vec<&str> = bounds.split_whitespace().collect();
-        let [first, last] = bounds[..] else { return Err(form.to_string()) };
-        let first: u32 = first.parse().map_err(|_| format!("{} is not an index", quoted(first)))?;
-        let last: u32 = last.parse().map_err(|_| format!("{} is not an index", quoted(last)))?;
-        let store = self.reference(store.trim())?;
-        self.record(&[&[2][..], &first.to_le_bytes(), &last.to_le_bytes(), &store].concat());
+    fn a_loop(&mut self, keyword: &Piece, said: Piece) -> Result<(), Wrong> {
+        let (head, body) = said.split(":").ok_or_else(|| wrong(keyword, format!("a ':' is missing: {LOOP_FORM}")))?;
+        let (bounds, store) = head.split("->").ok_or_else(|| wrong(keyword, format!("a '->' is missing: {LOOP_FORM}")))?;
+        let words: Vec<Piece> = bounds.words().collect();
+        let [first, last] = words[..] else { return Err(wrong(words.get(2).unwrap_or(keyword), LOOP_FORM)) };
+        let bounds = [number(&first, "an index", &INDICES)?, number(&last, "an index", &INDICES)?];
+        let store = store.trimmed();
+        let stored = self.reference(&store, "not what a loop stores: NAME[i], NAME[i+3] or NAME[i-3]")?;
+        let fields = [
+            (Field::First, first.bytes()),
+            (Field::Last, last.bytes()),
+            (Field::Reference, store.bytes()),
+            (Field::Array, stored.array),
+            (Field::Offset, stored.offset),
+        ];
+        let encoded = [&[2][..], &bounds[0].to_le_bytes(), &bounds[1].to_le_bytes(), &stored.encoded].concat();
+        self.record(&encoded, keyword, &fields);
         self.in_loop = true;
         self.items(body)
     }
 
-    fn items(&mut self, said: &str) -> Result<(), String> {
-        said.split_whitespace().try_for_each(|word| self.item(word))
+    fn items(&mut self, said: Piece) -> Result<(), Wrong> {
+        said.words().try_for_each(|word| self.item(&word))
     }
 
-    fn item(&mut self, word: &str) -> Result<(), String> {
-        if let Some(code) = OPERATIONS.iter().position(|name| *name == word) {
-            self.record(&[5, code as u8 + 1]);
-        } else if word.starts_with(|first: char| first.is_ascii_digit()) {
-            let value: u32 = word.parse().map_err(|_| format!("{} is not a whole number up to 4294967295", quoted(word)))?;
-            self.record(&[&[4][..], &value.to_le_bytes()].concat());
+    fn item(&mut self, word: &Piece) -> Result<(), Wrong> {
+        if let Some(code) = OPERATIONS.iter().position(|name| *name == word.text) {
+            self.record(&[5, code as u8 + 1], word, &[]);
+        } else if begins_with_digit(word.text) {
+            let value: u32 = word.text.parse().map_err(|_| wrong(word, no_whole_number(word.text)))?;
+            self.record(&[&[4][..], &value.to_le_bytes()].concat(), word, &[]);
+        } else if let Some(positive) = word.text.strip_prefix('-').filter(|rest| is_digits(rest)) {
+            return Err(wrong(word, self.no_negative(word.text, positive)));
         } else {
-            let reference = self.reference(word)?;
-            self.record(&[&[3][..], &reference].concat());
+            let read = self.reference(word, "no item: NAME[i+OFFSET], a whole number, or one of + - * / neg")?;
+            let fields = [(Field::Array, read.array), (Field::Offset, read.offset)];
+            self.record(&[&[3][..], &read.encoded].concat(), word, &fields);
         }
         Ok(())
     }
 
-    /// The three bytes of an array's number and an offset.
-    fn reference(&self, word: &str) -> Result<[u8; 3], String> {
-        let parts = word.strip_suffix(']').and_then(|open| open.split_once("[i"));
-        let Some((name, offset)) = parts else {
-            return Err(format!("{} is no item: NAME[i+OFFSET], a whole number, or one of + - * / neg", quoted(word)));
-        };
-        let array = self.names.iter().position(|known| known == name).ok_or_else(|| format!("no array {}", quoted(name)))?;
-        let offset: i16 = match offset {
-            "" => 0,
-            signed if signed.starts_with(['+', '-']) => {
-                signed.parse().map_err(|_| format!("{} is not an offset", quoted(signed)))?
-            }
-            other => return Err(format!("{} is not an offset: +3 or -3", quoted(other))),
-        };
-        let low_high = offset.to_le_bytes();
-        Ok([u8::try_from(array).unwrap_or(u8::MAX), low_high[0], low_high[1]])
+    fn no_negative(&self, word: &str, positive: &str) -> String {
+        let name = self.made.names.of(0);
+        let forms = format!("Write '0 {positive} -' or '{positive} neg'; an offset is written {name}[i{word}]");
+        format!("{} is no item: a whole number is not negative. {forms}", quoted(word))
     }
+
+    fn reference(&self, word: &Piece, what: &str) -> Result<Reference, Wrong> {
+        let no_form = || wrong(word, format!("{} is {what}", quoted(word.text)));
+        let open = word.text.find("[i").filter(|_| word.text.ends_with(']')).ok_or_else(no_form)?;
+        let (name, offset) = (word.part(0..open), word.part(open + 2..word.text.len() - 1));
+        let known = &self.made.names.0;
+        let array = known.iter().position(|one| one == name.text).ok_or_else(|| wrong(&name, no_array(name.text, known)))?;
+        let value = offset_value(&offset)?;
+        let [low, high] = value.to_le_bytes();
+        // Where no offset is written, the whole reference stands for it.
+        let at = if offset.text.is_empty() { word.bytes() } else { offset.bytes() };
+        Ok(Reference { encoded: [u8::try_from(array).unwrap_or(u8::MAX), low, high], array: name.bytes(), offset: at })
+    }
+}
+
+fn offset_value(offset: &Piece) -> Result<i16, Wrong> {
+    let signed = offset.text.starts_with(['+', '-']);
+    let too_large = |text: &str| format!("{} is not an offset, {} to {}", quoted(text), OFFSETS.start(), OFFSETS.end());
+    match offset.text {
+        "" => Ok(0),
+        text if signed => text.parse().map_err(|_| wrong(offset, too_large(text))),
+        text => Err(wrong(offset, format!("{} is not an offset: +3 or -3", quoted(text)))),
+    }
+}
+
+fn no_array(name: &str, known: &[String]) -> String {
+    match known {
+        [] => format!("no array {}; there is none yet", quoted(name)),
+        [one] => format!("no array {}; there is {one}", quoted(name)),
+        _ => format!("no array {}; there are {}", quoted(name), known.join(", ")),
+    }
+}
+
+fn no_whole_number(word: &str) -> String {
+    let hint = if word.contains('.') { "; a fraction is a division: 3 2 /" } else { "" };
+    format!("{} is not a whole number up to 4294967295{hint}", quoted(word))
+}
+
+/// A length or an index. The library says whether it is in its range; here it only has to fit its four bytes.
+fn number(word: &Piece, what: &str, allowed: &RangeInclusive<u32>) -> Result<u32, Wrong> {
+    let hint = if word.text.starts_with('-') { " (it is not negative)" } else { "" };
+    let no_number = || format!("{} is not {what}, {} to {}{hint}", quoted(word.text), allowed.start(), allowed.end());
+    word.text.parse().map_err(|_| wrong(word, no_number()))
+}
+
+fn begins_with_digit(word: &str) -> bool {
+    word.starts_with(|first: char| first.is_ascii_digit())
+}
+
+fn is_digits(word: &str) -> bool {
+    !word.is_empty() && word.chars().all(|one| one.is_ascii_digit())
 }
 
 fn is_name(word: &str) -> bool {

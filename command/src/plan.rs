@@ -1,36 +1,66 @@
-//! `plan`: the library's listing, or the refusal.
+//! `plan`: the library's listing, or the refusal; as lines, as an object of JSON, or in files.
 
 use crate::answers;
 use crate::batch;
 use crate::check::WORDS;
+use crate::input::Input;
+use crate::names::Names;
+use crate::objects::object;
 use crate::options::Options;
 use crate::outcome::{Failure, Outcome};
-use crate::refusals::{advice, describe};
+use crate::outputs::Outputs;
+use crate::parse::TextError;
+use crate::refusals::Asked;
 use vempaldi::Refusal;
 
 pub fn plan(options: &Options) -> Result<Outcome, Failure> {
     let processors = options.processors()?;
-    let several = options.some_files()?.len() > 1;
-    batch::each(options, &WORDS, |name, table| match vempaldi::listing(table, processors) {
-        Ok(text) => answers::accepted(options, &text, || {
-            let head = if several { format!("{name}:\n") } else { String::new() };
+    let files = options.some_files()?;
+    let json = options.has("--json");
+    if options.raw() && (json || options.has("-o")) {
+        let other = if json { "--json" } else { "-o DIR" };
+        return Err(Failure::Usage(format!("with --raw the standard output has the answers alone: {other} is not for it")));
+    }
+    let extension = if json { "json" } else { "plan" };
+    let outputs = options.value("-o").map(|directory| Outputs::prepare(directory, files, extension)).transpose()?;
+    batch::each_given(options, &WORDS, |name, given| match given {
+        given if json => tell_object(outputs.as_ref(), name, &given, processors),
+        Ok(input) => tell_listing(options, outputs.as_ref(), &input, processors),
+        Err(error) => answers::wrong_text(name, &error),
+    })
+}
+
+fn tell_listing(options: &Options, outputs: Option<&Outputs>, input: &Input, processors: u32) -> Result<Outcome, Failure> {
+    let several = options.files.len() > 1;
+    match (vempaldi::listing(&input.table, processors), outputs) {
+        (Ok(text), Some(outputs)) => outputs.write(&input.name, text.as_bytes()).map(|()| Outcome::Good),
+        (Ok(text), None) => answers::accepted(options, &text, || {
+            let head = if several { format!("{}:\n", input.name) } else { String::new() };
             batch::print((head + &text).as_bytes())
         }),
-        Err(refusal) => refused(options, name, table, &refusal),
-    })
-}
-
-pub fn refused(options: &Options, name: &str, table: &[u8], refusal: &Refusal) -> Result<Outcome, Failure> {
-    answers::refused(options, refusal, || {
-        say(name, table, refusal);
-        Ok(())
-    })
-}
-
-/// Says the refusal of a plan or a run on the standard error.
-pub fn say(name: &str, table: &[u8], refusal: &Refusal) {
-    batch::say(&format!("{name}: {}", describe(table, refusal)));
-    if let Some(more) = advice(table, refusal) {
-        batch::say(&format!("{name}: {more}"));
+        (Err(refusal), _) => answers::refused(options, input, &refusal, &Asked { processors: Some(processors), numbers: None }),
     }
+}
+
+/// A refused table has an object too, which says so.
+fn tell_object(
+    outputs: Option<&Outputs>,
+    name: &str,
+    given: &Result<Input, TextError>,
+    processors: u32,
+) -> Result<Outcome, Failure> {
+    let (value, accepted) = object(name, given, processors);
+    let line = format!("{value}\n");
+    match outputs {
+        Some(outputs) => outputs.write(name, line.as_bytes())?,
+        None => batch::print(line.as_bytes())?,
+    }
+    Ok(if accepted { Outcome::Good } else { Outcome::Bad })
+}
+
+/// For the picture, until it reads texts too.
+pub fn refused(options: &Options, name: &str, table: &[u8], refusal: &Refusal) -> Result<Outcome, Failure> {
+    let input = Input { name: name.to_string(), table: table.to_vec(), names: Names::default(), made: None };
+    let processors = options.processors().ok();
+    answers::refused(options, &input, refusal, &Asked { processors, numbers: None })
 }

@@ -1,4 +1,7 @@
-//! The records of a table, and the table that an accepted row of them is.
+//! The records of a table, and the table that an accepted row of them is. What the library tells of an accepted table is asked of it
+//! (`vempaldi::facts`); this is for what it does not tell: the items of a body, and the records of a table that it refuses.
+
+use crate::stand_in::BODY_LENGTHS;
 
 /// A whole record: where its kind byte stands, the kind, and the bytes behind it.
 pub struct Record<'a> {
@@ -33,16 +36,6 @@ pub enum Item {
 /// How operations are written in the text, by code from 1 on.
 pub const OPERATIONS: [&str; 5] = ["+", "-", "*", "/", "neg"];
 
-impl Table {
-    pub fn elements(&self) -> usize {
-        self.arrays.iter().map(|&length| length as usize).sum()
-    }
-
-    pub fn iterations(&self) -> usize {
-        self.loops.iter().map(|one| (one.last - one.first + 1) as usize).sum()
-    }
-}
-
 impl Loop {
     /// The offsets of the body's reads in byte order: a read's position here is the number that 9 names.
     pub fn read_offsets(&self) -> impl Iterator<Item = i16> + '_ {
@@ -55,7 +48,7 @@ impl Loop {
 
 /// How many bytes follow the kind byte.
 pub fn body_length(kind: u8) -> Option<usize> {
-    [4, 11, 3, 4, 1, 0].get(usize::from(kind).checked_sub(1)?).copied()
+    BODY_LENGTHS.get(usize::from(kind)).copied().filter(|_| kind > 0)
 }
 
 pub fn kind_name(kind: u8) -> &'static str {
@@ -103,7 +96,7 @@ pub fn decode(bytes: &[u8]) -> (Table, bool) {
     (table, false)
 }
 
-fn a_loop(body: &[u8]) -> Loop {
+pub fn a_loop(body: &[u8]) -> Loop {
     let (first, last) = (number(&body[..4]), number(&body[4..8]));
     Loop { first, last, array: body[8], offset: offset(&body[9..]), items: Vec::new() }
 }
@@ -116,10 +109,10 @@ fn item(record: &Record) -> Option<Item> {
     }
 }
 
-fn number(bytes: &[u8]) -> u32 {
+pub fn number(bytes: &[u8]) -> u32 {
     u32::from_le_bytes([bytes[0], bytes[1], bytes[2], bytes[3]])
 }
 
-fn offset(bytes: &[u8]) -> i16 {
+pub fn offset(bytes: &[u8]) -> i16 {
     i16::from_le_bytes([bytes[0], bytes[1]])
 }

@@ -1,93 +1,105 @@
-//! Refusals in words, with the record that a byte or a loop's number stands for, and with the statement that 9 is about.
+//! Refusals in words: the ground and its place as the library told them, what in the table or in the call meets the ground, and for a
+//! text the line with a mark below.
 
-use crate::infix::assignment;
-use crate::records::{decode, kind_name, records, Loop, Record};
-use crate::wording::counted;
+use crate::explain::{explain, record_at, Explanation};
+use crate::input::{first_word, Input};
+use crate::parse::Told;
+use crate::serial::{explain_serial, Serial};
+use crate::stand_in::facts;
+use crate::wording::{counted, quoted};
 use vempaldi::{Ground, Refusal};
 
-/// All but the file's name: number, word, record, byte and ground; for 9 two lines more, the loop's text and a mark below its read.
-pub fn describe(table: &[u8], refusal: &Refusal) -> String {
+/// What was asked beside the table, which the words of 10, 11 and 12 are about.
+#[derive(Clone, Copy, Default)]
+pub struct Asked {
+    pub processors: Option<u32>,
+    /// The length of the memory.
+    pub numbers: Option<usize>,
+}
+
+/// The whole of it: the file, for a text with line and column, the message, and a line with a mark below where there is one.
+pub fn describe(input: &Input, refusal: &Refusal, asked: &Asked) -> String {
+    let place = text_place(input, refusal);
+    let head = place.as_ref().map_or(input.name.clone(), |told| format!("{}:{}:{}", input.name, told.line, told.column));
+    let shown = match refusal.read() {
+        Some(read) => Serial::new(&input.table, &input.names, refusal.place, read).marked(),
+        None => place.map(|told| told.shown),
+    };
+    let shown = shown.map_or(String::new(), |lines| format!("\n{lines}"));
+    format!("{head}: {}{shown}", message(input, refusal, asked))
+}
+
+/// Where in a text the thing stands that a refusal is about. Only grounds that are met in the table have such a place.
+pub fn text_place(input: &Input, refusal: &Refusal) -> Option<Told> {
+    let made = input.made.as_ref()?;
+    let Explanation { record, field, .. } = explanation(input, refusal)?;
+    Some(made.place(record, field))
+}
+
+fn explanation(input: &Input, refusal: &Refusal) -> Option<Explanation> {
+    match refusal.read() {
+        Some(read) => explain_serial(&input.table, &input.names, refusal.place, read),
+        None => explain(&input.table, &input.names, refusal),
+    }
+}
+
+/// In one line: number, word, record and byte, and what is wrong.
+pub fn message(input: &Input, refusal: &Refusal, asked: &Asked) -> String {
     let ground = refusal.ground;
-    let head = format!("refused {} {}", ground.number(), ground.word());
     let place = match (ground, refusal.read()) {
-        (_, Some(read)) => format!(" at {}", serial(table, refusal.place, read)),
-        (Ground::Tail, _) => format!(" at byte {}, behind the end record", refusal.place),
-        _ if ground.has_byte() => format!(" at {}", byte(table, refusal.place as usize)),
+        (_, Some(read)) => format!(" at {}", Serial::new(&input.table, &input.names, refusal.place, read).at()),
+        (Ground::Tail, _) => format!(" at byte {}", refusal.place),
+        _ if ground.has_byte() => format!(" at {}", record_at(&input.table, refusal.place as usize)),
         _ => String::new(),
     };
-    let more = if is_text(table, refusal) { " (this looks like text: vempaldi make gives the table of a text)" } else { "" };
-    let marked = refusal.read().and_then(|read| marked(table, refusal.place, read)).unwrap_or_default();
-    format!("{head}{place}: {}{more}{marked}", ground.text())
-}
-
-/// Whether the refusal is that of a text where a table is due.
-fn is_text(table: &[u8], refusal: &Refusal) -> bool {
-    let printable = |byte: &u8| !byte.is_ascii_control() || b"\t\n\r".contains(byte);
-    refusal.ground == Ground::Kind && refusal.place == 0 && table.iter().all(printable)
-}
-
-/// The record whose kind byte stands at a place.
-fn byte(table: &[u8], place: usize) -> String {
-    let before = records(table).iter().take_while(|record| record.at < place).count();
-    match table.get(place) {
-        Some(&kind) => format!("record {before} ({}), byte {place}", kind_name(kind)),
-        None => format!("record {before} (absent), byte {place}, the end of the input"),
-    }
-}
-
-fn serial(table: &[u8], place: u64, read: u64) -> String {
-    let rows = records(table);
-    let numbered: Vec<(usize, &Record)> = rows.iter().enumerate().collect();
-    let mut loops = numbered.iter().filter(|(_, record)| record.kind == 2);
-    let Some(&(at, record)) = loops.nth(place as usize) else {
-        return format!("loop {place}");
+    let words = match ground {
+        Ground::Processors => {
+            asked.processors.map(|count| format!("P is {count}, allowed are 1 to {}", vempaldi::MOST_PROCESSORS))
+        }
+        Ground::Short => asked.processors.and_then(|count| short(&input.table, count)),
+        Ground::Memory => asked.numbers.and_then(|numbers| lengths(&input.table, numbers)),
+        _ => explanation(input, refusal).map(|explanation| explanation.words),
     };
-    let own = numbered[at + 1..].iter().take_while(|(_, record)| record.kind != 2);
-    let mut reads = own.filter(|(_, record)| record.kind == 3);
-    let head = format!("loop {place} (record {at}, byte {})", record.at);
-    match reads.nth(read as usize) {
-        Some((number, record)) => format!("{head}, its read {read} (record {number}, byte {})", record.at),
-        None => head,
-    }
+    let words = words.unwrap_or_else(|| ground.text().to_string());
+    let more = looks_like_text(&input.table, refusal).unwrap_or_default();
+    format!("refused {} {}{place}: {words}{more}", ground.number(), ground.word())
 }
 
-/// The loop of 9 as `dump` words it, with its bounds, and below it the named read marked, each in a line behind the refusal's own.
-fn marked(table: &[u8], place: u64, read: u64) -> Option<String> {
-    let (table, _) = decode(table);
-    let one = table.loops.get(place as usize)?;
-    let said = assignment(one)?;
-    let span = said.reads.get(read as usize)?;
-    let head = format!("  loop {place}, i = {} to {}: ", one.first, one.last);
-    let (blanks, carets) = (" ".repeat(head.len() + span.start), "^".repeat(span.len()));
-    let meeting = meeting(one, one.read_offsets().nth(read as usize)?);
-    Some(format!("\n{head}{}\n{blanks}{carets} {meeting}", said.text))
+/// A refusal that no single table has, in one line: that of joining.
+pub fn line(refusal: &Refusal, words: &str) -> String {
+    format!("refused {} {}: {words}", refusal.ground.number(), refusal.ground.word())
 }
 
-/// Which iterations meet at a read. With the read's offset o and the destination's c, iteration i reads the element i + o, and that is
-/// the one where iteration i + (o - c) stores. Not every i of the loop has that other iteration inside the bounds.
-fn meeting(one: &Loop, offset: i16) -> String {
-    let apart = i64::from(offset) - i64::from(one.offset);
-    let (first, last) = (i64::from(one.first), i64::from(one.last));
-    let both = indices(first.max(first - apart), last.min(last - apart));
-    let when = if apart < 0 { "earlier" } else { "later" };
-    format!("iteration i reads the element that the {when} iteration i{apart:+} stores (i = {both})")
-}
-
-/// `2 to 10`, or the only one.
-fn indices(from: i64, to: i64) -> String {
-    if from == to {
-        from.to_string()
+/// Why there is no plan for so many processors, and for how many there is one.
+fn short(table: &[u8], processors: u32) -> Option<String> {
+    let loops = facts(table).ok()?.loops;
+    let first = loops.iter().map(|one| one.first).min()?;
+    let last = loops.iter().map(|one| one.last).max()?;
+    let indices = last - first + 1;
+    let why = if indices < processors {
+        format!("{} for {}", counted(indices as usize, "index"), counted(processors as usize, "processor"))
     } else {
-        format!("{from} to {to}")
-    }
+        let (least, threshold) = (indices / processors, vempaldi::threshold(table).ok()?);
+        format!(
+            "{} in {processors} blocks leave a block of {least}, the threshold is {threshold}",
+            counted(indices as usize, "index")
+        )
+    };
+    let most = (1..=vempaldi::MOST_PROCESSORS).rev().find(|&count| vempaldi::blocks(table, count).is_ok())?;
+    Some(format!("{why}; there is a plan for {} at most", counted(most as usize, "processor")))
 }
 
-/// What a person can do about a plan that is refused, where that can be said shortly.
-pub fn advice(table: &[u8], refusal: &Refusal) -> Option<String> {
-    if refusal.ground != Ground::Short {
+fn lengths(table: &[u8], numbers: usize) -> Option<String> {
+    let elements = facts(table).ok()?.elements as usize;
+    Some(format!("the memory has {}, the table {}", counted(numbers, "number"), counted(elements, "element")))
+}
+
+/// A hint where what is no table is printable: it may be meant as a text.
+fn looks_like_text(table: &[u8], refusal: &Refusal) -> Option<String> {
+    let printable = |byte: &u8| !byte.is_ascii_control() || b"\t\n\r".contains(byte);
+    if refusal.ground != Ground::Kind || refusal.place != 0 || !table.iter().all(printable) {
         return None;
     }
-    let most = (1..=vempaldi::MOST_PROCESSORS).rev().find(|&p| vempaldi::blocks(table, p).is_ok())?;
-    let threshold = vempaldi::threshold(table).ok()?;
-    Some(format!("the threshold is {threshold}; there is a plan for {} at most", counted(most as usize, "processor")))
+    let begins = first_word(table).map(|word| format!("begins with {} and not with", quoted(&word)));
+    Some(format!(" (this looks like text, but {} 'array' or 'loop')", begins.as_deref().unwrap_or("has no")))
 }

@@ -2,14 +2,16 @@
 
 use crate::answers;
 use crate::batch::{self, Words};
+use crate::input::Input;
 use crate::memories::{self, Memory};
+use crate::names::Names;
 use crate::options::Options;
 use crate::orders::Order;
 use crate::outcome::{Failure, Outcome};
-use crate::plan;
-use crate::records::{decode, Table};
+use crate::refusals::Asked;
+use crate::stand_in::{facts, Facts};
 use crate::wording::counted;
-use vempaldi::{Ground, Refusal};
+use vempaldi::Refusal;
 
 const WORDS: Words = Words { good: "agree", bad: "refused or different" };
 
@@ -28,29 +30,23 @@ pub fn run(options: &Options) -> Result<Outcome, Failure> {
     if options.has("-o") {
         options.one_file()?;
     }
-    batch::each(options, &WORDS, |name, bytes| {
-        if let Err(refusal) = vempaldi::check(bytes) {
-            return plan::refused(options, name, bytes, &refusal);
-        }
-        let (table, _) = decode(bytes);
-        let order = order.bytes(processors, table.iterations());
-        let start = memory.numbers(&table);
-        let lent = start.len();
-        match both(bytes, processors, &order, start) {
-            Ok(both) => tell(options, name, &table, processors, &both),
-            Err(refusal) => answers::refused(options, &refusal, || {
-                plan::say(name, bytes, &refusal);
-                if refusal.ground == Ground::Memory {
-                    batch::say(&lengths(name, table.elements(), lent));
-                }
-                Ok(())
-            }),
+    batch::each(options, &WORDS, |input| {
+        let mut asked = Asked { processors: Some(processors), numbers: None };
+        let facts = match facts(&input.table) {
+            Ok(facts) => facts,
+            Err(refusal) => return answers::refused(options, input, &refusal, &asked),
+        };
+        let start = memory.numbers(&facts);
+        asked.numbers = Some(start.len());
+        match both(&input.table, processors, &order.bytes(processors, iterations(&facts)), start) {
+            Ok(both) => tell(options, input, &facts, processors, &both),
+            Err(refusal) => answers::refused(options, input, &refusal, &asked),
         }
     })
 }
 
-fn lengths(name: &str, elements: usize, lent: usize) -> String {
-    format!("{name}: the table has {}, the memory {}", counted(elements, "element"), counted(lent, "number"))
+fn iterations(facts: &Facts) -> usize {
+    facts.loops.iter().map(|one| (one.last - one.first + 1) as usize).sum()
 }
 
 fn both(table: &[u8], processors: u32, order: &[u8], start: Vec<f64>) -> Result<Both, Refusal> {
@@ -61,11 +57,12 @@ fn both(table: &[u8], processors: u32, order: &[u8], start: Vec<f64>) -> Result<
     Ok(Both { run, plain, idle })
 }
 
-fn tell(options: &Options, name: &str, table: &Table, processors: u32, both: &Both) -> Result<Outcome, Failure> {
+fn tell(options: &Options, input: &Input, facts: &Facts, processors: u32, both: &Both) -> Result<Outcome, Failure> {
+    let (name, names) = (&input.name, &input.names);
     let different: Vec<usize> = (0..both.run.len()).filter(|&at| both.run[at].to_bits() != both.plain[at].to_bits()).collect();
     let verdict = match different.first() {
         None => format!("agrees with the plain run, all {} numbers bit for bit", both.run.len()),
-        Some(&at) => format!("DIFFERS from the plain run in {} numbers, first {}", different.len(), pair(table, both, at)),
+        Some(&at) => format!("DIFFERS from the plain run in {} numbers, first {}", different.len(), pair(facts, names, both, at)),
     };
     let raw = || {
         write_memory(options, both)?;
@@ -76,10 +73,10 @@ fn tell(options: &Options, name: &str, table: &Table, processors: u32, both: &Bo
         batch::print(format!("idle {}\n", both.idle).as_bytes())
     };
     let words = || {
-        let (iterations, processors) = (counted(table.iterations(), "iteration"), counted(processors as usize, "processor"));
+        let (iterations, processors) = (counted(iterations(facts), "iteration"), counted(processors as usize, "processor"));
         batch::print(format!("{name}: {iterations} on {processors}, idle {}: {verdict}\n", both.idle).as_bytes())?;
         if options.has("--values") {
-            batch::print(values(table, &both.run).as_bytes())?;
+            batch::print(values(facts, names, &both.run).as_bytes())?;
         }
         write_memory(options, both)
     };
@@ -95,24 +92,19 @@ fn write_memory(options: &Options, both: &Both) -> Result<(), Failure> {
 }
 
 /// Both numbers of an element, with their bits.
-fn pair(table: &Table, both: &Both, at: usize) -> String {
-    let (mut array, mut element) = (0, at);
-    while element >= table.arrays[array] as usize {
-        element -= table.arrays[array] as usize;
-        array += 1;
-    }
+fn pair(facts: &Facts, names: &Names, both: &Both, at: usize) -> String {
+    let element = elements(facts, names).nth(at).unwrap_or_default();
     let (plain, run) = (both.plain[at], both.run[at]);
-    format!("A{array}[{element}]: plain {plain} ({:016x}), run {run} ({:016x})", plain.to_bits(), run.to_bits())
+    format!("{element}: plain {plain} ({:016x}), run {run} ({:016x})", plain.to_bits(), run.to_bits())
 }
 
 /// A line for each element: array, element, number.
-fn values(table: &Table, memory: &[f64]) -> String {
-    let mut numbers = memory.iter();
-    let mut text = String::new();
-    for (array, &length) in table.arrays.iter().enumerate() {
-        for (element, number) in numbers.by_ref().take(length as usize).enumerate() {
-            text += &format!("A{array}[{element}] {number}\n");
-        }
-    }
-    text
+fn values(facts: &Facts, names: &Names, memory: &[f64]) -> String {
+    elements(facts, names).zip(memory).map(|(element, number)| format!("{element} {number}\n")).collect()
+}
+
+/// `H[0]`, `H[1]`, .. in the order of the memory.
+fn elements<'a>(facts: &'a Facts, names: &'a Names) -> impl Iterator<Item = String> + 'a {
+    let arrays = facts.arrays.iter().enumerate();
+    arrays.flat_map(move |(number, array)| (0..array.length).map(move |element| format!("{}[{element}]", names.of(number))))
 }

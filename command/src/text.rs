@@ -2,26 +2,27 @@
 
 use crate::answers;
 use crate::batch::{self, Words};
-use crate::infix::{assignment, reference};
+use crate::infix::{named_assignment, named_reference};
+use crate::names::Names;
 use crate::options::Options;
 use crate::outcome::{Failure, Outcome};
 use crate::records::{decode, Item, Loop, OPERATIONS};
-use crate::refusals::describe;
+use crate::refusals::{describe, Asked};
 
 const WORDS: Words = Words { good: "accepted", bad: "refused" };
 
 pub fn dump_files(options: &Options) -> Result<Outcome, Failure> {
     let several = options.some_files()?.len() > 1;
-    batch::each(options, &WORDS, |name, table| {
+    batch::each(options, &WORDS, |input| {
         let text = || {
-            let head = if several { format!("# {name}\n") } else { String::new() };
-            batch::print((head + &dump(table)).as_bytes())
+            let head = if several { format!("# {}\n", input.name) } else { String::new() };
+            batch::print((head + &dump(&input.table, &input.names)).as_bytes())
         };
-        match vempaldi::check(table) {
+        match vempaldi::check(&input.table) {
             Ok(()) => answers::accepted(options, "accepted\n", text),
-            Err(refusal) => answers::refused(options, &refusal, || {
+            Err(refusal) => answers::refused_with(options, &refusal, || {
                 text()?;
-                batch::say(&format!("{name}: {}", describe(table, &refusal)));
+                batch::say(&describe(input, &refusal, &Asked::default()));
                 Ok(())
             }),
         }
@@ -29,14 +30,14 @@ pub fn dump_files(options: &Options) -> Result<Outcome, Failure> {
 }
 
 /// The lines of a table; of a damaged one those before the damage.
-pub fn dump(table: &[u8]) -> String {
+pub fn dump(table: &[u8], names: &Names) -> String {
     let (decoded, ended) = decode(table);
     let mut text = String::new();
     for (number, length) in decoded.arrays.iter().enumerate() {
-        text += &format!("array A{number} {length}\n");
+        text += &format!("array {} {length}\n", names.of(number));
     }
     for (number, one) in decoded.loops.iter().enumerate() {
-        text += &a_loop(number, one);
+        text += &a_loop(number, one, names);
     }
     if !ended {
         text += "# the table is damaged from here on\n";
@@ -44,16 +45,16 @@ pub fn dump(table: &[u8]) -> String {
     text
 }
 
-fn a_loop(number: usize, one: &Loop) -> String {
-    let said = assignment(one).map_or(String::new(), |infix| format!(": {}", infix.text));
-    let items: Vec<String> = one.items.iter().map(item).collect();
-    let store = reference(one.array, one.offset);
+fn a_loop(number: usize, one: &Loop, names: &Names) -> String {
+    let said = named_assignment(one, names).map_or(String::new(), |infix| format!(": {}", infix.text));
+    let items: Vec<String> = one.items.iter().map(|one| item(one, names)).collect();
+    let store = named_reference(names, one.array, one.offset);
     format!("# loop {number}{said}\nloop {} {} -> {store}: {}\n", one.first, one.last, items.join(" "))
 }
 
-fn item(item: &Item) -> String {
+fn item(item: &Item, names: &Names) -> String {
     match *item {
-        Item::Read(array, offset) => reference(array, offset),
+        Item::Read(array, offset) => named_reference(names, array, offset),
         Item::Constant(value) => value.to_string(),
         Item::Operation(code) => OPERATIONS[usize::from(code) - 1].to_string(),
     }

@@ -10,7 +10,23 @@ pub fn quoted(word: &str) -> String {
     format!("'{shown}{cut}'")
 }
 
-/// `1 processor`, `2 processors`.
+/// `1 processor`, `2 processors`, `2 indices`.
 pub fn counted(count: usize, word: &str) -> String {
-    format!("{count} {word}{}", if count == 1 { "" } else { "s" })
+    match (count, word) {
+        (1, _) => format!("1 {word}"),
+        (_, "index") => format!("{count} indices"),
+        _ => format!("{count} {word}s"),
+    }
+}
+
+/// `9th`, `17th`, `33rd`.
+pub fn ordinal(number: usize) -> String {
+    let ending = match (number % 10, number % 100) {
+        (_, 11..=13) => "th",
+        (1, _) => "st",
+        (2, _) => "nd",
+        (3, _) => "rd",
+        _ => "th",
+    };
+    format!("{number}{ending}")
 }

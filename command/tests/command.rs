@@ -50,7 +50,7 @@ fn meeting_iterations_are_named_by_loop_and_read() {
     let text = b"array A 21\nloop 1 10 -> A[i]: A[i+9]\n";
     let told = fed(&["make", "-"], text);
     assert_eq!(told.status, 1);
-    let said = "-:2: refused 9 serial at loop 0 (record 1, byte 5), its read 0 (record 2, byte 17)";
+    let said = "-:2:20: refused 9 serial at loop 0 (record 1, byte 5), its read 0 (record 2, byte 17)";
     assert!(told.err.starts_with(said), "{}", told.err);
     assert_eq!(fed(&["make", "-"], b"array A 21\nloop 1 10 -> A[i]: A[i+10]\n").status, 0);
 }
@@ -64,9 +64,12 @@ fn make_gives_the_examples_bytes_and_names_wrong_lines() {
         std::fs::remove_file(&out).expect("removed");
     }
     let told = fed(&["make", "-"], b"array A 12\n\nloop 1 10 -> A[i]: B[i]\n");
-    assert_eq!((told.status, told.err.as_str()), (1, "-:3: no array 'B'\n"));
+    assert_eq!(
+        (told.status, told.err.as_str()),
+        (1, "-:3:20: no array 'B'; there is A\n  loop 1 10 -> A[i]: B[i]\n                     ^\n")
+    );
     let told = fed(&["make", "-"], b"array A 12\nloop 1 10 -> A[i]:\n  1\n  +\n");
-    assert!(told.err.starts_with("-:4: refused 6 body"), "{}", told.err);
+    assert!(told.err.starts_with("-:4:3: refused 6 body"), "{}", told.err);
 }
 
 #[test]

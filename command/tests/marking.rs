@@ -15,18 +15,17 @@ const MULTIPLY: u8 = 3;
 const DIVIDE: u8 = 4;
 const NEGATE: u8 = 5;
 
-const GROUND: &str = "two different iterations of one loop meet at an element, one storing";
-
 /// Two arrays of 40 elements and a loop from 10 to 19 that stores A0[i+offset], its body still to come. The loop is record 2 at byte 10,
 /// its first item record 3 at byte 22.
 fn from_10_to_19(offset: i16) -> Encoder {
     Encoder::new().array(40).array(40).a_loop(10, 19, 0, offset)
 }
 
-/// `check` prints the refusal's line with this place, then the loop, then the marks.
-fn says(table: Encoder, place: &str, lines: [&str; 2]) {
+/// `check` prints the refusal's line with this place and the lowest iterations that meet, then the loop, then the marks.
+fn says(table: Encoder, place: &str, met: (u32, &str, u32), lines: [&str; 2]) {
     let told = fed(&["check", "-"], &table.end().bytes);
-    let all = format!("-: refused 9 serial at {place}: {GROUND}\n{}\n{}\n", lines[0], lines[1]);
+    let met = format!("iteration {} reads {}, which iteration {} stores", met.0, met.1, met.2);
+    let all = format!("-: refused 9 serial at {place}: {met}\n{}\n{}\n", lines[0], lines[1]);
     assert_eq!((told.status, told.out.as_str(), told.err.as_str()), (1, all.as_str(), ""));
 }
 
@@ -35,6 +34,7 @@ fn an_earlier_iteration_stores_what_is_read() {
     says(
         Encoder::new().array(12).array(12).a_loop(1, 10, 0, 0).read(1, 0).read(0, -1).operation(ADD),
         "loop 0 (record 2, byte 10), its read 1 (record 4, byte 26)",
+        (2, "A0[1]", 1),
         [
             "  loop 0, i = 1 to 10: A0[i] = A1[i] + A0[i-1]",
             "                                       ^^^^^^^ \
@@ -49,6 +49,7 @@ fn a_later_iteration_stores_what_is_read() {
     says(
         Encoder::new().array(21).a_loop(1, 10, 0, 0).read(0, 9),
         "loop 0 (record 1, byte 5), its read 0 (record 2, byte 17)",
+        (1, "A0[10]", 10),
         [
             "  loop 0, i = 1 to 10: A0[i] = A0[i+9]",
             "                               ^^^^^^^ \
@@ -64,6 +65,7 @@ fn the_destinations_offset_counts() {
     says(
         from_10_to_19(2).read(0, 1),
         place,
+        (11, "A0[12]", 10),
         [
             "  loop 0, i = 10 to 19: A0[i+2] = A0[i+1]",
             "                                  ^^^^^^^ \
@@ -73,6 +75,7 @@ fn the_destinations_offset_counts() {
     says(
         from_10_to_19(-10).read(0, -1),
         place,
+        (10, "A0[9]", 19),
         [
             "  loop 0, i = 10 to 19: A0[i-10] = A0[i-1]",
             "                                   ^^^^^^^ \
@@ -82,6 +85,7 @@ fn the_destinations_offset_counts() {
     says(
         from_10_to_19(5).read(0, 0),
         place,
+        (15, "A0[15]", 10),
         [
             "  loop 0, i = 10 to 19: A0[i+5] = A0[i]",
             "                                  ^^^^^ \
@@ -95,6 +99,7 @@ fn the_lowest_of_several_is_marked() {
     says(
         from_10_to_19(0).read(1, -1).read(0, -1).operation(MULTIPLY).read(0, -1).operation(ADD).read(0, -1).operation(ADD),
         "loop 0 (record 2, byte 10), its read 1 (record 4, byte 26)",
+        (11, "A0[10]", 10),
         [
             "  loop 0, i = 10 to 19: A0[i] = A1[i-1] * A0[i-1] + A0[i-1] + A0[i-1]",
             "                                          ^^^^^^^ \
@@ -105,6 +110,7 @@ fn the_lowest_of_several_is_marked() {
     says(
         from_10_to_19(0).read(0, 3).read(0, -1).operation(SUBTRACT),
         "loop 0 (record 2, byte 10), its read 0 (record 3, byte 22)",
+        (10, "A0[13]", 13),
         [
             "  loop 0, i = 10 to 19: A0[i] = A0[i+3] - A0[i-1]",
             "                                ^^^^^^^ \
@@ -120,6 +126,7 @@ fn reads_of_the_array_that_meet_nothing_are_passed_over() {
     says(
         from_10_to_19(0).read(0, 0).read(0, 10).operation(ADD).read(0, -10).operation(ADD).read(0, 9).operation(ADD),
         "loop 0 (record 2, byte 10), its read 3 (record 8, byte 38)",
+        (10, "A0[19]", 19),
         [
             "  loop 0, i = 10 to 19: A0[i] = A0[i] + A0[i+10] + A0[i-10] + A0[i+9]",
             "                                                              ^^^^^^^ \
@@ -133,6 +140,7 @@ fn brackets_and_signs_stand_before_the_mark() {
     says(
         from_10_to_19(0).read(1, 0).read(1, 1).read(0, -1).operation(ADD).operation(MULTIPLY),
         "loop 0 (record 2, byte 10), its read 2 (record 5, byte 30)",
+        (11, "A0[10]", 10),
         [
             "  loop 0, i = 10 to 19: A0[i] = A1[i] * (A1[i+1] + A0[i-1])",
             "                                                   ^^^^^^^ \
@@ -142,6 +150,7 @@ fn brackets_and_signs_stand_before_the_mark() {
     says(
         from_10_to_19(0).read(0, 1).operation(NEGATE),
         "loop 0 (record 2, byte 10), its read 0 (record 3, byte 22)",
+        (10, "A0[11]", 11),
         [
             "  loop 0, i = 10 to 19: A0[i] = -A0[i+1]",
             "                                 ^^^^^^^ \
@@ -153,6 +162,7 @@ fn brackets_and_signs_stand_before_the_mark() {
     says(
         signs.operation(SUBTRACT).operation(SUBTRACT).operation(DIVIDE),
         "loop 0 (record 2, byte 10), its read 1 (record 6, byte 36)",
+        (19, "A0[10]", 10),
         [
             "  loop 0, i = 10 to 19: A0[i] = 7 / (2 - (A1[i] - -(-(A0[i-9] + 4294967295))))",
             "                                                      ^^^^^^^ \
@@ -169,6 +179,7 @@ fn the_lowest_loop_is_shown() {
     says(
         table.a_loop(10, 19, 2, 0).read(2, -1),
         "loop 1 (record 5, byte 31), its read 0 (record 7, byte 48)",
+        (9, "A1[7]", 7),
         [
             "  loop 1, i = 7 to 130: A1[i] = 1 + A1[i-2]",
             "                                    ^^^^^^^ \
@@ -183,6 +194,7 @@ fn long_names_are_marked_whole() {
     says(
         table.read(14, -255).read(15, -255).operation(ADD),
         "loop 0 (record 16, byte 80), its read 1 (record 18, byte 96)",
+        (510, "A15[255]", 255),
         [
             "  loop 0, i = 255 to 1000: A15[i] = A14[i-255] + A15[i-255]",
             "                                                 ^^^^^^^^^^ \
@@ -200,6 +212,7 @@ fn the_longest_body_is_marked_at_its_end() {
     says(
         operands.read(0, -1).operation(ADD).operation(NEGATE),
         "loop 0 (record 2, byte 10), its read 15 (record 32, byte 110)",
+        (11, "A0[10]", 10),
         [&text, &format!("{}^^^^^^^ {words}", " ".repeat(34 + 15 * 8))],
     );
 }
@@ -207,7 +220,7 @@ fn the_longest_body_is_marked_at_its_end() {
 const TEXT: &str = "array A0 12\narray A1 12\nloop 1 10 -> A0[i]: A1[i] A0[i+1] +\n";
 const LINES: &str = "\
 refused 9 serial at loop 0 (record 2, byte 10), its read 1 (record 4, byte 26): \
-two different iterations of one loop meet at an element, one storing
+iteration 1 reads A0[2], which iteration 2 stores
 \x20 loop 0, i = 1 to 10: A0[i] = A1[i] + A0[i+1]
 \x20                                      ^^^^^^^ \
 iteration i reads the element that the later iteration i+1 stores (i = 1 to 9)
@@ -239,7 +252,7 @@ fn every_command_shows_the_same() {
     assert_eq!((told.status, told.out.as_str(), told.err.as_str()), (1, text.as_str(), lines.as_str()));
     std::fs::remove_file(&name).expect("removed");
     let told = fed(&["make", "-"], TEXT.as_bytes());
-    assert_eq!((told.status, told.out.as_str(), told.err.as_str()), (1, "", format!("-:3: {LINES}").as_str()));
+    assert_eq!((told.status, told.out.as_str(), told.err.as_str()), (1, "", format!("-:3:27: {LINES}").as_str()));
 }
 
 #[test]

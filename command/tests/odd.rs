@@ -85,8 +85,8 @@ fn a_memory_is_whole_and_as_long_as_the_table_says() {
     let words = ["run", EXAMPLE, "-p", "2", "--memory", &word];
     let said = [
         (36 * 8, 0, "agrees with the plain run, all 36 numbers"),
-        (35 * 8, 1, "the table has 36 elements, the memory 35 numbers"),
-        (37 * 8, 1, "the table has 36 elements, the memory 37 numbers"),
+        (35 * 8, 1, "the memory has 35 numbers, the table 36 elements"),
+        (37 * 8, 1, "the memory has 37 numbers, the table 36 elements"),
         (36 * 8 - 3, 2, "285 bytes, not a whole count of numbers of 8 bytes"),
         (36 * 8 + 1, 2, "289 bytes, not a whole count of numbers of 8 bytes"),
     ];
@@ -102,30 +102,36 @@ fn a_memory_is_whole_and_as_long_as_the_table_says() {
 }
 
 #[test]
-fn a_text_and_a_table_are_told_apart() {
+fn what_is_neither_text_nor_table_is_said_so() {
     for words in [&["check"][..], &["plan", "-p", "2"], &["run", "-p", "2"], &["draw", "-p", "2"], &["join", EXAMPLE]] {
-        let told = run(&[words, &["examples/example.txt"]].concat());
+        let told = run(&[words, &["README.md"]].concat());
         assert_eq!(told.status, 1);
         let said = told.out + &told.err;
-        assert!(said.contains("refused 2 kind") && said.contains("this looks like text: vempaldi make"), "{said}");
+        let hint =
+            "kind 35, allowed are 1 to 6 (this looks like text, but begins with 'Vempaldi' and not with 'array' or 'loop')\n";
+        assert!(said.contains("refused 2 kind") && said.ends_with(hint), "{said}");
     }
     let told = run(&["make", EXAMPLE]);
     assert_eq!((told.status, told.out.as_str()), (1, ""));
     assert!(told.err.starts_with("examples/example.table: this is a table, not a text"), "{}", told.err);
     assert!(!fed(&["check", "-"], &[7, 1]).out.contains("text"));
+    assert!(fed(&["check", "-"], b"# nothing\n").out.ends_with("(this looks like text, but has no 'array' or 'loop')\n"));
 }
 
 #[test]
 fn a_wrong_text_is_named_by_line_and_word() {
     let long = "x".repeat(5_000);
     for (text, said) in [
-        ("", "-:1: refused 2 kind at record 0 (end)"),
-        (long.as_str(), "-:1: 'xxxxxxxxxxxxxxxxxxxxxxxxxxxxxxxxxxxxxxxx..' where a line begins with 'array' or 'loop'\n"),
-        ("\u{1b}[2J", "-:1: '\\u{1b}[2J' where a line begins with 'array' or 'loop'\n"),
-        ("array A 12\nloop 1 10 -> A[i]: A[i]+1", "-:2: 'A[i]+1' is no item"),
-        ("array A 12\nloop 1 10 -> A[i]: 1.5", "-:2: '1.5' is not a whole number"),
-        ("array A 12\nloop 1 10 -> A[i + 1]: 1", "-:2: ' + 1' is not an offset: +3 or -3"),
-        ("array A 12\nloop 1 20 -> A[i]: 1", "-:2: refused 7 edge"),
+        ("", "-:1:1: refused 2 kind at record 0 (end), byte 0: the end comes before any array\n"),
+        (long.as_str(), "-:1:1: 'xxxxxxxxxxxxxxxxxxxxxxxxxxxxxxxxxxxxxxxx..' where a line begins with 'array' or 'loop'\n"),
+        ("\u{1b}[2J", "-:1:1: '\\u{1b}[2J' where a line begins with 'array' or 'loop'\n   [2J\n"),
+        ("array A 12\nloop 1 10 -> A[i]: A[i]+1", "-:2:20: 'A[i]+1' is no item"),
+        (
+            "array A 12\nloop 1 10 -> A[i]: 1.5",
+            "-:2:20: '1.5' is not a whole number up to 4294967295; a fraction is a division: 3 2 /\n",
+        ),
+        ("array A 12\nloop 1 10 -> A[i + 1]: 1", "-:2:17: ' + 1' is not an offset: +3 or -3\n"),
+        ("array A 12\nloop 1 20 -> A[i]: 1", "-:2:14: refused 7 edge"),
     ] {
         let told = fed(&["make", "-"], text.as_bytes());
         assert_eq!((told.status, told.out.as_str()), (1, ""));
@@ -135,22 +141,52 @@ fn a_wrong_text_is_named_by_line_and_word() {
 
 #[test]
 fn wrong_words_are_named() {
-    for (words, said) in [
-        (&[][..], "no command is given; there are check, plan, "),
-        (&["chek", EXAMPLE], "no command 'chek'; there are check, plan, "),
-        (&["check"], "no file"),
-        (&["check", "-v", EXAMPLE], "no option '-v'"),
-        (&["check", EXAMPLE, "-p", "2"], "-p is not for this command"),
-        (&["plan", EXAMPLE], "-p N is missing"),
-        (&["plan", EXAMPLE, "-p"], "-p needs a value"),
-        (&["join", EXAMPLE], "join takes two files"),
-        (&["draw", EXAMPLE, EXAMPLE, "-p", "2"], "one file, not 2"),
+    for (words, said, help) in [
+        (&[][..], "no command is given; there are check, plan, join, run, dump, make and draw", ""),
+        (&["chek", EXAMPLE], "no command 'chek' (is check meant?); there are check, plan, ", ""),
+        (&["paln", "--help"], "no command 'paln' (is plan meant?); there are check, plan, ", ""),
+        (&["help", "mkae"], "no command 'mkae' (is make meant?); there are check, plan, ", ""),
+        (&["frobnicate"], "no command 'frobnicate'; there are check, plan, ", ""),
+        (&["--version", "check"], "--version stands alone", ""),
+        (&["check"], "no file", "check "),
+        (&["check", "-v", EXAMPLE], "no option '-v'", "check "),
+        (&["plan", EXAMPLE, "-p", "2", "--jsno"], "no option '--jsno'; is --json meant?", "plan "),
+        (&["check", EXAMPLE, "-p", "2"], "-p is not for this command", "check "),
+        (&["plan", EXAMPLE], "-p N is missing", "plan "),
+        (&["plan", EXAMPLE, "-p"], "-p needs a value", "plan "),
+        (&["plan", EXAMPLE, "-p2", "-p", "2"], "-p is given twice", "plan "),
+        (&["check", "-q", EXAMPLE, "-q"], "-q is given twice", "check "),
+        (&["run", EXAMPLE, "-p2", "--order=none", "--order", "turns"], "--order is given twice", "run "),
+        (&["check", "--raw=1", EXAMPLE], "--raw has no value", "check "),
+        (&["check", "-q1", EXAMPLE], "no option '-q1'", "check "),
+        (&["join", EXAMPLE], "join takes two files", "join "),
+        (&["draw", EXAMPLE, EXAMPLE, "-p", "2"], "one file, not 2", "draw "),
     ] {
         let told = run(words);
-        assert_eq!((told.status, told.out.as_str()), (2, ""));
+        assert_eq!((told.status, told.out.as_str()), (2, ""), "{words:?}");
         assert!(told.err.starts_with(&format!("vempaldi: {said}")), "{}", told.err);
-        assert!(told.err.ends_with("(vempaldi --help says how)\n"), "{}", told.err);
+        assert!(told.err.ends_with(&format!(" (vempaldi {help}--help says how)\n")), "{}", told.err);
     }
+}
+
+/// A value may stand in the option's own word.
+#[test]
+fn options_have_their_values_in_either_form() {
+    let listing = run(&["plan", EXAMPLE, "-p", "2"]);
+    assert_eq!(listing.status, 0);
+    assert_eq!(run(&["plan", EXAMPLE, "-p2"]).out, listing.out);
+    assert_eq!(run(&["plan", "-p2", "--", EXAMPLE]).out, listing.out);
+    let run_with = |words: &[&str]| run(&[&["run", EXAMPLE, "-p2"], words].concat()).out;
+    assert!(run_with(&["--order=2,255"]).contains(" idle 2:"));
+    assert_eq!(run_with(&["--order=2,255"]), run_with(&["--order", "2,255"]));
+    assert_eq!(run_with(&["--memory=zero", "--values"]), run_with(&["--values", "--memory", "zero"]));
+    let name = out_name("attached");
+    assert_eq!(run(&["join", EXAMPLE, EXAMPLE, &format!("-o{name}")]).status, 0);
+    assert_eq!(std::fs::read(&name).expect("written").len(), 106);
+    std::fs::remove_file(&name).expect("removed");
+    // A value is taken as it is, also one that looks like an option.
+    assert!(run(&["plan", EXAMPLE, "-p", "-o"]).err.starts_with("vempaldi: -p '-o' is not a number of processors"));
+    assert!(run(&["run", EXAMPLE, "-p2", "--order="]).err.starts_with("vempaldi: --order '' is not one of"));
 }
 
 #[cfg(unix)]
@@ -163,10 +199,53 @@ fn a_word_that_is_no_text_is_an_error_and_no_panic() {
     assert_eq!(String::from_utf8_lossy(&output.stderr), "vempaldi: \"\\xFF\\xFE\" is not UTF-8 (vempaldi --help says how)\n");
 }
 
+const COMMANDS: [&str; 7] = ["check", "plan", "join", "run", "dump", "make", "draw"];
+
 #[test]
-fn help_fits_a_terminal_of_100_columns() {
-    let told = run(&["--help"]);
-    for line in told.out.lines() {
-        assert!(line.len() <= 100, "{line}");
+fn every_help_fits_a_terminal_of_100_columns() {
+    let own = COMMANDS.map(|command| vec![command, "--help"]);
+    for words in [vec!["--help"], vec!["-h"], vec!["help"]].into_iter().chain(own) {
+        let told = run(&words);
+        assert_eq!((told.status, told.err.as_str()), (0, ""));
+        for line in told.out.lines() {
+            assert!(line.chars().count() <= 100, "{line}");
+        }
     }
+}
+
+/// A command's own help begins with how it is called, says each of its options, and nothing of the others'.
+#[test]
+fn every_command_has_a_help_of_its_own() {
+    let all = [
+        ("check", &["-q", "--raw"][..]),
+        ("plan", &["-p N", "-o DIR", "--json", "--raw"]),
+        ("join", &["-o OUT", "--raw"]),
+        ("run", &["-p N", "-o OUT", "--order", "--memory", "--values", "--raw", "random:SEED"]),
+        ("dump", &["--raw"]),
+        ("make", &["-o OUT", "--raw", "array H 100"]),
+        ("draw", &["-p N", "-o OUT", "--raw"]),
+    ];
+    let whole = run(&["--help"]).out;
+    for (command, says) in all {
+        let told = run(&[command, "--help"]);
+        assert!(told.status == 0 && told.out.starts_with(&format!("vempaldi {command} ")), "{}", told.out);
+        for said in says {
+            assert!(told.out.contains(said) && whole.contains(said), "{command}: {said}");
+        }
+        assert_eq!(told.out.contains("random:SEED"), command == "run");
+        assert_eq!(told.out.contains("array H 100"), ["dump", "make"].contains(&command));
+        assert!(told.out.contains("Exit status: 0 ") && told.out.contains("refused NUMBER PLACE"), "{command}");
+        // Wherever it stands, but not behind `--`, where it is a file.
+        for words in [&["help", command][..], &[command, "-h"], &[command, "file", "-p", "--help"]] {
+            assert_eq!(run(words).out, told.out, "{words:?}");
+        }
+        assert_eq!(run(&[command, "--", "--help"]).status, 2);
+    }
+}
+
+#[test]
+fn the_version_is_the_commands_and_the_librarys() {
+    let told = run(&["--version"]);
+    let number = env!("CARGO_PKG_VERSION");
+    assert_eq!((told.status, told.out), (0, format!("vempaldi {number}\nlibrary {number}\n")));
 }

@@ -159,8 +159,12 @@ fn make_says_whether_its_table_is_accepted() {
 #[test]
 fn make_of_what_is_no_text_is_said_as_ever() {
     let out = Output::new("no-text");
-    let told = fed(&["make", "--raw", "-", "-o", &out.0], b"array A 12\n\nloop 1 10 -> A[i]: B[i]\n");
-    assert_eq!((told.status, told.out.as_str(), told.err.as_str()), (1, "", "-:3: no array 'B'\n"));
+    let wrong = b"array A 12\n\nloop 1 10 -> A[i]: B[i]\n";
+    let told = fed(&["make", "--raw", "-", "-o", &out.0], wrong);
+    assert_eq!(
+        (told.status, told.out.as_str(), told.err.as_str()),
+        (1, "", "-:3:20: no array 'B'; there is A\n  loop 1 10 -> A[i]: B[i]\n                     ^\n")
+    );
     let told = run(&["make", "--raw", EXAMPLE, "-o", &out.0]);
     assert_eq!((told.status, told.out.as_str()), (1, ""));
     assert!(told.err.starts_with("examples/example.table: this is a table, not a text"), "{}", told.err);
@@ -292,10 +296,13 @@ fn what_would_stand_beside_the_answer_is_a_usage_error() {
         (&["plan", EXAMPLE], "-p N is missing"),
         (&["run", EXAMPLE, EXAMPLE, "-p", "2", "-o", "out"], "one file, not 2"),
         (&["join", EXAMPLE, "-o", "out"], "join takes two files"),
-        (&["check", EXAMPLE, "--raw=1"], "no option '--raw=1'"),
+        (&["check", EXAMPLE, "--raw=1"], "--raw has no value"),
+        (&["check", EXAMPLE, "--raw"], "--raw is given twice"),
+        (&["plan", EXAMPLE, "-p", "2", "-o", "."], "with --raw the standard output has the answers alone: -o DIR is not for it"),
+        (&["plan", EXAMPLE, "-p", "2", "--json"], "with --raw the standard output has the answers alone: --json is not for it"),
     ] {
         let told = run(&[words, &["--raw"]].concat());
-        let line = format!("vempaldi: {said} (vempaldi --help says how)\n");
+        let line = format!("vempaldi: {said} (vempaldi {} --help says how)\n", words[0]);
         assert_eq!((told.status, told.out.as_str(), told.err.as_str()), (2, "", line.as_str()), "{words:?}");
     }
     let told = run(&["--raw", "check", EXAMPLE]);

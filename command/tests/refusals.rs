@@ -1,5 +1,5 @@
 //! Runs the commands of docs/REFUSALS.md as they are printed there: what follows a command in its block is what it says. A section that
-//! has a ground's number is about that refusal; the one for scripts has raw answers, accepted ones too.
+//! has a ground's number is about that refusal; the one for scripts has raw answers, accepted ones too; that on JSON has objects.
 
 use std::path::PathBuf;
 use std::process::Command;
@@ -49,10 +49,22 @@ fn run(example: &Example, status: i32) -> String {
     err
 }
 
+/// The examples of sections that have a ground's number, in the head of the document, for scripts, on JSON.
+fn of_section(wanted: impl Fn(&str) -> bool) -> Vec<Example> {
+    document().into_iter().filter(|example| wanted(&example.section)).collect()
+}
+
+fn is_number(section: &str) -> bool {
+    section.parse::<u64>().is_ok()
+}
+
 #[test]
 fn every_refusal_says_what_is_printed_below_it() {
-    let found: Vec<Example> = document().into_iter().filter(|example| example.section != "For").collect();
-    assert_eq!(found.len(), 13);
+    let found = of_section(is_number);
+    // Every ground but 13 and 15, which the command never meets.
+    for ground in (1..=15).filter(|ground| ![13, 15].contains(ground)) {
+        assert!(found.iter().any(|example| example.section == ground.to_string()), "{ground}");
+    }
     for example in found {
         let number = format!(": refused {} ", example.section);
         assert!(example.says[0].contains(&number), "{}", example.command);
@@ -61,12 +73,30 @@ fn every_refusal_says_what_is_printed_below_it() {
 }
 
 #[test]
+fn the_head_says_a_refusal_too() {
+    let found = of_section(|section| section.is_empty());
+    assert_eq!(found.len(), 1);
+    run(&found[0], 1);
+}
+
+#[test]
 fn every_raw_answer_is_what_is_printed_below_it() {
-    let found: Vec<Example> = document().into_iter().filter(|example| example.section == "For").collect();
+    let found = of_section(|section| section == "For");
     assert_eq!(found.len(), 11);
     for example in found {
         assert!(example.command.contains(" --raw "), "{}", example.command);
         let refused = example.says.iter().any(|line| line.starts_with("refused "));
         assert_eq!(run(&example, i32::from(refused)), "", "{}", example.command);
+    }
+}
+
+#[test]
+fn every_object_is_what_is_printed_below_it() {
+    let found = of_section(|section| section == "JSON");
+    assert_eq!(found.len(), 3);
+    for example in found {
+        assert_eq!(example.says.len(), 1, "{}", example.command);
+        let accepted = example.says[0].contains("\"accepted\":true");
+        assert_eq!(run(&example, i32::from(!accepted)), "", "{}", example.command);
     }
 }

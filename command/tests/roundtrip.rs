@@ -5,7 +5,12 @@ use vempaldi_checks::encoder::encode;
 use vempaldi_checks::limits;
 use vempaldi_checks::random::Random;
 use vempaldi_checks::tables::{self, LARGE, MIDDLE, SMALL};
-use vempaldi_command::{dump, make};
+use vempaldi_command::{make, Names};
+
+/// The text of a table that has no names.
+fn dump(table: &[u8]) -> String {
+    vempaldi_command::dump(table, &Names::default())
+}
 
 fn same(table: &[u8]) {
     let text = dump(table);

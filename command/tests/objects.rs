@@ -1,0 +1,181 @@
+//! `plan --json`: every object has the form of docs/plan.schema.json, and says what the listing and the raw answers say.
+
+mod common;
+#[path = "common/json.rs"]
+mod json;
+
+use common::{bytes, fed, out_name, run, EXAMPLE};
+use json::{Json, Schema};
+use vempaldi_checks::damage;
+use vempaldi_checks::encoder::encode;
+use vempaldi_checks::processors;
+use vempaldi_checks::random::Random;
+use vempaldi_checks::tables::{self, LARGE, MIDDLE, SMALL};
+
+fn schema() -> Schema {
+    Schema(Json::read(&String::from_utf8(bytes("docs/plan.schema.json")).expect("text")))
+}
+
+/// The one object that is printed, which has the schema's form.
+fn object(words: &[&str], input: &[u8]) -> Json {
+    let told = fed(&[&["plan", "--json"], words].concat(), input);
+    assert_eq!((told.err.as_str(), told.out.lines().count()), ("", 1), "{}", told.out);
+    let object = Json::read(&told.out);
+    schema().fits(&object).unwrap_or_else(|wrong| panic!("{wrong}\n{}", told.out));
+    assert_eq!(told.status, i32::from(*object.at("accepted") == Json::Truth(false)));
+    object
+}
+
+/// The lines of a listing from an object.
+fn listing(object: &Json) -> String {
+    let mut lines = Vec::new();
+    let mut line = |word: &str, fields: &[i64]| {
+        let fields: Vec<String> = fields.iter().map(i64::to_string).collect();
+        lines.push(format!("{word} {}\n", fields.join(" ")));
+    };
+    let of = |row: &Json, keys: &[&str]| -> Vec<i64> { keys.iter().map(|key| row.at(key).number()).collect() };
+    for (k, row) in object.at("loops").list().iter().enumerate() {
+        line("loop", &[&[k as i64], &of(row, &["shift", "peel"])[..]].concat());
+    }
+    for (b, row) in object.at("blocks").list().iter().enumerate() {
+        line("block", &[&[b as i64], &of(row, &["first", "last"])[..]].concat());
+    }
+    for word in ["fused", "peeled"] {
+        for row in object.at(word).list() {
+            line(word, &of(row, &["processor", "loop", "from", "to"]));
+        }
+    }
+    line("sweeps", &of(object.at("sweeps"), &["before", "after"]));
+    lines.concat()
+}
+
+#[test]
+fn objects_say_what_the_listing_says() {
+    let mut random = Random::new(61);
+    for round in 0..90 {
+        let table = tables::aligned(&mut random, &[SMALL, MIDDLE, LARGE][round % 3]);
+        let most = processors::most(&table);
+        let count = random.between(1, i64::from(most)).to_string();
+        let encoded = encode(&table);
+        let object = object(&["-", "-p", &count], &encoded);
+        assert_eq!(listing(&object), fed(&["plan", "--raw", "-", "-p", &count], &encoded).out);
+        let numbers =
+            |key: &str, field: &str| -> Vec<i64> { object.at(key).list().iter().map(|row| row.at(field).number()).collect() };
+        let lengths: Vec<i64> = table.arrays.iter().map(|&length| length.into()).collect();
+        let firsts: Vec<i64> = (0..lengths.len()).map(|at| lengths[..at].iter().sum()).collect();
+        assert_eq!((numbers("arrays", "length"), numbers("arrays", "first")), (lengths.clone(), firsts));
+        assert_eq!(object.at("elements").number(), lengths.iter().sum::<i64>());
+        let bounds = |bound: fn(&vempaldi_checks::table::Loop) -> u32| table.loops.iter().map(|one| bound(one).into()).collect();
+        let (first, last): (Vec<i64>, Vec<i64>) = (bounds(|one| one.first), bounds(|one| one.last));
+        assert_eq!((numbers("loops", "first"), numbers("loops", "last")), (first, last));
+        let sums = numbers("loops", "shift").into_iter().zip(numbers("loops", "peel")).map(|(shift, peel)| shift + peel);
+        assert_eq!(Some(object.at("threshold").number()), sums.max());
+        assert!(object.at("arrays").list().iter().all(|array| array.get("name").is_none()), "a table has no names");
+    }
+}
+
+/// The raw answer's numbers, and the words that `check` prints.
+#[test]
+fn refused_tables_have_the_librarys_answer() {
+    let mut random = Random::new(62);
+    let mut refused = 0;
+    for _ in 0..200 {
+        let good = encode(&tables::any(&mut random, &SMALL));
+        let table = [damage::field(&mut random, &good), damage::change_byte(&mut random, &good)].concat();
+        let table = if random.chance(1, 2) { table } else { damage::rearrange(&mut random, &good) };
+        let object = object(&["-", "-p2"], &table);
+        let Some(refusal) = object.get("refusal") else { continue };
+        let answer = fed(&["plan", "--raw", "-", "-p2"], &table).out;
+        let number = refusal.at("number").number();
+        let named: Vec<i64> = refusal.at("named").list().iter().map(Json::number).collect();
+        let read = if number == 9 { format!(" {}", named[0]) } else { String::new() };
+        assert_eq!(answer, format!("refused {number} {}{read}\n", refusal.at("place").number()));
+        assert!(named[1] == 0 && (number == 9 || named[0] == 0));
+        let words = fed(&["plan", "-", "-p2"], &table).err;
+        assert_eq!(words.lines().next(), Some(format!("-: {}", refusal.at("message").text()).as_str()));
+        assert!(refusal.at("message").text().starts_with(&format!("refused {number} {}", refusal.at("word").text())));
+        assert!(refusal.get("line").is_none(), "a table has no lines");
+        refused += 1;
+    }
+    assert!(refused > 100, "{refused}");
+}
+
+#[test]
+fn a_text_has_names_and_places() {
+    let names = |object: &Json| -> Vec<String> {
+        object.at("arrays").list().iter().map(|array| array.at("name").text().to_string()).collect()
+    };
+    let river = object(&["examples/river.txt", "-p4"], b"");
+    assert_eq!((river.at("file").text(), names(&river).join(" ")), ("examples/river.txt", "H Q S D".to_string()));
+    assert_eq!(river.at("loops").list()[0].at("statement").text(), "S[i] = (H[i-1] - H[i+1]) / 200");
+    let place = |object: &Json| (object.at("line").number(), object.at("column").number(), object.at("token").text().to_string());
+    let refused = object(&["-", "-p2"], b"array H 12\n# \xc3\xa4\nloop 1 10 -> H[i]: 1 H[i+300] +\n");
+    assert_eq!(place(refused.at("refusal")), (3, 25, "+300".to_string()));
+    let wrong = object(&["-", "-p2"], "array H 12\nloop 1 10 -> H[i]: 1 \"\u{e4}\\\u{7}\" +\n".as_bytes());
+    assert_eq!(place(wrong.at("error")), (2, 22, "\"\u{e4}\\\u{7}\"".to_string()));
+    // The number of processors has no place in a text.
+    let short = object(&["examples/river.txt", "-p", "64"], b"");
+    assert_eq!((short.at("refusal").at("number").number(), short.at("refusal").get("line")), (11, None));
+}
+
+#[test]
+fn several_files_have_a_line_each_and_nothing_else_is_said() {
+    let told = run(&["plan", "--json", "-p", "2", EXAMPLE, "README.md", "no-such-file", "examples/jacobi.txt"]);
+    assert_eq!((told.status, told.err.lines().count()), (2, 1), "{}", told.err);
+    assert!(told.err.starts_with("vempaldi: no-such-file: "), "{}", told.err);
+    let objects: Vec<Json> = told.out.lines().map(Json::read).collect();
+    let files: Vec<&str> = objects.iter().map(|one| one.at("file").text()).collect();
+    assert_eq!(files, [EXAMPLE, "README.md", "examples/jacobi.txt"]);
+    let accepted: Vec<bool> = objects.iter().map(|one| *one.at("accepted") == Json::Truth(true)).collect();
+    assert_eq!(accepted, [true, false, true]);
+}
+
+/// In a directory every table has its object, refused or not.
+#[test]
+fn objects_go_into_a_directory() {
+    let directory = out_name("objects");
+    std::fs::create_dir(&directory).expect("made");
+    let told = run(&["plan", "--json", "-p2", "-o", &directory, EXAMPLE, "README.md"]);
+    assert_eq!((told.status, told.out.as_str(), told.err.as_str()), (1, "", ""));
+    for (name, accepted) in [("example.json", true), ("README.json", false)] {
+        let text = std::fs::read_to_string(format!("{directory}/{name}")).expect("written");
+        assert_eq!(*Json::read(&text).at("accepted"), Json::Truth(accepted));
+    }
+    std::fs::remove_dir_all(&directory).expect("removed");
+}
+
+/// Any key that is taken away, made another type, or added makes an object that does not fit: the schema and its reader can say no.
+#[test]
+fn the_schema_refuses_what_is_not_an_object_of_it() {
+    let schema = schema();
+    for words in [&[EXAMPLE, "-p2"][..], &[EXAMPLE, "-p65"], &["-", "-p1"]] {
+        let whole = object(words, b"loop");
+        let Json::Object(keys) = &whole else { panic!("an object") };
+        for key in keys.keys() {
+            let mut less = keys.clone();
+            less.remove(key);
+            assert!(schema.fits(&Json::Object(less)).is_err(), "without {key}");
+            let mut other = keys.clone();
+            other.insert(key.clone(), Json::List(vec![Json::Truth(true)]));
+            assert!(schema.fits(&Json::Object(other)).is_err(), "another {key}");
+        }
+        let mut more = keys.clone();
+        more.insert("more".to_string(), Json::Number(1));
+        assert!(schema.fits(&Json::Object(more)).is_err(), "one more");
+    }
+    for text in ["[]", "{}", "1", "\"\""] {
+        assert!(schema.fits(&Json::read(text)).is_err(), "{text}");
+    }
+    let good = run(&["plan", "--json", EXAMPLE, "-p2"]).out;
+    for (from, to) in [
+        ("\"processors\":2", "\"processors\":65"),
+        ("\"length\":12}", "\"length\":0}"),
+        ("\"threshold\":2", "\"threshold\":-2"),
+        ("\"to\":5}", "\"to\":131072}"),
+        ("\"shift\":1,", ""),
+        ("\"accepted\":true", "\"accepted\":false"),
+    ] {
+        assert!(good.contains(from), "{from}");
+        assert!(schema.fits(&Json::read(&good.replacen(from, to, 1))).is_err(), "{to}");
+    }
+}
