@@ -9,6 +9,7 @@ mod help;
 mod infix;
 mod join;
 mod memories;
+mod names;
 mod options;
 mod orders;
 mod outcome;
