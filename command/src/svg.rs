@@ -33,10 +33,18 @@ impl Picture {
         self.body += &format!("<rect class='{class}' {}/>\n", frame.attributes());
     }
 
+    /// Begins a group; what it is stands in its attributes for a program.
+    pub fn open(&mut self, class: &str, data: &[(&str, u32)]) {
+        self.body += &format!("<g class='{class}'{}>\n", attributes(data));
+    }
+
+    pub fn close(&mut self) {
+        self.body += "</g>\n";
+    }
+
     /// A rectangle that tells what it is when the pointer rests on it, and in its attributes for a program.
     pub fn part(&mut self, frame: Frame, class: &str, data: &[(&str, u32)], tells: &str) {
-        let data: String = data.iter().map(|(name, value)| format!(" data-{name}='{value}'")).collect();
-        let shape = format!("{} rx='2'{data}", frame.attributes());
+        let shape = format!("{} rx='2'{}", frame.attributes(), attributes(data));
         self.body += &format!("<rect class='{class}' {shape}><title>{}</title></rect>\n", escape(tells));
     }
 
@@ -83,6 +91,10 @@ impl Picture {
         let paper = format!("<rect class='paper' width='{width}' height='{height}'/>\n");
         format!("{head}<style>\n{style}</style>\n{paper}{}</svg>\n", self.body)
     }
+}
+
+fn attributes(data: &[(&str, u32)]) -> String {
+    data.iter().map(|(name, value)| format!(" data-{name}='{value}'")).collect()
 }
 
 /// Whole words where one at least fits, else letters.

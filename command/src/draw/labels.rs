@@ -3,6 +3,7 @@
 use super::plan::Part;
 use super::style::{IN_FUSED, IN_PEELED};
 use crate::svg::letters::{width, Font};
+use std::ops::Range;
 
 /// A processor's two sides of the barrier.
 #[derive(Clone, Copy, PartialEq, Eq)]
@@ -33,12 +34,17 @@ const PADDING: f64 = 4.0;
 pub const DIAMOND: f64 = 5.0;
 pub const BEFORE: f64 = 2.0 * DIAMOND + 4.0;
 
+/// `7`, or two ends with a word between them.
+pub fn range(from: u32, to: u32, word: &str) -> String {
+    match from == to {
+        true => from.to_string(),
+        false => format!("{from}{word}{to}"),
+    }
+}
+
 /// The indices of a part: `7`, `1-50`.
 pub fn indices(part: &Part) -> String {
-    match part.is_single() {
-        true => part.from.to_string(),
-        false => format!("{}-{}", part.from, part.to),
-    }
+    range(part.from, part.to, "-")
 }
 
 /// With the processor: `P0: 1-50`.
@@ -59,7 +65,7 @@ pub fn loops(numbers: &[usize]) -> String {
 }
 
 /// `processor 3`, `processors 0 to 7`.
-pub fn processors(numbers: &std::ops::Range<usize>) -> String {
+pub fn processors(numbers: &Range<usize>) -> String {
     match numbers.len() {
         1 => format!("processor {}", numbers.start),
         _ => format!("processors {} to {}", numbers.start, numbers.end - 1),

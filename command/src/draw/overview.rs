@@ -19,6 +19,7 @@ const LEAST: f64 = 6.0;
 pub fn draw(picture: &mut Picture, plan: &Plan, panels: &[Panel], top: f64, width: f64) -> f64 {
     let scale = Scale::straight(plan.first(), plan.last(), LEFT, width);
     let end = top + HEADS + ROW * plan.loops.len() as f64 + 4.0;
+    picture.open("overview", &[]);
     picture.text(MARGIN, top + 16.0, &STRONG, "all blocks, to scale");
     columns(picture, plan, &scale, (top, end), panels);
     for (number, one) in plan.loops.iter().enumerate() {
@@ -29,6 +30,7 @@ pub fn draw(picture: &mut Picture, plan: &Plan, panels: &[Panel], top: f64, widt
         let x = x.min(LEFT + width - LEAST);
         bar(picture, Frame::over((x, length.max(LEAST)), y + 4.0, BAR), number, one, LEFT + width);
     }
+    picture.close();
     end
 }
 
@@ -47,29 +49,27 @@ fn columns(picture: &mut Picture, plan: &Plan, scale: &Scale, (top, end): (f64, 
             picture.line((x, top + HEADS - 5.0), (x, top + HEADS + 1.0), "ruler");
         }
     }
-    let named = |word: &str| panels.iter().map(|panel| ends(word, panel.processors.start, panel.processors.end - 1)).collect();
+    let ends = |panel: &Panel| (panel.processors.start as u32, panel.processors.end as u32 - 1);
+    let named = |word: &str| {
+        let name = |panel| labels::range(ends(panel).0, ends(panel).1, &format!("-{word}"));
+        panels.iter().map(|panel| format!("{word}{}", name(panel))).collect()
+    };
     picture.fitting_all(&spans, top + 16.0, &STRONG, &[named("P"), named("")]);
     let bounds = |panel: &Panel| {
         let (first, last) = (&plan.blocks[panel.processors.start], &plan.blocks[panel.processors.end - 1]);
-        ends("", first.first as usize, last.last as usize)
+        labels::range(first.first, last.last, "-")
     };
     picture.fitting_all(&spans, top + 30.0, &SMALL, &[panels.iter().map(bounds).collect()]);
-}
-
-fn ends(word: &str, first: usize, last: usize) -> String {
-    match first == last {
-        true => format!("{word}{first}"),
-        false => format!("{word}{first}-{word}{last}"),
-    }
 }
 
 /// A loop from its first to its last index; a single iteration as a diamond with its index.
 fn bar(picture: &mut Picture, frame: Frame, number: usize, one: &Loop, right: f64) {
     let data = [("loop", number as u32), ("first", one.first), ("last", one.last)];
-    picture.part(frame, "whole", &data, &format!("loop {number}: {} to {}", one.first, one.last));
+    let tells = format!("loop {number}: {}", labels::range(one.first, one.last, " to "));
     if one.first < one.last {
-        return;
+        return picture.part(frame, "whole", &data, &tells);
     }
+    picture.part(frame, "spot", &data, &tells);
     let x = (frame.x + frame.width / 2.0).clamp(LEFT + DIAMOND, right - DIAMOND);
     picture.diamond((x, frame.y + BAR / 2.0), DIAMOND, "one-whole");
     let label = one.first.to_string();

@@ -8,6 +8,7 @@ use super::{LEFT, MARGIN};
 use crate::scale::Scale;
 use crate::svg::letters::width;
 use crate::svg::{Frame, Picture};
+use std::ops::Range;
 
 const SHIFT_AT: f64 = 300.0;
 const PEEL_AT: f64 = 346.0;
@@ -20,6 +21,8 @@ const BAR: f64 = 20.0;
 /// From the top of a panel to its first loop, and from the barrier to the first loop below it.
 const HEADS: f64 = 62.0;
 const BELOW: f64 = 34.0;
+/// The height of a panel whose processors run nothing.
+const WITHOUT_ROWS: f64 = 42.0;
 
 pub struct View<'a> {
     plan: &'a Plan,
@@ -54,14 +57,29 @@ impl<'a> View<'a> {
         let note = if self.loops.len() < self.plan.loops.len() { 18.0 } else { 0.0 };
         let barrier = fused + ROW * self.loops.len() as f64 + note + 8.0;
         let peeled = barrier + BELOW;
-        Layout { top, fused, barrier, peeled, end: peeled + ROW * self.peeled.len() as f64 }
+        // Processors that run nothing have no rows and no barrier.
+        let end = if self.loops.is_empty() { top + WITHOUT_ROWS } else { peeled + ROW * self.peeled.len() as f64 };
+        Layout { top, fused, barrier, peeled, end }
     }
 
     /// Draws the panel from `top` on; the result is where it ends.
     pub fn draw(&self, picture: &mut Picture, top: f64) -> f64 {
         let layout = self.layout(top);
+        let Range { start, end } = self.panel.processors;
+        picture.open("panel", &[("first", start as u32), ("last", end as u32 - 1)]);
         self.columns(picture, &layout);
-        self.heads(picture, &layout);
+        self.heads(picture, top);
+        match self.loops.is_empty() {
+            true => picture.text(MARGIN, top + 32.0, &SMALL, "no iteration of any loop here"),
+            false => self.sides(picture, &layout),
+        }
+        picture.close();
+        layout.end
+    }
+
+    /// What stands before the barrier, the barrier, and what stands past it.
+    fn sides(&self, picture: &mut Picture, layout: &Layout) {
+        self.margin(picture, layout);
         self.rows(picture, &self.loops, layout.fused);
         self.note(picture, layout.barrier - 14.0);
         self.rows(picture, &self.peeled, layout.peeled);
@@ -69,7 +87,6 @@ impl<'a> View<'a> {
         self.bars(picture, Side::Fused, layout.fused);
         self.bars(picture, Side::Peeled, layout.peeled);
         picture.line((MARGIN, layout.barrier), (LEFT + self.width, layout.barrier), "barrier");
-        layout.end
     }
 
     /// The blocks behind everything. Where the last peeled parts reach into the next block, that has no head here.
@@ -86,17 +103,22 @@ impl<'a> View<'a> {
         }
     }
 
-    fn heads(&self, picture: &mut Picture, layout: &Layout) {
+    /// The names and bounds of the blocks.
+    fn heads(&self, picture: &mut Picture, top: f64) {
         let numbers = self.panel.processors.clone();
         let blocks = &self.plan.blocks[numbers.clone()];
         let spans: Vec<(f64, f64)> = blocks.iter().map(|block| self.scale.span(block.first, block.last)).collect();
         let named = |word: &str| numbers.clone().map(|number| format!("{word}{number}")).collect();
-        picture.fitting_all(&spans, layout.top + 16.0, &STRONG, &[named("processor "), named("P")]);
-        let bounds = |word: &str| blocks.iter().map(|block| format!("{}{word}{}", block.first, block.last)).collect();
-        picture.fitting_all(&spans, layout.top + 32.0, &SMALL, &[bounds(" to "), bounds("-")]);
+        picture.fitting_all(&spans, top + 16.0, &STRONG, &[named("processor "), named("P")]);
+        let bounds = |word: &str| blocks.iter().map(|block| labels::range(block.first, block.last, word)).collect();
+        picture.fitting_all(&spans, top + 32.0, &SMALL, &[bounds(" to "), bounds("-")]);
         if numbers.len() < self.plan.blocks.len() {
-            picture.text(MARGIN, layout.top + 16.0, &STRONG, &labels::processors(&numbers));
+            picture.text(MARGIN, top + 16.0, &STRONG, &labels::processors(&numbers));
         }
+    }
+
+    /// What the rows and columns at the margin are.
+    fn margin(&self, picture: &mut Picture, layout: &Layout) {
         picture.text(MARGIN, layout.fused - 10.0, &STRONG, "before the barrier");
         picture.centred((SHIFT_AT, NUMBER), layout.fused - 10.0, &STRONG, "shift");
         picture.centred((PEEL_AT, NUMBER), layout.fused - 10.0, &STRONG, "peel");
@@ -153,14 +175,12 @@ impl<'a> View<'a> {
 }
 
 fn tells(part: &Part) -> String {
-    let range = if part.is_single() { part.from.to_string() } else { format!("{} to {}", part.from, part.to) };
-    format!("processor {}, loop {}, {range}", part.processor, part.number)
+    format!("processor {}, loop {}, {}", part.processor, part.number, labels::range(part.from, part.to, " to "))
 }
 
 /// A part with its label; a single iteration has a diamond before it.
 fn bar(picture: &mut Picture, frame: Frame, part: &Part, side: Side, label: &str) {
-    let data =
-        [("processor", part.processor as u32), ("loop", part.number as u32), ("from", part.from), ("to", part.to)];
+    let data = [("processor", part.processor as u32), ("loop", part.number as u32), ("from", part.from), ("to", part.to)];
     picture.part(frame, side.word(), &data, &format!("{}: {}", side.word(), tells(part)));
     let y = frame.y + BAR / 2.0 + 4.0;
     if !part.is_single() {

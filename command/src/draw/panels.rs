@@ -59,6 +59,6 @@ fn need(part: &Part, label: &str, side: Side) -> Need {
 
 fn head(number: usize, block: &Block) -> Need {
     let name = width(&format!("P{number}"), &STRONG);
-    let bounds = width(&format!("{}-{}", block.first, block.last), &SMALL);
+    let bounds = width(&labels::range(block.first, block.last, "-"), &SMALL);
     Need { from: block.first, past: block.last + 1, room: name.max(bounds) + PADDING }
 }

@@ -20,6 +20,8 @@ text { font-family: sans-serif; }
 .end { stroke: #8891a3; stroke-width: 1; stroke-dasharray: 3 3; }
 .ruler { stroke: #4a4a4a; stroke-width: 1; }
 .barrier { stroke: #a01c1c; stroke-width: 4; }
+.said { stroke: #eef0f4; stroke-width: 4px; paint-order: stroke; }
+.spot { fill-opacity: 0; }
 .fused, .whole { fill: #2f6db3; stroke: #fff; }
 .peeled { fill: #e8891c; stroke: #fff; }
 .later { fill: none; stroke: #b9670a; stroke-width: 1.2; stroke-dasharray: 3 2; }
