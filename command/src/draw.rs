@@ -105,3 +105,24 @@ fn foot(picture: &mut Picture, top: f64, bent: bool) -> f64 {
     picture.text(MARGIN, top + 54.0, &SMALL, said);
     top + 58.0
 }
+
+#[cfg(test)]
+mod tests {
+    use super::*;
+
+    /// One array of 12 elements, one loop from 1 to 10 that doubles it.
+    const TABLE: [u8; 28] = [1, 12, 0, 0, 0, 2, 1, 0, 0, 0, 10, 0, 0, 0, 0, 0, 0, 3, 0, 0, 0, 4, 2, 0, 0, 0, 5, 3];
+
+    fn drawn(names: Names) -> String {
+        let table = [&TABLE[..], &[6]].concat();
+        picture("flow.txt", &Plan::of(&table, 2, &names).expect("a plan"))
+    }
+
+    #[test]
+    fn a_loop_is_shown_with_the_names_of_its_arrays() {
+        assert!(drawn(Names(vec!["flow".to_string()])).contains(">flow[i] = flow[i] * 2</text>"));
+        assert!(drawn(Names::default()).contains(">A0[i] = A0[i] * 2</text>"));
+        // No text has such names, but nothing here would break by them.
+        assert!(drawn(Names(vec!["a<&".to_string()])).contains(">a&lt;&amp;[i] = a&lt;&amp;[i] * 2</text>"));
+    }
+}

@@ -52,10 +52,11 @@ fn any_picture_can_be_read() {
 }
 
 #[test]
-fn the_examples_can_be_read_for_every_number_of_processors() {
+fn the_examples_can_be_read_for_few_and_for_many_processors() {
     for name in ["example", "jacobi", "ll18", "river"] {
         let table = read(&bytes(&format!("examples/{name}.table"))).expect("a table");
-        for count in 1..=processors::most(&table) {
+        let most = processors::most(&table);
+        for count in (1..=most).filter(|count| *count <= 17 || count % 8 == 0 || *count == most) {
             let frame = checked(&table, count).frame();
             assert!(frame.width() <= 1_600.0, "{name} {count}: {}", frame.width());
         }
@@ -132,6 +133,20 @@ fn a_picture_has_the_barrier_shifts_and_peels() {
     assert_eq!(drawn.said("in-peeled"), ["P0: 5-6"]);
     assert!(!told.out.contains("<script"));
     assert_eq!(run(&["draw", EXAMPLE, "-p", "6"]).status, 1);
+}
+
+#[test]
+fn a_row_has_its_loops_statement() {
+    let drawn = Drawn::new(&run(&["draw", "examples/river.table", "-p", "4"]).out);
+    let statements: Vec<&str> = drawn.said("small").into_iter().filter(|said| said.contains(" = ")).collect();
+    // All loops before the barrier, and past it the two that are peeled.
+    let river = [
+        "A2[i] = (A0[i-1] - A0[i+1]) / 200",
+        "A1[i] = A1[i] * 9 / 10 + A2[i] * 40",
+        "A3[i] = (A1[i-1] + 2 * A1[i] + A1[i+1]) / 4",
+        "A0[i] = A0[i] + (A3[i-1] - A3[i+1]) / 50",
+    ];
+    assert_eq!(statements, [&river[..], &river[2..]].concat());
 }
 
 #[test]

@@ -22,3 +22,26 @@ pub fn statement(one: &Loop, names: &Names) -> String {
     }
     text
 }
+
+#[cfg(test)]
+mod tests {
+    use super::*;
+
+    /// The third array has no name.
+    #[test]
+    fn every_reference_has_its_arrays_name() {
+        let items = vec![
+            Item::Read(0, -1),
+            Item::Constant(3),
+            Item::Operation(3),
+            Item::Read(1, 0),
+            Item::Operation(2),
+            Item::Read(2, 0),
+            Item::Operation(1),
+        ];
+        let one = Loop { first: 1, last: 9, array: 0, offset: 2, items };
+        let names = Names(vec!["H".to_string(), "Long_name".to_string()]);
+        assert_eq!(statement(&one, &names), "H[i+2] = H[i-1] * 3 - Long_name[i] + A2[i]");
+        assert_eq!(statement(&one, &Names::default()), "A0[i+2] = A0[i-1] * 3 - A1[i] + A2[i]");
+    }
+}

@@ -57,6 +57,8 @@ impl Drawn {
         self.every_part_is_labelled();
         self.panels_are_in_order(listing);
         self.sides_and_axes();
+        self.rows_have_shift_and_peel(listing);
+        self.peeled_parts_are_left_out_above(listing);
         self.overview_has_every_loop(listing, loops);
         self.everything_is_inside();
         self.texts_are_apart();
@@ -139,6 +141,47 @@ impl Drawn {
                 let right = if pair[0].0 == pair[1].0 { apart.abs() < 0.2 } else { apart > 3.5 };
                 assert!(right, "{pair:?}");
             }
+        }
+    }
+
+    /// Beside each loop's name stand its shift and its peel, on both sides of the barrier.
+    fn rows_have_shift_and_peel(&self, listing: &str) {
+        let amounts = lines(listing, "loop");
+        for panel in self.root.with("panel") {
+            let plain = panel.with("plain");
+            let named = panel.with("strong").into_iter().filter_map(|one| Some((one, one.text.strip_prefix("loop ")?)));
+            for (name, number) in named {
+                let row = |one: &&&Element| (one.number("y") - name.number("y")).abs() < 12.0;
+                let beside: Vec<u32> = plain.iter().filter(row).map(|one| one.text.parse().expect("a number")).collect();
+                let number: usize = number.parse().expect("a number");
+                assert_eq!(beside, amounts[number][1..], "loop {number}");
+            }
+        }
+    }
+
+    /// Above the barrier the place of each peeled part is outlined, and no fused part reaches into it. A part of the processor before
+    /// the panel's first is outlined as far as it reaches into the panel.
+    fn peeled_parts_are_left_out_above(&self, listing: &str) {
+        let peeled = parts(listing, "peeled");
+        for panel in self.root.with("panel") {
+            let fused: Vec<(Part, Area)> =
+                panel.with("fused").into_iter().map(|one| (part_of(one), Area::of_rectangle(one))).collect();
+            let below: Vec<(Part, Area)> =
+                panel.with("peeled").into_iter().map(|one| (part_of(one), Area::of_rectangle(one))).collect();
+            let outlines: Vec<(&Element, Area)> =
+                panel.with("later").into_iter().map(|one| (one, Area::of_rectangle(one))).collect();
+            for ([processor, number, from, to], area) in &below {
+                let range = indices(*from, *to).replace('-', " to ");
+                let title = format!("left for past the barrier: processor {processor}, loop {number}, {range}");
+                let found: Vec<&Area> = outlines.iter().filter(|(one, _)| one.title() == title).map(|(_, own)| own).collect();
+                assert!(found.len() == 1 && (found[0].left, found[0].right) == (area.left, area.right), "{title}: {found:?}");
+                let row = fused.iter().find(|(other, _)| other[1] == *number).map_or(found[0].top, |(_, own)| own.top);
+                assert_eq!(found[0].top, row, "{title}");
+            }
+            assert!(fused.iter().all(|(_, own)| outlines.iter().all(|(_, other)| !own.meets(other))));
+            let before = panel.number("data-first") - 1.0;
+            let others = outlines.len() - below.len();
+            assert!(others <= peeled.iter().filter(|part| f64::from(part[0]) == before).count());
         }
     }
 
