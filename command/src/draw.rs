@@ -1,6 +1,7 @@
 //! `draw`: a picture of a plan. Blocks stand across, loops down; above the barrier what is fused, below it what is peeled. Many blocks
 //! stand in panels, one below the other, under a row of all.
 
+mod forms;
 mod labels;
 mod overview;
 mod panel;
@@ -17,6 +18,7 @@ use crate::outcome::{Failure, Outcome};
 use crate::plan::refused;
 use crate::svg::{shortened, Frame, Picture};
 use crate::wording::counted;
+use forms::Forms;
 use labels::{Side, DIAMOND};
 use panel::View;
 use panels::{chart_width, panels};
@@ -49,13 +51,12 @@ fn picture(name: &str, plan: &Plan) -> String {
     if panels.len() > 1 {
         y = GAP + overview::draw(&mut picture, plan, &panels, y, width);
     }
-    let mut bent = false;
-    for panel in &panels {
-        let view = View::new(plan, panel, width);
-        y = GAP + view.draw(&mut picture, y);
-        bent |= view.scale.bent;
+    let views: Vec<View> = panels.iter().map(|panel| View::new(plan, panel, width)).collect();
+    let forms = Forms::of(&views);
+    for view in &views {
+        y = GAP + view.draw(&mut picture, &forms, y);
     }
-    let end = foot(&mut picture, y - 8.0, bent);
+    let end = foot(&mut picture, y - 8.0, views.iter().any(|view| view.scale.bent));
     picture.finish((LEFT + width + MARGIN, end + MARGIN), &format!("Plan of {title}"), &style())
 }
 

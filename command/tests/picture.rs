@@ -120,6 +120,26 @@ fn sixty_four_processors_stand_eight_in_a_panel() {
     assert!(heads.contains(&"P0-P7") && heads.contains(&"P56-P63") && heads.contains(&"processors 8 to 15"), "{heads:?}");
 }
 
+/// In all panels, and so are the labels of fused parts.
+#[test]
+fn the_heads_of_columns_are_all_of_one_form() {
+    let table = read(&bytes("examples/ll18.table")).expect("a table");
+    for (count, word) in [(4, "processor "), (16, "P"), (64, "P")] {
+        let drawn = checked(&table, count);
+        let heads: Vec<&str> =
+            drawn.said("mid").into_iter().filter(|said| said.starts_with('P') || said.starts_with("proc")).collect();
+        let heads: Vec<&str> = heads.into_iter().filter(|said| !said.contains(['-', ':'])).collect();
+        let wanted: Vec<String> = (0..count).map(|b| format!("{word}{b}")).collect();
+        assert_eq!(heads, wanted);
+    }
+    let jacobi = read(&bytes("examples/jacobi.table")).expect("a table");
+    for count in [2, 4, 9, 20, 50] {
+        let labels = checked(&jacobi, count).said("in-fused").join(" ");
+        let named = labels.matches("P").count();
+        assert!(named == 0 || named == labels.matches(": ").count() && named == labels.split(' ').count() / 2, "{labels}");
+    }
+}
+
 #[test]
 fn a_picture_has_the_barrier_shifts_and_peels() {
     let told = run(&["draw", EXAMPLE, "-p", "2"]);

@@ -1,5 +1,6 @@
 //! One panel: its blocks across, its loops down; above the barrier what is fused, below it what is peeled.
 
+use super::forms::Forms;
 use super::labels::{self, Side, BEFORE, DIAMOND};
 use super::panels::Panel;
 use super::plan::{of_processors, Part, Plan};
@@ -63,29 +64,29 @@ impl<'a> View<'a> {
     }
 
     /// Draws the panel from `top` on; the result is where it ends.
-    pub fn draw(&self, picture: &mut Picture, top: f64) -> f64 {
+    pub fn draw(&self, picture: &mut Picture, forms: &Forms, top: f64) -> f64 {
         let layout = self.layout(top);
         let Range { start, end } = self.panel.processors;
         picture.open("panel", &[("first", start as u32), ("last", end as u32 - 1)]);
         self.columns(picture, &layout);
-        self.heads(picture, top);
+        self.heads(picture, forms, top);
         match self.loops.is_empty() {
             true => picture.text(MARGIN, top + 32.0, &SMALL, "no iteration of any loop here"),
-            false => self.sides(picture, &layout),
+            false => self.sides(picture, forms, &layout),
         }
         picture.close();
         layout.end
     }
 
     /// What stands before the barrier, the barrier, and what stands past it.
-    fn sides(&self, picture: &mut Picture, layout: &Layout) {
+    fn sides(&self, picture: &mut Picture, forms: &Forms, layout: &Layout) {
         self.margin(picture, layout);
         self.rows(picture, &self.loops, layout.fused);
         self.note(picture, layout.barrier - 14.0);
         self.rows(picture, &self.peeled, layout.peeled);
         self.later(picture, layout.fused);
-        self.bars(picture, Side::Fused, layout.fused);
-        self.bars(picture, Side::Peeled, layout.peeled);
+        self.bars(picture, Side::Fused, forms.full, layout.fused);
+        self.bars(picture, Side::Peeled, true, layout.peeled);
         picture.line((MARGIN, layout.barrier), (LEFT + self.width, layout.barrier), "barrier");
     }
 
@@ -103,17 +104,29 @@ impl<'a> View<'a> {
         }
     }
 
+    pub fn spans(&self) -> Vec<(f64, f64)> {
+        let blocks = &self.plan.blocks[self.panel.processors.clone()];
+        blocks.iter().map(|block| self.scale.span(block.first, block.last)).collect()
+    }
+
+    pub fn names(&self, word: &str) -> Vec<String> {
+        self.panel.processors.clone().map(|number| format!("{word}{number}")).collect()
+    }
+
+    pub fn bounds(&self, word: &str) -> Vec<String> {
+        let blocks = &self.plan.blocks[self.panel.processors.clone()];
+        blocks.iter().map(|block| labels::range(block.first, block.last, word)).collect()
+    }
+
     /// The names and bounds of the blocks.
-    fn heads(&self, picture: &mut Picture, top: f64) {
-        let numbers = self.panel.processors.clone();
-        let blocks = &self.plan.blocks[numbers.clone()];
-        let spans: Vec<(f64, f64)> = blocks.iter().map(|block| self.scale.span(block.first, block.last)).collect();
-        let named = |word: &str| numbers.clone().map(|number| format!("{word}{number}")).collect();
-        picture.fitting_all(&spans, top + 16.0, &STRONG, &[named("processor "), named("P")]);
-        let bounds = |word: &str| blocks.iter().map(|block| labels::range(block.first, block.last, word)).collect();
-        picture.fitting_all(&spans, top + 32.0, &SMALL, &[bounds(" to "), bounds("-")]);
-        if numbers.len() < self.plan.blocks.len() {
-            picture.text(MARGIN, top + 16.0, &STRONG, &labels::processors(&numbers));
+    fn heads(&self, picture: &mut Picture, forms: &Forms, top: f64) {
+        let texts = self.names(forms.name).into_iter().zip(self.bounds(forms.bounds));
+        for (span, (name, bounds)) in self.spans().into_iter().zip(texts) {
+            picture.centred(span, top + 16.0, &STRONG, &name);
+            picture.centred(span, top + 32.0, &SMALL, &bounds);
+        }
+        if self.panel.processors.len() < self.plan.blocks.len() {
+            picture.text(MARGIN, top + 16.0, &STRONG, &labels::processors(&self.panel.processors));
         }
     }
 
@@ -158,18 +171,21 @@ impl<'a> View<'a> {
         }
     }
 
-    fn bars(&self, picture: &mut Picture, side: Side, top: f64) {
+    /// The fused parts with their room.
+    pub fn fused(&self) -> impl Iterator<Item = (&Part, f64)> + '_ {
+        let own = of_processors(&self.plan.fused, &self.panel.processors);
+        own.map(|part| (part, self.scale.span(part.from, part.to).1))
+    }
+
+    fn bars(&self, picture: &mut Picture, side: Side, full: bool, top: f64) {
         let (parts, rows) = match side {
             Side::Fused => (&self.plan.fused, &self.loops),
             Side::Peeled => (&self.plan.peeled, &self.peeled),
         };
-        let own: Vec<&Part> = of_processors(parts, &self.panel.processors).collect();
-        let room = |part: &Part| self.scale.span(part.from, part.to).1;
-        let all = own.iter().all(|part| labels::room(part, &labels::full(part), side) <= room(part) + 0.01);
-        for part in own {
+        for part in of_processors(parts, &self.panel.processors) {
             let row = rows.iter().position(|&number| number == part.number).unwrap_or(0);
             let frame = Frame::over(self.scale.span(part.from, part.to), top + ROW * row as f64, BAR);
-            bar(picture, frame, part, side, &if all { labels::full(part) } else { labels::indices(part) });
+            bar(picture, frame, part, side, &if full { labels::full(part) } else { labels::indices(part) });
         }
     }
 }
