@@ -41,7 +41,7 @@ pub struct Plan {
 impl Plan {
     pub fn of(table: &[u8], processors: u32, names: &Names) -> Result<Plan, Refusal> {
         let listing = vempaldi::listing(table, processors)?;
-        let (fused, peeled) = ranges(&listing);
+        let (fused, peeled) = ranges(table, processors)?;
         let amounts = vempaldi::shifts_and_peels(table)?.into_iter();
         let decoded = decode(table).0.loops;
         let loops = decoded.iter().zip(amounts).map(|(one, amounts)| {
@@ -74,8 +74,9 @@ pub fn of_processors<'a>(parts: &'a [Part], processors: &'a Range<usize>) -> imp
 }
 
 /// The parts that are not empty, fused and peeled, by processor and then by loop: the one place where they are read.
-fn ranges(listing: &str) -> (Vec<Part>, Vec<Part>) {
-    (parts(listing, "fused"), parts(listing, "peeled"))
+fn ranges(table: &[u8], processors: u32) -> Result<(Vec<Part>, Vec<Part>), Refusal> {
+    let listing = vempaldi::listing(table, processors)?;
+    Ok((parts(&listing, "fused"), parts(&listing, "peeled")))
 }
 
 fn parts(listing: &str, word: &str) -> Vec<Part> {
