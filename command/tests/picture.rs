@@ -1,84 +1,227 @@
-//! `draw`: what stands in a picture, and that texts keep to their room.
+//! `draw`: what stands in a picture, and that it can be read.
 
+#[path = "picture/area.rs"]
+mod area;
 mod common;
+#[path = "picture/drawn.rs"]
+mod drawn;
+#[path = "picture/xml.rs"]
+mod xml;
 
 use common::{bytes, fed, out_name, run, EXAMPLE};
+use drawn::Drawn;
 use vempaldi_checks::encoder::encode;
 use vempaldi_checks::processors;
 use vempaldi_checks::random::Random;
+use vempaldi_checks::reader::read;
+use vempaldi_checks::table::Table;
 use vempaldi_checks::tables::{self, LARGE, MIDDLE, SMALL};
 
+/// The picture of a table, after everything that holds of any picture was checked.
+fn checked(table: &Table, count: u32) -> Drawn {
+    let (bytes, count) = (encode(table), count.to_string());
+    let listing = fed(&["plan", "-", "-p", &count], &bytes).out;
+    let told = fed(&["draw", "-", "-p", &count], &bytes);
+    assert_eq!((told.status, told.err.as_str()), (0, ""));
+    let drawn = Drawn::new(&told.out);
+    let bounds: Vec<(u32, u32)> = table.loops.iter().map(|one| (one.first, one.last)).collect();
+    drawn.check(&listing, &bounds);
+    drawn
+}
+
+/// The table of a text.
+fn made(text: &str) -> Table {
+    let made = vempaldi_command::make(text).expect("a text");
+    read(&made.bytes).expect("a table")
+}
+
 #[test]
-fn a_picture_has_the_parts_and_the_barrier() {
-    let told = run(&["draw", EXAMPLE, "-p", "2"]);
-    assert_eq!(told.status, 0);
-    for said in ["P0: 1-5", "P0: 1-4", "P1: 6-10", "P1: 7-10", "P0: 5-6", "barrier", "shift", "peel"] {
-        assert!(told.out.contains(said), "{said}");
+fn any_picture_can_be_read() {
+    let mut random = Random::new(33);
+    let mut panels = 0;
+    for round in 0..240 {
+        let shape = [SMALL, MIDDLE, LARGE][round % 3];
+        let make = [tables::aligned, tables::any][round / 3 % 2];
+        let table = make(&mut random, &shape);
+        let most = processors::most(&table);
+        let count = if round % 4 == 0 { most } else { random.between(1, i64::from(most)) as u32 };
+        panels += checked(&table, count).root.with("panel").len();
     }
-    assert!(told.out.starts_with("<svg ") && told.out.ends_with("</svg>\n") && !told.out.contains("<script"));
+    // Many of them are of many processors.
+    assert!(panels > 500, "{panels}");
+}
+
+#[test]
+fn the_examples_can_be_read_for_few_and_for_many_processors() {
+    for name in ["example", "jacobi", "ll18", "river"] {
+        let table = read(&bytes(&format!("examples/{name}.table"))).expect("a table");
+        let most = processors::most(&table);
+        for count in (1..=most).filter(|count| *count <= 17 || count % 8 == 0 || *count == most) {
+            let frame = checked(&table, count).frame();
+            assert!(frame.width() <= 1_600.0, "{name} {count}: {}", frame.width());
+        }
+    }
+}
+
+/// Sixteen loops, each one shifted and peeled by one more than the one before: the most labels that a plan can have.
+#[test]
+fn the_fullest_picture_can_be_read() {
+    let mut text: String = (0..16).map(|k| format!("array A{k} 16384\n")).collect();
+    text += "loop 20 16000 -> A0[i]: 1\n";
+    for k in 1..16 {
+        text += &format!("loop 20 16000 -> A{k}[i]: A{0}[i-1] A{0}[i+1] +\n", k - 1);
+    }
+    for count in [1, 2, 8, 64] {
+        let drawn = checked(&made(&text), count);
+        assert!(drawn.frame().width() <= 1_600.0, "{}", drawn.frame().width());
+    }
+}
+
+/// Loops of one iteration at both ends, inside a block, and where two blocks meet; and one far from all others.
+const BOUNDARY: &str = "array H 65536\narray Q 65536\n\
+    loop 0 0 -> Q[i]: H[i] 2 *\n\
+    loop 1 1998 -> Q[i]: H[i-1] H[i+1] - 200 /\n\
+    loop 1999 1999 -> Q[i]: H[i] 3 *\n\
+    loop 1 1998 -> H[i]: Q[i-1] Q[i+1] +\n\
+    loop 500 500 -> H[i]: Q[i] 5 +\n\
+    loop 700 700 -> H[i]: Q[i] 5 +\n";
+
+#[test]
+fn a_loop_of_one_iteration_is_seen_and_labelled() {
+    let far = format!("{BOUNDARY}loop 65535 65535 -> H[i]: 7\n");
+    for (text, counts) in [(BOUNDARY, [1, 4, 16, 64]), (&far, [1, 3, 17, 64])] {
+        for count in counts {
+            let drawn = checked(&made(text), count);
+            let is_single = |one: &&xml::Element| one.get("data-from") == one.get("data-to");
+            let singles = ["fused", "peeled"].iter().flat_map(|word| drawn.drawn_parts(word)).filter(is_single).count();
+            assert_eq!(singles, made(text).loops.iter().filter(|one| one.first == one.last).count(), "{count}");
+        }
+    }
+    let said = checked(&made(BOUNDARY), 4).said("in-fused").join(" ");
+    assert!(["0", "700", "1999"].iter().all(|index| said.split([' ']).any(|word| word == *index)), "{said}");
+}
+
+#[test]
+fn the_least_pictures_can_be_read() {
+    let one = made("array A 1\nloop 0 0 -> A[i]: 1\n");
+    assert_eq!(checked(&one, 1).said("in-fused"), ["P0: 0"]);
+    let row = made("array A 64\nloop 0 63 -> A[i]: A[i] 1 +\nloop 3 3 -> A[i]: A[i] 2 *\n");
+    for count in [1, 2, 63, 64] {
+        checked(&row, count);
+    }
+}
+
+#[test]
+fn sixty_four_processors_stand_eight_in_a_panel() {
+    let drawn = checked(&made("array A 64\nloop 0 63 -> A[i]: A[i] 1 +\n"), 64);
+    let firsts: Vec<&str> = drawn.root.with("panel").iter().map(|panel| panel.get("data-first")).collect();
+    assert_eq!(firsts, ["0", "8", "16", "24", "32", "40", "48", "56"]);
+    let heads = drawn.said("strong");
+    assert!(heads.contains(&"P0-P7") && heads.contains(&"P56-P63") && heads.contains(&"processors 8 to 15"), "{heads:?}");
+}
+
+/// In all panels, and so are the labels of fused parts.
+#[test]
+fn the_heads_of_columns_are_all_of_one_form() {
+    let table = read(&bytes("examples/ll18.table")).expect("a table");
+    for (count, word) in [(4, "processor "), (16, "P"), (64, "P")] {
+        let drawn = checked(&table, count);
+        let heads: Vec<&str> =
+            drawn.said("mid").into_iter().filter(|said| said.starts_with('P') || said.starts_with("proc")).collect();
+        let heads: Vec<&str> = heads.into_iter().filter(|said| !said.contains(['-', ':'])).collect();
+        let wanted: Vec<String> = (0..count).map(|b| format!("{word}{b}")).collect();
+        assert_eq!(heads, wanted);
+    }
+    let jacobi = read(&bytes("examples/jacobi.table")).expect("a table");
+    for count in [2, 4, 9, 20, 50] {
+        let labels = checked(&jacobi, count).said("in-fused").join(" ");
+        let named = labels.matches("P").count();
+        assert!(named == 0 || named == labels.matches(": ").count() && named == labels.split(' ').count() / 2, "{labels}");
+    }
+}
+
+#[test]
+fn a_picture_has_the_barrier_shifts_and_peels() {
+    let told = run(&["draw", EXAMPLE, "-p", "2"]);
+    assert_eq!((told.status, told.err.as_str()), (0, ""));
+    let drawn = Drawn::new(&told.out);
+    assert_eq!(drawn.root.with("barrier").len(), 1);
+    assert_eq!(drawn.said("said"), ["barrier: opens when every processor has run its fused part"]);
+    // Both loops before the barrier, the second past it: shift, peel.
+    assert_eq!(drawn.said("plain")[..6], ["0", "0", "1", "1", "1", "1"]);
+    assert_eq!(drawn.said("in-fused"), ["P0: 1-5", "P0: 1-4", "P1: 6-10", "P1: 7-10"]);
+    assert_eq!(drawn.said("in-peeled"), ["P0: 5-6"]);
+    assert!(!told.out.contains("<script"));
     assert_eq!(run(&["draw", EXAMPLE, "-p", "6"]).status, 1);
 }
 
 #[test]
-fn a_picture_has_every_part_of_the_listing_inside_its_frame() {
-    let mut random = Random::new(33);
-    for round in 0..60 {
-        let shape = [SMALL, MIDDLE, LARGE][round % 3];
-        let table = tables::aligned(&mut random, &shape);
-        let count = processors::most(&table).to_string();
-        let bytes = encode(&table);
-        let listing = fed(&["plan", "-", "-p", &count], &bytes).out;
-        let picture = fed(&["draw", "-", "-p", &count], &bytes).out;
-        for word in ["fused", "peeled"] {
-            let lines = listing.lines().filter(|line| line.starts_with(word)).count();
-            // One more stands in the legend.
-            assert_eq!(picture.matches(&format!("class='{word}'")).count(), lines + 1);
-        }
-        assert!(!picture.contains("NaN") && !picture.contains("inf'") && !picture.contains("='-"), "{picture}");
-    }
+fn a_row_has_its_loops_statement() {
+    let drawn = Drawn::new(&run(&["draw", "examples/river.table", "-p", "4"]).out);
+    let statements: Vec<&str> = drawn.said("small").into_iter().filter(|said| said.contains(" = ")).collect();
+    // All loops before the barrier, and past it the two that are peeled.
+    let river = [
+        "A2[i] = (A0[i-1] - A0[i+1]) / 200",
+        "A1[i] = A1[i] * 9 / 10 + A2[i] * 40",
+        "A3[i] = (A1[i-1] + 2 * A1[i] + A1[i+1]) / 4",
+        "A0[i] = A0[i] + (A3[i-1] - A3[i+1]) / 50",
+    ];
+    assert_eq!(statements, [&river[..], &river[2..]].concat());
 }
 
-/// The texts of a class, without what is shown when the pointer rests on them.
-fn texts<'a>(picture: &'a str, class: &str) -> Vec<&'a str> {
-    let head = format!("<text class='{class}'");
-    let lines = picture.lines().filter(|line| line.starts_with(&head));
-    lines.map(|line| line.trim_end_matches("</text>").rsplit('>').next().expect("a text")).collect()
+#[test]
+fn the_axis_says_when_it_is_not_to_scale() {
+    let bent = |count: u32, text: &str| {
+        let said = checked(&made(text), count).said("small").iter().any(|said| said.starts_with("Not to scale"));
+        said
+    };
+    assert!(!bent(1, "array A 10\nloop 0 9 -> A[i]: 1\nloop 2 5 -> A[i]: 1\n"));
+    assert!(bent(1, "array A 1000\nloop 0 999 -> A[i]: 1\nloop 500 500 -> A[i]: 1\n"));
 }
 
 #[test]
 fn a_long_statement_is_cut_between_words_before_the_shift() {
-    let text = b"array A 600\narray B 600\nloop 255 300 -> A[i-255]: B[i+255] B[i-255] + 4294967295 * 4294967295 /\n";
-    let name = out_name("wide");
-    let made = fed(&["make", "-", "-o", &name], text);
-    assert_eq!((made.status, made.err.as_str()), (0, ""));
-    let picture = run(&["draw", &name, "-p", "1"]).out;
-    std::fs::remove_file(&name).expect("removed");
-    let said = "A0[i-255] = (A1[i+255] + A1[i-255]) * ..";
-    assert!(texts(&picture, "small").contains(&said), "{:?}", texts(&picture, "small"));
-    let whole = "<title>A0[i-255] = (A1[i+255] + A1[i-255]) * 4294967295 / 4294967295</title>";
-    assert!(picture.contains(whole));
-}
-
-#[test]
-fn the_heads_of_columns_are_all_of_one_form() {
-    for (count, heads) in [("4", "processor "), ("16", "P"), ("64", "P")] {
-        let picture = run(&["draw", "examples/ll18.table", "-p", count]).out;
-        let found = texts(&picture, "strong mid");
-        // The last two are the heads of shift and peel.
-        let wanted: Vec<String> = (0..count.parse().expect("a number")).map(|b: u32| format!("{heads}{b}")).collect();
-        assert_eq!(found[..found.len() - 2], wanted[..]);
-    }
+    let table = made("array A 600\narray B 600\nloop 255 300 -> A[i-255]: B[i+255] B[i-255] + 4294967295 * 4294967295 /\n");
+    let drawn = checked(&table, 1);
+    let whole = "A0[i-255] = (A1[i+255] + A1[i-255]) * 4294967295 / 4294967295";
+    let found: Vec<&xml::Element> = drawn.root.with("small").into_iter().filter(|one| one.title() == whole).collect();
+    let [statement] = found[..] else { panic!("{found:?}") };
+    let shown = statement.text.strip_suffix(" ..").expect("cut");
+    assert!(whole.starts_with(&format!("{shown} ")) && shown.len() > 30, "{shown}");
 }
 
 #[test]
 fn a_picture_says_what_it_is_of() {
-    let picture = fed(&["draw", "-", "-p", "2"], &bytes(EXAMPLE)).out;
-    assert_eq!(texts(&picture, "title"), ["standard input: 2 processors"]);
-    assert!(texts(&picture, "small")[0].contains("threshold 2 (no block may be shorter)"));
+    let drawn = Drawn::new(&fed(&["draw", "-", "-p", "2"], &bytes(EXAMPLE)).out);
+    assert_eq!(drawn.said("title"), ["standard input: 2 processors"]);
+    assert!(drawn.said("small")[0].contains("threshold 2 (no block may be shorter)"));
     // One block may be shorter than the threshold.
-    let picture = run(&["draw", EXAMPLE, "-p", "1"]).out;
-    assert_eq!(texts(&picture, "title"), ["example.table: 1 processor"]);
-    assert!(texts(&picture, "small")[0].contains("threshold 2 (it holds for two processors or more)"));
+    let drawn = Drawn::new(&run(&["draw", EXAMPLE, "-p", "1"]).out);
+    assert_eq!(drawn.said("title"), ["example.table: 1 processor"]);
+    assert!(drawn.said("small")[0].contains("threshold 2 (it holds for two processors or more)"));
+}
+
+/// A file's name may have any characters and any length; the title is then escaped and cut.
+#[test]
+fn a_name_neither_breaks_the_picture_nor_leaves_it() {
+    let long = "W".repeat(200);
+    for odd in ["a<b>&'\"c\u{1}\n", long.as_str()] {
+        let name = out_name(odd);
+        std::fs::write(&name, bytes(EXAMPLE)).expect("written");
+        let told = run(&["draw", &name, "-p", "64"]);
+        assert_eq!(told.status, 1, "example.table has no plan for 64");
+        let picture = run(&["draw", &name, "-p", "5"]).out;
+        std::fs::remove_file(&name).expect("removed");
+        let drawn = Drawn::new(&picture);
+        let (title, area) = drawn.texts().into_iter().find(|(one, _)| one.is("title")).expect("a title");
+        assert!(drawn.frame().holds(&area), "{area:?}");
+        assert!(title.text.ends_with(": 5 processors"), "{title:?}");
+    }
+    let name = out_name("a<b>&'\"c");
+    std::fs::write(&name, bytes(EXAMPLE)).expect("written");
+    let drawn = Drawn::new(&run(&["draw", &name, "-p", "2"]).out);
+    std::fs::remove_file(&name).expect("removed");
+    assert!(drawn.said("title")[0].ends_with("a<b>&'\"c: 2 processors"), "{:?}", drawn.said("title"));
 }
 
 #[test]

@@ -1,0 +1,90 @@
+//! What is drawn: a table's plan, as the library gives it.
+
+use super::statement::statement;
+use crate::names::Names;
+use crate::records::decode;
+use std::ops::Range;
+use vempaldi::{Amounts, Block, Refusal, Sweeps};
+
+/// What a processor runs of a loop on one side of the barrier, both ends included.
+#[derive(Clone, Copy)]
+pub struct Part {
+    pub processor: usize,
+    pub number: usize,
+    pub from: u32,
+    pub to: u32,
+}
+
+impl Part {
+    pub fn is_single(&self) -> bool {
+        self.from == self.to
+    }
+}
+
+pub struct Loop {
+    pub first: u32,
+    pub last: u32,
+    pub statement: String,
+    pub amounts: Amounts,
+}
+
+pub struct Plan {
+    pub listing: String,
+    pub loops: Vec<Loop>,
+    pub blocks: Vec<Block>,
+    pub fused: Vec<Part>,
+    pub peeled: Vec<Part>,
+    pub threshold: u32,
+    pub sweeps: Sweeps,
+}
+
+impl Plan {
+    pub fn of(table: &[u8], processors: u32, names: &Names) -> Result<Plan, Refusal> {
+        let listing = vempaldi::listing(table, processors)?;
+        let (fused, peeled) = ranges(table, processors)?;
+        let amounts = vempaldi::shifts_and_peels(table)?.into_iter();
+        let decoded = decode(table).0.loops;
+        let loops = decoded.iter().zip(amounts).map(|(one, amounts)| {
+            let statement = statement(one, names);
+            Loop { first: one.first, last: one.last, statement, amounts }
+        });
+        Ok(Plan {
+            loops: loops.collect(),
+            blocks: vempaldi::blocks(table, processors)?,
+            fused,
+            peeled,
+            threshold: vempaldi::threshold(table)?,
+            sweeps: vempaldi::sweeps(table)?,
+            listing,
+        })
+    }
+
+    pub fn first(&self) -> u32 {
+        self.blocks[0].first
+    }
+
+    pub fn last(&self) -> u32 {
+        self.blocks[self.blocks.len() - 1].last
+    }
+}
+
+/// The parts of some processors.
+pub fn of_processors<'a>(parts: &'a [Part], processors: &'a Range<usize>) -> impl Iterator<Item = &'a Part> + 'a {
+    parts.iter().filter(|part| processors.contains(&part.processor))
+}
+
+/// The parts that are not empty, fused and peeled, by processor and then by loop: the one place where they are read.
+fn ranges(table: &[u8], processors: u32) -> Result<(Vec<Part>, Vec<Part>), Refusal> {
+    let listing = vempaldi::listing(table, processors)?;
+    Ok((parts(&listing, "fused"), parts(&listing, "peeled")))
+}
+
+fn parts(listing: &str, word: &str) -> Vec<Part> {
+    let own = listing.lines().filter_map(|line| line.strip_prefix(word));
+    own.filter_map(|fields| {
+        let numbers: Vec<u32> = fields.split_whitespace().filter_map(|field| field.parse().ok()).collect();
+        let [processor, number, from, to] = numbers[..] else { return None };
+        Some(Part { processor: processor as usize, number: number as usize, from, to })
+    })
+    .collect()
+}
