@@ -5,10 +5,10 @@ use crate::input::Input;
 use crate::options::Options;
 use crate::outcome::{Failure, Outcome};
 use crate::parse::TextError;
-use crate::stand_in::DECIDING_BYTES;
 use std::fs::{self, File};
 use std::io::{self, IsTerminal, Read, Write};
 use std::sync::atomic::{AtomicBool, Ordering};
+use vempaldi::DECIDING_BYTES;
 
 /// From how many files on a terminal shows how far the work is.
 const MANY: usize = 20;
@@ -39,11 +39,6 @@ pub fn rest(name: &str, reader: &mut dyn Read) -> Result<Vec<u8>, Failure> {
     let mut bytes = Vec::new();
     reader.read_to_end(&mut bytes).map_err(|error| Failure::Io(name.to_string(), error))?;
     Ok(bytes)
-}
-
-/// The bytes of a table, from a file or the standard input.
-pub fn read_table(name: &str) -> Result<Vec<u8>, Failure> {
-    some(name, &mut open(name)?)
 }
 
 pub fn read_whole(name: &str) -> Result<Vec<u8>, Failure> {

@@ -7,15 +7,13 @@ mod overview;
 mod panel;
 mod panels;
 mod plan;
-mod statement;
 mod style;
 
 use crate::answers;
-use crate::batch;
-use crate::names::Names;
+use crate::input::Input;
 use crate::options::Options;
 use crate::outcome::{Failure, Outcome};
-use crate::plan::refused;
+use crate::refusals::Asked;
 use crate::svg::{shortened, Frame, Picture};
 use crate::wording::counted;
 use forms::Forms;
@@ -35,10 +33,13 @@ pub fn draw(options: &Options) -> Result<Outcome, Failure> {
     let name = options.one_file()?;
     let processors = options.processors()?;
     answers::needs_file(options)?;
-    let bytes = batch::read_table(name)?;
-    match Plan::of(&bytes, processors, &Names::default()) {
+    let input = match Input::read(name)? {
+        Ok(input) => input,
+        Err(error) => return answers::wrong_text(name, &error),
+    };
+    match Plan::of(&input.table, processors, &input.names) {
         Ok(plan) => answers::made(options, picture(name, &plan).as_bytes(), &plan.listing),
-        Err(refusal) => refused(options, name, &bytes, &refusal),
+        Err(refusal) => answers::refused(options, &input, &refusal, &Asked { processors: Some(processors), numbers: None }),
     }
 }
 
@@ -110,6 +111,7 @@ fn foot(picture: &mut Picture, top: f64, bent: bool) -> f64 {
 #[cfg(test)]
 mod tests {
     use super::*;
+    use crate::names::Names;
 
     /// One array of 12 elements, one loop from 1 to 10 that doubles it.
     const TABLE: [u8; 28] = [1, 12, 0, 0, 0, 2, 1, 0, 0, 0, 10, 0, 0, 0, 0, 0, 0, 3, 0, 0, 0, 4, 2, 0, 0, 0, 5, 3];

@@ -2,16 +2,15 @@
 //! into words, in the order of the library's tests. Where nothing in it fits the ground there are no words.
 
 use crate::before::{a_kind, operands, Before};
-use crate::infix::named_reference;
+use crate::infix::reference;
 use crate::limits::*;
 use crate::names::Names;
 use crate::records::{a_loop, body_length, kind_name, number, offset, OPERATIONS};
 use crate::spans::Field;
-use crate::stand_in::DECIDING_BYTES;
 use crate::wording::{counted, ordinal};
 use std::fmt::Display;
 use std::ops::RangeInclusive;
-use vempaldi::{Ground, Refusal};
+use vempaldi::{Ground, Refusal, DECIDING_BYTES};
 
 /// The words, and which field of which record they are about.
 pub struct Explanation {
@@ -192,7 +191,7 @@ impl Place<'_> {
         let length = *self.before.arrays.get(usize::from(array))?;
         let (lowest, highest) = (i64::from(first) + i64::from(offset), i64::from(last) + i64::from(offset));
         let reached = if first == last { format!("element {lowest}") } else { format!("elements {lowest} to {highest}") };
-        let (said, indices) = (named_reference(self.names, array, offset), spread(first.into(), last.into()));
+        let (said, indices) = (reference(self.names, array, offset), spread(first.into(), last.into()));
         let name = self.names.of(usize::from(array));
         let words = || format!("{said} reaches {reached} for i = {indices}, {name} has {}", spread(0, i64::from(length) - 1));
         (lowest < 0 || highest >= i64::from(length)).then(|| (words(), field))

@@ -2,7 +2,6 @@
 
 use crate::batch;
 use crate::outcome::{Failure, Outcome};
-use crate::stand_in::version as library_version;
 
 /// How a command is called, what it does and what its options mean, and which further parts its own help has.
 pub struct Help {
@@ -178,7 +177,7 @@ pub fn print() -> Result<Outcome, Failure> {
 
 /// The command's version and that of the library in it.
 pub fn version() -> Result<Outcome, Failure> {
-    let library = library_version();
+    let library = vempaldi::version();
     let (major, minor, patch) = (library / 10_000, library / 100 % 100, library % 100);
     let command = env!("CARGO_PKG_VERSION");
     batch::print(format!("vempaldi {command}\nlibrary {major}.{minor}.{patch}\n").as_bytes())?;

@@ -4,13 +4,8 @@ use crate::names::Names;
 use crate::records::{Item, Loop, OPERATIONS};
 use std::ops::Range;
 
-/// `A0[i-1]`.
-pub fn reference(array: u8, offset: i16) -> String {
-    named_reference(&Names::default(), array, offset)
-}
-
-/// `H[i-1]`.
-pub fn named_reference(names: &Names, array: u8, offset: i16) -> String {
+/// `H[i-1]`, or `A0[i-1]` where the array has no name.
+pub fn reference(names: &Names, array: u8, offset: i16) -> String {
     let name = names.of(usize::from(array));
     match offset {
         0 => format!("{name}[i]"),
@@ -24,17 +19,12 @@ pub struct Infix {
     pub reads: Vec<Range<usize>>,
 }
 
-/// `A2[i] = A0[i-1] + A0[i+1]`, or nothing where the body does not leave one number.
-pub fn assignment(one: &Loop) -> Option<Infix> {
-    named_assignment(one, &Names::default())
-}
-
-/// `S[i] = H[i-1] + H[i+1]`.
-pub fn named_assignment(one: &Loop, names: &Names) -> Option<Infix> {
+/// `S[i] = H[i-1] + H[i+1]`, or nothing where the body does not leave one number.
+pub fn assignment(one: &Loop, names: &Names) -> Option<Infix> {
     let mut waiting: Vec<Part> = Vec::new();
     for item in &one.items {
         let part = match *item {
-            Item::Read(array, offset) => Part::read(named_reference(names, array, offset)),
+            Item::Read(array, offset) => Part::read(reference(names, array, offset)),
             Item::Constant(value) => Part::constant(value),
             Item::Operation(5) => waiting.pop()?.negated(),
             Item::Operation(code) => {
@@ -45,7 +35,7 @@ pub fn named_assignment(one: &Loop, names: &Names) -> Option<Infix> {
         waiting.push(part);
     }
     let whole = waiting.pop().filter(|_| waiting.is_empty())?;
-    Some(whole.infix.behind(&format!("{} = ", named_reference(names, one.array, one.offset))))
+    Some(whole.infix.behind(&format!("{} = ", reference(names, one.array, one.offset))))
 }
 
 impl Infix {

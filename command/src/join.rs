@@ -7,9 +7,8 @@ use crate::limits::MOST_LOOPS;
 use crate::options::Options;
 use crate::outcome::{Failure, Outcome};
 use crate::refusals::{line, Asked};
-use crate::stand_in::facts;
 use crate::wording::counted;
-use vempaldi::{Ground, Refusal};
+use vempaldi::{facts, Ground, Refusal};
 
 pub fn join(options: &Options) -> Result<Outcome, Failure> {
     let [left, right] = &options.files[..] else {

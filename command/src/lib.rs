@@ -32,7 +32,6 @@ mod run;
 mod scale;
 mod serial;
 mod spans;
-mod stand_in;
 mod svg;
 mod text;
 mod wording;

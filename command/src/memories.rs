@@ -3,8 +3,8 @@
 use crate::batch;
 use crate::orders::Draw;
 use crate::outcome::Failure;
-use crate::stand_in::Facts;
 use crate::wording::{counted, quoted};
+use vempaldi::Facts;
 
 pub enum Memory {
     Index,

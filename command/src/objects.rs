@@ -1,14 +1,13 @@
 //! `plan --json`: a table's plan or its refusal as one object. docs/plan.schema.json has its form.
 
-use crate::infix::named_assignment;
+use crate::infix::assignment;
 use crate::input::Input;
 use crate::json::Value;
 use crate::parse::TextError;
 use crate::records::decode;
 use crate::refusals::{message, text_place, Asked};
-use crate::stand_in::{facts, fused_ranges, peeled_ranges, Facts};
 use std::ops::Range;
-use vempaldi::{Amounts, Refusal};
+use vempaldi::{facts, fused_ranges, peeled_ranges, Amounts, Facts, Refusal};
 
 /// The object, and whether the table has a plan.
 pub fn object(name: &str, given: &Result<Input, TextError>, processors: u32) -> (Value, bool) {
@@ -63,7 +62,7 @@ fn loops(input: &Input, facts: &Facts, amounts: &[Amounts]) -> Value {
             ("last", one.last.into()),
             ("shift", amounts.shift.into()),
             ("peel", amounts.peel.into()),
-            ("statement", named_assignment(statement, &input.names).map_or(String::new(), |infix| infix.text).into()),
+            ("statement", assignment(statement, &input.names).map_or(String::new(), |infix| infix.text).into()),
         ])
     })
 }

@@ -4,14 +4,12 @@ use crate::answers;
 use crate::batch;
 use crate::check::WORDS;
 use crate::input::Input;
-use crate::names::Names;
 use crate::objects::object;
 use crate::options::Options;
 use crate::outcome::{Failure, Outcome};
 use crate::outputs::Outputs;
 use crate::parse::TextError;
 use crate::refusals::Asked;
-use vempaldi::Refusal;
 
 pub fn plan(options: &Options) -> Result<Outcome, Failure> {
     let processors = options.processors()?;
@@ -56,11 +54,4 @@ fn tell_object(
         None => batch::print(line.as_bytes())?,
     }
     Ok(if accepted { Outcome::Good } else { Outcome::Bad })
-}
-
-/// For the picture, until it reads texts too.
-pub fn refused(options: &Options, name: &str, table: &[u8], refusal: &Refusal) -> Result<Outcome, Failure> {
-    let input = Input { name: name.to_string(), table: table.to_vec(), names: Names::default(), made: None };
-    let processors = options.processors().ok();
-    answers::refused(options, &input, refusal, &Asked { processors, numbers: None })
 }

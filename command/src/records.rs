@@ -1,7 +1,7 @@
 //! The records of a table, and the table that an accepted row of them is. What the library tells of an accepted table is asked of it
 //! (`vempaldi::facts`); this is for what it does not tell: the items of a body, and the records of a table that it refuses.
 
-use crate::stand_in::BODY_LENGTHS;
+use vempaldi::BODY_LENGTHS;
 
 /// A whole record: where its kind byte stands, the kind, and the bytes behind it.
 pub struct Record<'a> {

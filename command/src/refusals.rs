@@ -5,9 +5,8 @@ use crate::explain::{explain, record_at, Explanation};
 use crate::input::{first_word, Input};
 use crate::parse::Told;
 use crate::serial::{explain_serial, Serial};
-use crate::stand_in::facts;
 use crate::wording::{counted, quoted};
-use vempaldi::{Ground, Refusal};
+use vempaldi::{facts, Ground, Refusal};
 
 /// What was asked beside the table, which the words of 10, 11 and 12 are about.
 #[derive(Clone, Copy, Default)]

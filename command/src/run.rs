@@ -9,9 +9,8 @@ use crate::options::Options;
 use crate::orders::Order;
 use crate::outcome::{Failure, Outcome};
 use crate::refusals::Asked;
-use crate::stand_in::{facts, Facts};
 use crate::wording::counted;
-use vempaldi::Refusal;
+use vempaldi::{facts, Facts, Refusal};
 
 const WORDS: Words = Words { good: "agree", bad: "refused or different" };
 

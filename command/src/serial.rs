@@ -1,7 +1,7 @@
 //! Refusal 9 in words: the read that it names, the iterations that meet there, and the loop's statement with the read marked.
 
 use crate::explain::{spread, Explanation};
-use crate::infix::named_assignment;
+use crate::infix::assignment;
 use crate::names::Names;
 use crate::records::{decode, records, Loop, Record};
 use crate::spans::Field;
@@ -59,7 +59,7 @@ impl<'a> Serial<'a> {
     /// The loop's statement with its bounds, and below it the named read marked, in two lines.
     pub fn marked(&self) -> Option<String> {
         let (one, offset) = self.loop_and_offset()?;
-        let said = named_assignment(&one, self.names)?;
+        let said = assignment(&one, self.names)?;
         let span = said.reads.get(usize::try_from(self.read).ok()?)?;
         let head = format!("  loop {}, i = {} to {}: ", self.place, one.first, one.last);
         let (blanks, carets) = (" ".repeat(head.len() + span.start), "^".repeat(span.len()));

@@ -2,7 +2,7 @@
 
 use crate::answers;
 use crate::batch::{self, Words};
-use crate::infix::{named_assignment, named_reference};
+use crate::infix::{assignment, reference};
 use crate::names::Names;
 use crate::options::Options;
 use crate::outcome::{Failure, Outcome};
@@ -46,15 +46,15 @@ pub fn dump(table: &[u8], names: &Names) -> String {
 }
 
 fn a_loop(number: usize, one: &Loop, names: &Names) -> String {
-    let said = named_assignment(one, names).map_or(String::new(), |infix| format!(": {}", infix.text));
+    let said = assignment(one, names).map_or(String::new(), |infix| format!(": {}", infix.text));
     let items: Vec<String> = one.items.iter().map(|one| item(one, names)).collect();
-    let store = named_reference(names, one.array, one.offset);
+    let store = reference(names, one.array, one.offset);
     format!("# loop {number}{said}\nloop {} {} -> {store}: {}\n", one.first, one.last, items.join(" "))
 }
 
 fn item(item: &Item, names: &Names) -> String {
     match *item {
-        Item::Read(array, offset) => named_reference(names, array, offset),
+        Item::Read(array, offset) => reference(names, array, offset),
         Item::Constant(value) => value.to_string(),
         Item::Operation(code) => OPERATIONS[usize::from(code) - 1].to_string(),
     }

@@ -7,7 +7,7 @@ use common::{bytes, fed, out_name, run, EXAMPLE};
 use vempaldi_checks::encoder::{encode, Encoder};
 use vempaldi_checks::random::Random;
 use vempaldi_checks::tables::{self, LARGE, MIDDLE, SMALL};
-use vempaldi_command::{assignment, decode, Item, Loop};
+use vempaldi_command::{assignment, decode, Item, Loop, Names};
 
 const ADD: u8 = 1;
 const SUBTRACT: u8 = 2;
@@ -295,7 +295,7 @@ fn written(item: &Item) -> Option<String> {
 
 /// Each read has a place of its own in the text, behind the one before, and its reference stands there.
 fn placed(one: &Loop) {
-    let said = assignment(one).expect("an accepted body");
+    let said = assignment(one, &Names::default()).expect("an accepted body");
     let found: Vec<&str> = said.reads.iter().map(|place| &said.text[place.clone()]).collect();
     let wanted: Vec<String> = one.items.iter().filter_map(written).collect();
     assert_eq!(found, wanted, "{}", said.text);

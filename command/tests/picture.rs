@@ -155,18 +155,23 @@ fn a_picture_has_the_barrier_shifts_and_peels() {
     assert_eq!(run(&["draw", EXAMPLE, "-p", "6"]).status, 1);
 }
 
+/// A text's names stay, and a table has none.
 #[test]
 fn a_row_has_its_loops_statement() {
-    let drawn = Drawn::new(&run(&["draw", "examples/river.table", "-p", "4"]).out);
-    let statements: Vec<&str> = drawn.said("small").into_iter().filter(|said| said.contains(" = ")).collect();
-    // All loops before the barrier, and past it the two that are peeled.
     let river = [
-        "A2[i] = (A0[i-1] - A0[i+1]) / 200",
-        "A1[i] = A1[i] * 9 / 10 + A2[i] * 40",
-        "A3[i] = (A1[i-1] + 2 * A1[i] + A1[i+1]) / 4",
-        "A0[i] = A0[i] + (A3[i-1] - A3[i+1]) / 50",
+        "S[i] = (H[i-1] - H[i+1]) / 200",
+        "Q[i] = Q[i] * 9 / 10 + S[i] * 40",
+        "D[i] = (Q[i-1] + 2 * Q[i] + Q[i+1]) / 4",
+        "H[i] = H[i] + (D[i-1] - D[i+1]) / 50",
     ];
-    assert_eq!(statements, [&river[..], &river[2..]].concat());
+    let numbered = |said: &str| said.replace("H[", "A0[").replace("Q[", "A1[").replace("S[", "A2[").replace("D[", "A3[");
+    let of_table = river.map(numbered);
+    for (file, wanted) in [("examples/river.txt", river), ("examples/river.table", of_table.each_ref().map(String::as_str))] {
+        let drawn = Drawn::new(&run(&["draw", file, "-p", "4"]).out);
+        let statements: Vec<&str> = drawn.said("small").into_iter().filter(|said| said.contains(" = ")).collect();
+        // All loops before the barrier, and past it the two that are peeled.
+        assert_eq!(statements, [&wanted[..], &wanted[2..]].concat());
+    }
 }
 
 #[test]
@@ -226,7 +231,7 @@ fn a_name_neither_breaks_the_picture_nor_leaves_it() {
 
 #[test]
 fn the_picture_of_the_readme_is_the_rivers() {
-    let picture = run(&["draw", "examples/river.table", "-p", "4"]).out;
+    let picture = run(&["draw", "examples/river.txt", "-p", "4"]).out;
     let same = picture.into_bytes() == bytes("docs/plan.svg");
-    assert!(same, "bin/vempaldi draw examples/river.table -p 4 -o docs/plan.svg makes it anew");
+    assert!(same, "bin/vempaldi draw examples/river.txt -p 4 -o docs/plan.svg makes it anew");
 }

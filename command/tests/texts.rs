@@ -27,6 +27,7 @@ fn a_text_is_taken_as_its_table() {
         same(&["run", "-p3", "--order=random:3", "--memory=random:4"]);
         same(&["run", "-p3", "--raw"]);
         same(&["dump", "--raw"]);
+        same(&["draw", "-p3", "--raw", "-o", "/dev/null"]);
     }
 }
 
@@ -66,6 +67,8 @@ fn names_stay_in_what_is_printed() {
     let lines: Vec<&str> = values.lines().collect();
     assert_eq!((lines.len(), lines[1], lines[200]), (801, "H[0] 0", "H[199] 199"));
     assert!(lines[201].starts_with("Q[0] ") && lines[401].starts_with("S[0] ") && lines[601].starts_with("D[0] "));
+    let picture = run(&["draw", RIVER, "-p4"]).out;
+    assert!(picture.contains("S[i] = (H[i-1] - H[i+1]) / 200") && !picture.contains("A0["));
     let dumped = run(&["dump", RIVER]).out;
     assert!(dumped.starts_with("array H 200\narray Q 200\narray S 200\narray D 200\n# loop 0: S[i] = (H[i-1] - H[i+1]) / 200\n"));
     assert!(dumped.contains("\nloop 1 198 -> S[i]: H[i-1] H[i+1] - 200 /\n"), "{dumped}");
@@ -163,6 +166,7 @@ fn a_wrong_text_is_told_with_its_line_and_a_mark() {
             &["plan", "-p1", "-"],
             &["run", "-p1", "-"],
             &["dump", "-"],
+            &["draw", "-p1", "-"],
             &["join", EXAMPLE, "-"],
         ] {
             assert_eq!(run_of(words, &format!("array H 12\n{line}\n")), (1, String::new(), said.clone()), "{words:?}");

@@ -1,6 +1,6 @@
 //! What is drawn: a table's plan, as the library gives it.
 
-use super::statement::statement;
+use crate::infix::assignment;
 use crate::names::Names;
 use crate::records::decode;
 use std::ops::Range;
@@ -45,7 +45,7 @@ impl Plan {
         let amounts = vempaldi::shifts_and_peels(table)?.into_iter();
         let decoded = decode(table).0.loops;
         let loops = decoded.iter().zip(amounts).map(|(one, amounts)| {
-            let statement = statement(one, names);
+            let statement = assignment(one, names).map_or(String::new(), |infix| infix.text);
             Loop { first: one.first, last: one.last, statement, amounts }
         });
         Ok(Plan {
@@ -75,16 +75,21 @@ pub fn of_processors<'a>(parts: &'a [Part], processors: &'a Range<usize>) -> imp
 
 /// The parts that are not empty, fused and peeled, by processor and then by loop: the one place where they are read.
 fn ranges(table: &[u8], processors: u32) -> Result<(Vec<Part>, Vec<Part>), Refusal> {
-    let listing = vempaldi::listing(table, processors)?;
-    Ok((parts(&listing, "fused"), parts(&listing, "peeled")))
+    let fused = parts(processors, |processor| vempaldi::fused_ranges(table, processors, processor))?;
+    let peeled = parts(processors, |processor| vempaldi::peeled_ranges(table, processors, processor))?;
+    Ok((fused, peeled))
 }
 
-fn parts(listing: &str, word: &str) -> Vec<Part> {
-    let own = listing.lines().filter_map(|line| line.strip_prefix(word));
-    own.filter_map(|fields| {
-        let numbers: Vec<u32> = fields.split_whitespace().filter_map(|field| field.parse().ok()).collect();
-        let [processor, number, from, to] = numbers[..] else { return None };
-        Some(Part { processor: processor as usize, number: number as usize, from, to })
-    })
-    .collect()
+fn parts(processors: u32, ranges: impl Fn(u32) -> Result<Vec<Range<u32>>, Refusal>) -> Result<Vec<Part>, Refusal> {
+    let mut all = Vec::new();
+    for processor in 0..processors {
+        let own = ranges(processor)?.into_iter().enumerate().filter(|(_, range)| !range.is_empty());
+        all.extend(own.map(|(number, range)| Part {
+            processor: processor as usize,
+            number,
+            from: range.start,
+            to: range.end - 1,
+        }));
+    }
+    Ok(all)
 }
