@@ -3,10 +3,12 @@
 use crate::blocks::{plan, Range};
 use crate::encoder::Encoder;
 use crate::examples::*;
+use crate::facts::facts;
 use crate::interpreter::plain_run;
 use crate::listing::listing;
 use crate::lists::{lists, Iteration};
 use crate::memories::{bits, own_index};
+use crate::outputs;
 use crate::planner::{amounts, threshold};
 use crate::reader::read;
 use crate::stepping::run;
@@ -96,6 +98,26 @@ fn the_example_has_its_lists() {
     assert_eq!(found[0].peeled, row(&[(1, 5), (1, 6)]));
     assert_eq!(found[1].fused, last);
     assert_eq!(found[1].peeled, row(&[]));
+}
+
+#[test]
+fn the_example_has_its_facts() {
+    let arrays = [0, 12, 12, 12, 24, 12];
+    let loops = [1, 10, 1, 10];
+    assert_eq!(facts(&table(&EXAMPLE)), [&[3, 2, 36], &arrays[..], &loops[..]].concat());
+}
+
+#[test]
+fn the_example_has_its_ranges() {
+    let numbers = |output: outputs::Output| -> Vec<u8> {
+        let bytes = output.expect("accepted");
+        assert!(bytes.chunks(4).all(|number| number[1..] == [0, 0, 0]));
+        bytes.into_iter().step_by(4).collect()
+    };
+    assert_eq!(numbers(outputs::fused_ranges(&EXAMPLE, 2, 0, 16)), [1, 6, 1, 5]);
+    assert_eq!(numbers(outputs::fused_ranges(&EXAMPLE, 2, 1, 16)), [6, 11, 7, 11]);
+    assert_eq!(numbers(outputs::peeled_ranges(&EXAMPLE, 2, 0, 16)), [0, 0, 5, 7]);
+    assert_eq!(numbers(outputs::peeled_ranges(&EXAMPLE, 2, 1, 16)), [0, 0, 0, 0]);
 }
 
 #[test]

@@ -8,6 +8,7 @@ pub mod damage;
 pub mod dependence;
 pub mod encoder;
 pub mod examples;
+pub mod facts;
 pub mod interpreter;
 pub mod join;
 #[cfg(test)]
@@ -26,6 +27,7 @@ pub mod memories;
 pub mod misnamed;
 pub mod outcome;
 pub mod outputs;
+pub mod parts;
 pub mod planner;
 pub mod processors;
 pub mod random;

@@ -120,7 +120,7 @@ fn same_as_row(planned: &Planned, order: &[u8], start: &[f64]) {
         let mut report = [9; 3];
         let answer =
             library::step(&planned.bytes, processors, named, counts, &mut memory, &mut report);
-        answer == ACCEPTED && report[0] == 0
+        answer == ACCEPTED && report[0] == 1
     };
     for &byte in order {
         idle += u64::from(!call(u32::from(byte), &mut counts));
