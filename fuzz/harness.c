@@ -8,6 +8,7 @@
  *   room, with just enough and with more;
  * - the lists of all processors have every iteration of every loop once, each in its order, and the ranges have the same iterations;
  * - a complete row of steps, and a run in any order, leave the memory that the loops leave one after the other, bit for bit;
+ * - a table that is changed in its place gets its own answer: nothing is kept between calls;
  * - a report of an accepted step is 1, 2 or 3; the library's version is the header's.
  *
  * A breach prints the call and the table, and aborts. */
@@ -19,6 +20,18 @@
 #include "call.h"
 
 static uint64_t inputs;
+
+/* The table with another byte, at the same place and as long; then as it was. Nothing is kept from one call to the next. */
+static void another_byte(struct call *call, uint8_t *table, struct cursor *bytes) {
+    static struct call other;
+    size_t at = take(bytes, 2) % call->length;
+    uint8_t kept = table[at];
+    table[at] ^= (uint8_t)(1 + take(bytes, 1) % 255);
+    begin_call(&other, table, call->length, call->processors);
+    check(&other);
+    table[at] = kept;
+    check(call);
+}
 
 int LLVMFuzzerTestOneInput(const uint8_t *data, size_t size) {
     static struct call call;
@@ -33,6 +46,7 @@ int LLVMFuzzerTestOneInput(const uint8_t *data, size_t size) {
     p = p < 224 ? p % 9 : p < 240 ? p - 160 : take(&bytes, 4);
     begin_call(&call, length ? table : NULL, length, p);
     check(&call);
+    if (length) another_byte(&call, table, &bytes);
     if (vempaldi_version() != VEMPALDI_VERSION) breach(&call, "the library's version is not the header's");
     join(&call, &bytes);
     lists_together(&call);
