@@ -160,13 +160,16 @@ void join(const struct call *left, struct cursor *bytes) {
     }
 }
 
-/* A processor's lists, unless they are too long, and its ranges. */
+/* A processor's lists and ranges. A list that is too long to be written here has too little room. */
 static void of_processor(struct call *call, uint32_t processor, size_t any) {
+    static struct output untold;
     call->processor = processor;
+    int planned = !call->verdict[0] && !plan_ground(call, 1);
     for (enum entry entry = FUSED_LIST; entry <= PEELED_RANGES; entry++) {
-        enum phase phase = entry == FUSED_LIST || entry == FUSED_RANGES ? FUSED : PEELED;
-        int plain = call->verdict[0] || plan_ground(call, 1) || entry >= FUSED_RANGES;
-        if (plain || list_length(&call->plan, phase, processor) <= MOST_LISTED) with_rooms(call, entry, any, 1);
+        enum phase phase = entry == FUSED_LIST ? FUSED : PEELED;
+        untold.length = planned && entry < FUSED_RANGES ? 8 * list_length(&call->plan, phase, processor) : 0;
+        if (untold.length > 8 * MOST_LISTED) with_room(call, entry, 0, any, &untold);
+        else with_rooms(call, entry, any, 1);
     }
 }
 

@@ -51,7 +51,8 @@ build() {
     done
     ${CC:-cc} -std=c11 -O1 -g -Iinclude fuzz/*.c -L"$own/lib" -lvempaldi -o "$own/driver"
     VEMPALDI_LIB=$own/lib CARGO_TARGET_DIR=$own/cargo cargo test --release --offline --manifest-path tests/Cargo.toml \
-        --features planning,running --tests --no-run 2>&1 | tee "$own/cargo.log" | sed -nE 's/^ *Executable tests\/([a-z]+)\.rs \((.*)\)$/\1 \2/p' |
+        --features planning,running --tests --no-run 2>&1 | tee "$own/cargo.log" |
+        sed -nE 's/^ *Executable tests\/([a-z]+)\.rs \((.*)\)$/\1 \2/p' |
         while read -r program path; do ln -sf "$(realpath "$path")" "$own/$program"; done
 }
 

@@ -1,4 +1,4 @@
-//! The known results of the paper that concern planning and running.
+//! Known results of planning and running, typed.
 
 use crate::blocks::{plan, Range};
 use crate::encoder::Encoder;
@@ -161,7 +161,7 @@ fn idle_bytes_are_counted() {
 }
 
 #[test]
-fn zero_divided_by_zero_is_stored_as_the_paper_says() {
+fn zero_divided_by_zero_is_stored_as_the_header_says() {
     let table = Encoder::new().array(1).a_loop(0, 0, 0, 0).constant(0).constant(0).operation(4);
     let mut memory = [1.0];
     plain_run(&table.end().bytes, &mut memory).expect("accepted");

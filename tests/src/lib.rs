@@ -1,5 +1,5 @@
-//! A second implementation of the paper, made to be compared with the proved
-//! library, and the calls into that library.
+//! A second implementation, made to be compared with the proved library, and
+//! the calls into that library.
 
 pub mod blocks;
 pub mod bodies;

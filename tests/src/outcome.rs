@@ -37,7 +37,7 @@ impl Refusal {
     }
 }
 
-/// Whether the answer says what the paper says, in all four numbers.
+/// Whether the answer is the one expected, in all four numbers.
 pub fn agrees(answer: &Answer, refusal: Option<&Refusal>) -> bool {
     *answer == refusal.map_or(ACCEPTED, Refusal::answer)
 }

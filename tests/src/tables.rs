@@ -26,7 +26,7 @@ pub const SMALL: Shape =
 pub const MIDDLE: Shape =
     Shape { arrays: 8, loops: 8, items: 16, length: 600, offset: 255, serial: false };
 
-/// Every size up to the limits of the paper.
+/// Every size up to a table's limits.
 pub const LARGE: Shape =
     Shape { arrays: 16, loops: 16, items: 32, length: 65_536, offset: 255, serial: false };
 

@@ -42,7 +42,7 @@ pub fn compare_all() {
     assert!(of_ranges.total() >= LEAST, "too few ranges");
 }
 
-/// The paper's example, typed.
+/// The example's, typed.
 fn typed() {
     let bytes = |call: &dyn Fn(&mut [u8]) -> (Answer, u64), wanted: &[u32]| {
         let mut out = [0xA5; FACTS_ROOM];
