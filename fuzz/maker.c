@@ -109,14 +109,30 @@ static void make_loop(struct making *made, int near) {
     for (int i = 0; i < items; i++) make_item(made, first, last, near, &waiting, items - i - 1);
 }
 
+/* Some loops over the arrays, and the end. */
+static size_t make_loops(struct making *made) {
+    struct cursor *bytes = made->bytes;
+    int near = take(bytes, 1) % 8 ? (int)(take(bytes, 1) % 4) : 255;
+    int loops = (int)between(bytes, 1, take(bytes, 1) % 8 ? 4 : 16, made->flaws);
+    for (int k = 0; k < loops; k++) make_loop(made, near);
+    put(made, 6, 1);
+    return made->length;
+}
+
 size_t make_table(struct cursor *bytes, uint8_t *out) {
     struct making made = {bytes, out, 0, take(bytes, 1) % 4 == 0, 0, {0}, 0, 0};
     make_arrays(&made);
-    int near = take(bytes, 1) % 8 ? (int)(take(bytes, 1) % 4) : 255;
-    int loops = (int)between(bytes, 1, take(bytes, 1) % 8 ? 4 : 16, made.flaws);
-    for (int k = 0; k < loops; k++) make_loop(&made, near);
-    put(&made, 6, 1);
-    return made.length;
+    return make_loops(&made);
+}
+
+size_t make_over(struct cursor *bytes, const int64_t *lengths, int arrays, uint8_t *out) {
+    struct making made = {bytes, out, 0, 0, arrays, {0}, 0, 0};
+    for (int q = 0; q < arrays; q++) {
+        made.lengths[q] = lengths[q];
+        put(&made, 1, 1);
+        put(&made, (uint32_t)lengths[q], 4);
+    }
+    return make_loops(&made);
 }
 
 static size_t damaged(struct cursor *bytes, uint8_t *out, size_t length) {

@@ -21,6 +21,9 @@ uint64_t mixed(uint64_t number);
 /* A table that is mostly accepted. Answers its length, at most MOST_MADE. */
 size_t make_table(struct cursor *bytes, uint8_t *out);
 
+/* The same over arrays of these lengths, without flaws. */
+size_t make_over(struct cursor *bytes, const int64_t *lengths, int arrays, uint8_t *out);
+
 /* The input's bytes as they are, or a made table, perhaps damaged. */
 size_t any_table(struct cursor *bytes, uint8_t *out);
 

@@ -31,15 +31,17 @@ static void plain_run(struct call *call, struct lent *plain, size_t numbers, uin
 static void run(struct call *call, struct cursor *bytes, const struct lent *plain, uint64_t seed, int fits) {
     struct lent own;
     size_t length = take(bytes, 1) % ORDER, numbers = plain->size / 8;
-    uint8_t *order = malloc(length + 1);
+    uint8_t *order = malloc(length + 1), kept[ORDER];
     if (!order) abort();
     for (size_t i = 0; i < length; i++) order[i] = take(bytes, 1) % 16 ? (uint8_t)(take(bytes, 1) % 4) : (uint8_t)take(bytes, 1);
+    memcpy(kept, order, length);
     double *lent = memory(&own, numbers, seed);
     uint64_t ground = plan_ground(call, 0);
     expect(call, RUN, ground ? ground : fits ? 0 : 12);
     uint64_t idle = vempaldi_run(call->bytes, call->length, call->processors, length ? order : NULL, length, numbers ? lent : NULL,
                                  numbers, call->answer);
     answered(call);
+    if (memcmp(order, kept, length)) breach(call, "the order itself changed");
     int accepted = call->expected[0] == 0;
     if (idle != (accepted ? idle_of(&call->plan, order, length) : 0)) breach(call, "another idle count");
     if (accepted) memcpy(wanted_in(&own), wanted_in(plain), own.size);

@@ -132,14 +132,21 @@ static uint64_t joined(const struct call *left, const struct call *right, struct
     return 0;
 }
 
-/* Joins the call's table with another: the same, or one that is made for this. */
+/* A table to join with: mostly one over the same arrays, else the same table or any other. */
+static size_t make_other(const struct call *left, struct cursor *bytes, uint8_t *other) {
+    uint32_t way = take(bytes, 1) % 4;
+    if (way < 2 && !left->verdict[0]) return make_over(bytes, left->table.lengths, left->table.arrays, other);
+    if (way < 3) return make_table(bytes, other);
+    size_t length = left->length < MOST_MADE ? left->length : MOST_MADE;
+    if (length) memcpy(other, left->bytes, length);
+    return length;
+}
+
 void join(const struct call *left, struct cursor *bytes) {
     static struct call right;
     static struct output wanted;
     uint8_t other[MOST_MADE];
-    size_t length = left->length < sizeof other ? left->length : sizeof other;
-    if (take(bytes, 1) % 2) length = make_table(bytes, other);
-    else if (length) memcpy(other, left->bytes, length);
+    size_t length = make_other(left, bytes, other);
     begin_call(&right, other, length, left->processors);
     check(&right);
     uint64_t ground = joined(left, &right, &wanted);

@@ -6,6 +6,7 @@
 uint64_t vempaldi_facts(const uint8_t *table, size_t table_length, uint8_t *out, size_t out_length, uint64_t answer[4]) {
     uint64_t written = real_vempaldi_facts(table, table_length, out, out_length, answer);
     if (answer[0]) return written;
+    if (fault("facts-writes-table")) ((uint8_t *)table)[table_length - 1] ^= 0x80;
     uint32_t arrays = number_at(out);
     for (uint32_t q = 0; q < arrays && fault("facts-first-and-length-exchanged"); q++) {
         uint32_t first = number_at(out + 12 + 8 * q);

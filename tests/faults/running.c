@@ -98,6 +98,7 @@ uint64_t vempaldi_run(const uint8_t *table, size_t table_length, uint32_t proces
         for (size_t i = 0; i < order_length; i++) idle += order[i] >= processors;
     }
     if (fault("run-stores-nothing")) put_back(memory, before, memory_length);
+    if (fault("run-writes-order") && order_length) ((uint8_t *)order)[0] ^= 1;
     if (fault("run-refused-writes") && answer[0] && memory_length) memory[0] = 0.5;
     if (fault("all-nan-sign")) other_sign(memory, before, memory_length);
     free(before);

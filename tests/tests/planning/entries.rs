@@ -1,6 +1,7 @@
 //! Every entry of planning with output buffers that are exact, one byte too
 //! short, empty and longer.
 
+use std::hint::black_box;
 use vempaldi_checks::blocks::plan;
 use vempaldi_checks::collisions;
 use vempaldi_checks::damage;
@@ -191,7 +192,10 @@ pub fn needed(entry: &Entry) -> usize {
 
 pub fn with_room(tally: &mut Tally, table: &[u8], entry: &Entry, room: usize) {
     let expected = (entry.expected)(room);
-    match lent::compare(room, &expected, |out| (entry.call)(out)) {
+    let before = table.to_vec();
+    let result = lent::compare(room, &expected, |out| (entry.call)(out));
+    assert!(black_box(table) == before, "{}: the table itself changed", entry.name);
+    match result {
         Ok(answer) => tally.add(answer[0]),
         Err(report) => {
             eprintln!("{}: the library and the second planner disagree", entry.name);

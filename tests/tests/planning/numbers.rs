@@ -51,12 +51,13 @@ fn typed() {
         let wanted: Vec<u8> = wanted.iter().flat_map(|number| number.to_le_bytes()).collect();
         assert_eq!(out[..wanted.len()], wanted);
     };
-    let table = [3, 2, 36, 0, 12, 12, 12, 24, 12, 1, 10, 1, 10];
-    bytes(&|out| library::facts(&EXAMPLE, out), &table);
-    bytes(&|out| library::fused_ranges(&EXAMPLE, 2, 0, out), &[1, 6, 1, 5]);
-    bytes(&|out| library::fused_ranges(&EXAMPLE, 2, 1, out), &[6, 11, 7, 11]);
-    bytes(&|out| library::peeled_ranges(&EXAMPLE, 2, 0, out), &[0, 0, 5, 7]);
-    bytes(&|out| library::peeled_ranges(&EXAMPLE, 2, 1, out), &[0, 0, 0, 0]);
+    let table = EXAMPLE.to_vec();
+    let facts = [3, 2, 36, 0, 12, 12, 12, 24, 12, 1, 10, 1, 10];
+    bytes(&|out| library::facts(&table, out), &facts);
+    bytes(&|out| library::fused_ranges(&table, 2, 0, out), &[1, 6, 1, 5]);
+    bytes(&|out| library::fused_ranges(&table, 2, 1, out), &[6, 11, 7, 11]);
+    bytes(&|out| library::peeled_ranges(&table, 2, 0, out), &[0, 0, 5, 7]);
+    bytes(&|out| library::peeled_ranges(&table, 2, 1, out), &[0, 0, 0, 0]);
 }
 
 /// Tables of one shape: right ones, ones whose iterations meet, damaged ones.
