@@ -2,7 +2,7 @@
 # tests/faults.sh [NAME..]: plants the faults of tests/faults/list in the library of build/ (or of the directory that VEMPALDI_LIB names),
 # one at a time, and shows that the fuzzer and the programs of tests/ find each, as the list says. Without a fault the same archive passes
 # both. All faults are in one archive, and the environment's VEMPALDI_FAULT chooses, so that everything is built once.
-set -eu
+set -euo pipefail
 cd "$(dirname "$0")/.."
 own=$PWD/build/faults
 inputs=4000
@@ -18,7 +18,8 @@ found() {
 }
 by_fuzzer() { found "$own/$VEMPALDI_FAULT.fuzz" '^BREACH in' "$own/driver" "$inputs" 1; }
 by_memcheck() {
-    found "$own/$VEMPALDI_FAULT.memcheck" '== Invalid read' valgrind --quiet --error-exitcode=1 --exit-on-first-error=yes "$own/driver" 300 1
+    found "$own/$VEMPALDI_FAULT.memcheck" '== Invalid read' \
+        valgrind --quiet --error-exitcode=1 --exit-on-first-error=yes "$own/driver" 300 1
 }
 by_tests() {
     local program=${1%%:*} part=
@@ -35,14 +36,13 @@ one() {
     printf '%-34s fuzzer: %-9s tests: %s\n' "$1" "$by_inputs" "$checks"
     [ "$by_inputs $checks" = "$2 $3" ] || { echo "faults: $1: the list says $2 and $3" >&2; return 1; }
 }
-if [ "${1:-}" = --one ]; then
-    one "$2" "$3" "$4"
-    exit
-fi
 
+programs="reading joining planning running threads"
 build() {
-    local library=${VEMPALDI_LIB:-build} source
-    rm -rf "$own/lib" && mkdir -p "$own/lib"
+    local library=${VEMPALDI_LIB:-build} source program path
+    for program in driver $programs; do rm -f "$own/$program"; done
+    rm -rf "$own/lib"
+    mkdir -p "$own/lib"
     grep -oE '\bvempaldi_[a-z_]+\(' include/vempaldi.h | tr -d '(' | sort -u | sed 's/.*/& real_&/' > "$own/names"
     objcopy --redefine-syms="$own/names" "$library/libvempaldi.a" "$own/lib/libvempaldi.a"
     for source in tests/faults/*.c; do
@@ -54,6 +54,7 @@ build() {
         --features planning,running --tests --no-run 2>&1 | tee "$own/cargo.log" |
         sed -nE 's/^ *Executable tests\/([a-z]+)\.rs \((.*)\)$/\1 \2/p' |
         while read -r program path; do ln -sf "$(realpath "$path")" "$own/$program"; done
+    for program in $programs; do test -x "$own/$program"; done
 }
 
 # Without a fault nothing is found, by any part.
@@ -61,14 +62,20 @@ unfaulted() {
     local program
     unset VEMPALDI_FAULT
     "$own/driver" "$inputs" 1 > "$own/none.fuzz" 2>&1 || { cat "$own/none.fuzz"; return 1; }
-    for program in reading joining planning running threads; do
+    for program in $programs; do
         "$own/$program" > "$own/none.$program" 2>&1 || { cat "$own/none.$program"; return 1; }
     done
     echo "without a fault: nothing found, by the fuzzer and by all programs"
 }
 
+# The parts that this script starts once more, so that a failure in them ends them.
+case ${1:-} in
+--one) one "$2" "$3" "$4"; exit ;;
+--build) build; exit ;;
+esac
 mkdir -p "$own"
-build > "$own/build.log" 2>&1 || { cat "$own/build.log" "$own/cargo.log"; exit 1; }
+: > "$own/cargo.log"
+bash tests/faults.sh --build > "$own/build.log" 2>&1 || { cat "$own/build.log" "$own/cargo.log"; exit 1; }
 lines=$(grep -vE '^#|^$' tests/faults/list | awk '{print "--one", $1, $2, $3}')
 for name in "$@"; do grep -qE "^$name " tests/faults/list || { echo "faults: $name is not in the list" >&2; exit 2; }; done
 [ $# -eq 0 ] || lines=$(for name in "$@"; do printf '%s\n' "$lines" | grep -E " $name "; done)
