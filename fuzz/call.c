@@ -8,9 +8,9 @@
 
 enum { MOST_READS = 16, PATTERN = 4096 };
 
-static const char *const names[ENTRIES] = {"check",      "join",       "facts",       "shifts and peels", "threshold",
-                                           "sweeps",     "blocks",     "listing",     "fused list",       "peeled list",
-                                           "fused ranges", "peeled ranges", "plain run", "step",          "run"};
+static const char *const names[ENTRIES] = {"check",      "join",        "facts",        "shifts and peels", "threshold",
+                                           "sweeps",     "blocks",      "listing",      "fused list",       "peeled list",
+                                           "fused ranges", "peeled ranges", "plain run", "step",            "run"};
 
 static uint64_t met[ENTRIES][16], named_reads[MOST_READS];
 

@@ -73,11 +73,11 @@ case ${1:-} in
 --one) one "$2" "$3" "$4"; exit ;;
 --build) build; exit ;;
 esac
+for name in "$@"; do grep -qE "^$name " tests/faults/list || { echo "faults: $name is not in the list" >&2; exit 2; }; done
 mkdir -p "$own"
 : > "$own/cargo.log"
 bash tests/faults.sh --build > "$own/build.log" 2>&1 || { cat "$own/build.log" "$own/cargo.log"; exit 1; }
 lines=$(grep -vE '^#|^$' tests/faults/list | awk '{print "--one", $1, $2, $3}')
-for name in "$@"; do grep -qE "^$name " tests/faults/list || { echo "faults: $name is not in the list" >&2; exit 2; }; done
 [ $# -eq 0 ] || lines=$(for name in "$@"; do printf '%s\n' "$lines" | grep -E " $name "; done)
 if [ $# -gt 0 ]; then
     printf '%s\n' "$lines" | xargs -L 1 bash tests/faults.sh
