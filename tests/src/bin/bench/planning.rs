@@ -90,21 +90,14 @@ pub fn listings(tables: &[Table], processors: u32) -> Pair {
 
 /// Reading the table and finding shifts and peels, without any text.
 fn compare_amounts(name: &str, tables: &[Table]) {
-    let pair = beside(
-        tables,
-        |table, out| library::shifts_and_peels(table, out),
-        |table| outputs::shifts_and_peels(table, ROOM),
-    );
+    let pair =
+        beside(tables, library::shifts_and_peels, |table| outputs::shifts_and_peels(table, ROOM));
     measure::print(name, "table", &pair);
 }
 
 /// Reading the table and telling what it has.
 fn compare_facts(name: &str, tables: &[Table]) {
-    let pair = beside(
-        tables,
-        |table, out| library::facts(table, out),
-        |table| outputs::facts(table, ROOM),
-    );
+    let pair = beside(tables, library::facts, |table| outputs::facts(table, ROOM));
     measure::print(name, "table", &pair);
 }
 
