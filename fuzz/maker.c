@@ -38,6 +38,8 @@ struct making {
     size_t length;
     int flaws, arrays;
     int64_t lengths[17];
+    /* Where the loop at hand stores. */
+    int64_t stored, offset;
 };
 
 static void put(struct making *made, uint32_t value, int count) {
@@ -59,13 +61,16 @@ static void make_arrays(struct making *made) {
     }
 }
 
-/* An array and an offset that keep the indices inside it; where none does, offset 0. */
+/* A read of an array at an offset that keeps the indices inside it. Where there is none, and mostly where the array is the one that the
+ * loop stores, it reads what it stores, for most other reads would meet 7 or 9. */
 static void reference(struct making *made, int64_t first, int64_t last, int near) {
     int64_t q = between(made->bytes, 0, made->arrays - 1, made->flaws);
     int64_t length = q >= 0 && q < made->arrays ? made->lengths[q] : 1;
     int64_t low = -first < -near ? -near : -first, high = length - 1 - last > near ? near : length - 1 - last;
+    int64_t offset = low <= high ? between(made->bytes, low, high, made->flaws) : 0;
+    if ((low > high || q == made->stored) && take(made->bytes, 1) % 8) q = made->stored, offset = made->offset;
     put(made, (uint32_t)q, 1);
-    put(made, (uint32_t)(low <= high ? between(made->bytes, low, high, made->flaws) : 0), 2);
+    put(made, (uint32_t)offset, 2);
 }
 
 static void make_item(struct making *made, int64_t first, int64_t last, int near, int *waiting, int left) {
@@ -94,23 +99,40 @@ static void make_loop(struct making *made, int near) {
     int64_t margin = near < length / 3 ? near : length / 3, first = margin, last = length - 1 - margin;
     if (take(bytes, 1) % 4 == 0) first = between(bytes, first, last, made->flaws);
     if (take(bytes, 1) % 4 == 0) last = between(bytes, first, last, made->flaws);
+    made->stored = q, made->offset = between(bytes, -margin, margin, made->flaws);
     put(made, 2, 1);
     put(made, (uint32_t)first, 4);
     put(made, (uint32_t)last, 4);
     put(made, (uint32_t)q, 1);
-    put(made, (uint32_t)between(bytes, -margin, margin, made->flaws), 2);
+    put(made, (uint32_t)made->offset, 2);
     int items = (int)between(bytes, 1, take(bytes, 1) % 8 ? 7 : 32, made->flaws), waiting = 0;
     for (int i = 0; i < items; i++) make_item(made, first, last, near, &waiting, items - i - 1);
 }
 
-size_t make_table(struct cursor *bytes, uint8_t *out) {
-    struct making made = {bytes, out, 0, take(bytes, 1) % 4 == 0, 0, {0}};
-    make_arrays(&made);
+/* Some loops over the arrays, and the end. */
+static size_t make_loops(struct making *made) {
+    struct cursor *bytes = made->bytes;
     int near = take(bytes, 1) % 8 ? (int)(take(bytes, 1) % 4) : 255;
-    int loops = (int)between(bytes, 1, take(bytes, 1) % 8 ? 4 : 16, made.flaws);
-    for (int k = 0; k < loops; k++) make_loop(&made, near);
-    put(&made, 6, 1);
-    return made.length;
+    int loops = (int)between(bytes, 1, take(bytes, 1) % 8 ? 4 : 16, made->flaws);
+    for (int k = 0; k < loops; k++) make_loop(made, near);
+    put(made, 6, 1);
+    return made->length;
+}
+
+size_t make_table(struct cursor *bytes, uint8_t *out) {
+    struct making made = {bytes, out, 0, take(bytes, 1) % 4 == 0, 0, {0}, 0, 0};
+    make_arrays(&made);
+    return make_loops(&made);
+}
+
+size_t make_over(struct cursor *bytes, const int64_t *lengths, int arrays, uint8_t *out) {
+    struct making made = {bytes, out, 0, 0, arrays, {0}, 0, 0};
+    for (int q = 0; q < arrays; q++) {
+        made.lengths[q] = lengths[q];
+        put(&made, 1, 1);
+        put(&made, (uint32_t)lengths[q], 4);
+    }
+    return make_loops(&made);
 }
 
 static size_t damaged(struct cursor *bytes, uint8_t *out, size_t length) {
@@ -139,61 +161,4 @@ size_t any_table(struct cursor *bytes, uint8_t *out) {
     }
     size_t length = make_table(bytes, out);
     return way % 8 == 1 ? damaged(bytes, out, length) : length;
-}
-
-static uint64_t number(const uint8_t *at) {
-    return at[0] | (uint64_t)at[1] << 8 | (uint64_t)at[2] << 16 | (uint64_t)at[3] << 24;
-}
-
-/* The lengths of bodies, by kind. */
-static const size_t bodies[] = {0, 4, 11, 3, 4, 1, 0};
-
-struct sizes sizes_of(const uint8_t *table, size_t length) {
-    struct sizes sizes = {0, 0, 0};
-    for (size_t at = 0; at < length; at += 1 + bodies[table[at]]) {
-        if (table[at] == 1) sizes.elements += number(table + at + 1);
-        if (table[at] == 2) {
-            sizes.loops++;
-            sizes.iterations += number(table + at + 5) - number(table + at + 1) + 1;
-        }
-    }
-    return sizes;
-}
-
-static int64_t offset(const uint8_t *at) {
-    int64_t value = at[0] | (int64_t)at[1] << 8;
-    return value < 32768 ? value : value - 65536;
-}
-
-/* Whether some iteration stores, at offset `stored`, the element that another one reads at offset `read`. They are tried one by one; a
- * loop that is long enough to make this slow meets within the first few. */
-static int meets(int64_t first, int64_t last, int64_t stored, int64_t read) {
-    if (stored == read) return 0;
-    for (int64_t i = first; i <= last; i++) {
-        int64_t other = i + stored - read;
-        if (other >= first && other <= last) return 1;
-    }
-    return 0;
-}
-
-struct collision first_collision(const uint8_t *table, size_t length) {
-    struct collision at_hand = {0, 0, 0};
-    const uint8_t *loop = NULL;
-    uint64_t loops = 0;
-    for (size_t at = 0; at < length; at += 1 + bodies[table[at]]) {
-        const uint8_t *record = table + at;
-        if (record[0] < 1 || record[0] > 6 || bodies[record[0]] >= length - at) break;
-        if (record[0] == 2) {
-            loop = record;
-            at_hand = (struct collision){0, loops++, 0};
-        }
-        if (record[0] != 3 || !loop) continue;
-        int own = record[1] == loop[9];
-        if (own && meets((int64_t)number(loop + 1), (int64_t)number(loop + 5), offset(loop + 10), offset(record + 2))) {
-            at_hand.found = 1;
-            return at_hand;
-        }
-        at_hand.read++;
-    }
-    return (struct collision){0, 0, 0};
 }

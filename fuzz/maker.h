@@ -14,17 +14,6 @@ struct cursor {
     uint64_t drawn;
 };
 
-/* Sizes of an accepted table. */
-struct sizes {
-    uint64_t elements, loops, iterations;
-};
-
-/* The lowest loop of which two iterations meet, and the lowest of its reads that meets the destination in another iteration. */
-struct collision {
-    int found;
-    uint64_t loop, read;
-};
-
 /* A number of 1, 2 or 4 bytes. Past the input's end the numbers follow from what was there, so that short inputs make whole tables. */
 uint32_t take(struct cursor *bytes, int count);
 uint64_t mixed(uint64_t number);
@@ -32,12 +21,10 @@ uint64_t mixed(uint64_t number);
 /* A table that is mostly accepted. Answers its length, at most MOST_MADE. */
 size_t make_table(struct cursor *bytes, uint8_t *out);
 
+/* The same over arrays of these lengths, without flaws. */
+size_t make_over(struct cursor *bytes, const int64_t *lengths, int arrays, uint8_t *out);
+
 /* The input's bytes as they are, or a made table, perhaps damaged. */
 size_t any_table(struct cursor *bytes, uint8_t *out);
-
-struct sizes sizes_of(const uint8_t *table, size_t length);
-
-/* Of a table that meets none of the grounds 1 to 8. Bytes that are no records end the search, which has then found nothing. */
-struct collision first_collision(const uint8_t *table, size_t length);
 
 #endif

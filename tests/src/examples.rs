@@ -1,5 +1,4 @@
-//! Tables that docs/TABLE.md gives in words, typed byte by byte or record by
-//! record.
+//! Tables of the known results, typed byte by byte or record by record.
 
 use crate::encoder::Encoder;
 

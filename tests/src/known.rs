@@ -1,12 +1,14 @@
-//! The known results of docs/TABLE.md that concern planning and running.
+//! Known results of planning and running, typed.
 
 use crate::blocks::{plan, Range};
 use crate::encoder::Encoder;
 use crate::examples::*;
+use crate::facts::facts;
 use crate::interpreter::plain_run;
 use crate::listing::listing;
 use crate::lists::{lists, Iteration};
 use crate::memories::{bits, own_index};
+use crate::outputs;
 use crate::planner::{amounts, threshold};
 use crate::reader::read;
 use crate::stepping::run;
@@ -99,6 +101,26 @@ fn the_example_has_its_lists() {
 }
 
 #[test]
+fn the_example_has_its_facts() {
+    let arrays = [0, 12, 12, 12, 24, 12];
+    let loops = [1, 10, 1, 10];
+    assert_eq!(facts(&table(&EXAMPLE)), [&[3, 2, 36], &arrays[..], &loops[..]].concat());
+}
+
+#[test]
+fn the_example_has_its_ranges() {
+    let numbers = |output: outputs::Output| -> Vec<u8> {
+        let bytes = output.expect("accepted");
+        assert!(bytes.chunks(4).all(|number| number[1..] == [0, 0, 0]));
+        bytes.into_iter().step_by(4).collect()
+    };
+    assert_eq!(numbers(outputs::fused_ranges(&EXAMPLE, 2, 0, 16)), [1, 6, 1, 5]);
+    assert_eq!(numbers(outputs::fused_ranges(&EXAMPLE, 2, 1, 16)), [6, 11, 7, 11]);
+    assert_eq!(numbers(outputs::peeled_ranges(&EXAMPLE, 2, 0, 16)), [0, 0, 5, 7]);
+    assert_eq!(numbers(outputs::peeled_ranges(&EXAMPLE, 2, 1, 16)), [0, 0, 0, 0]);
+}
+
+#[test]
 fn the_example_sweeps_6_before_and_5_after() {
     assert_eq!(sweeps(&table(&EXAMPLE)), Sweeps { before: 6, after: 5 });
 }
@@ -139,7 +161,7 @@ fn idle_bytes_are_counted() {
 }
 
 #[test]
-fn zero_divided_by_zero_is_stored_with_the_bits_of_the_one_nan() {
+fn zero_divided_by_zero_is_stored_as_the_header_says() {
     let table = Encoder::new().array(1).a_loop(0, 0, 0, 0).constant(0).constant(0).operation(4);
     let mut memory = [1.0];
     plain_run(&table.end().bytes, &mut memory).expect("accepted");

@@ -1,5 +1,5 @@
-//! A second implementation of what docs/TABLE.md says, made to be compared with the proved
-//! library, and the calls into that library.
+//! A second implementation, made to be compared with the proved library, and
+//! the calls into that library.
 
 pub mod blocks;
 pub mod bodies;
@@ -8,6 +8,7 @@ pub mod damage;
 pub mod dependence;
 pub mod encoder;
 pub mod examples;
+pub mod facts;
 pub mod interpreter;
 pub mod join;
 #[cfg(test)]
@@ -26,6 +27,7 @@ pub mod memories;
 pub mod misnamed;
 pub mod outcome;
 pub mod outputs;
+pub mod parts;
 pub mod planner;
 pub mod processors;
 pub mod random;

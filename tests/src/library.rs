@@ -3,6 +3,7 @@
 use crate::outcome::Answer;
 
 extern "C" {
+    fn vempaldi_version() -> u32;
     fn vempaldi_check(table: *const u8, table_len: usize, answer: *mut Answer);
     fn vempaldi_join(
         left: *const u8,
@@ -17,6 +18,11 @@ extern "C" {
 
 /// What stands in an answer before the call. No call may leave it there.
 pub const UNWRITTEN: Answer = [u64::MAX; 4];
+
+pub fn version() -> u32 {
+    // SAFETY: the call takes nothing.
+    unsafe { vempaldi_version() }
+}
 
 pub fn check(table: &[u8]) -> Answer {
     let mut answer = UNWRITTEN;

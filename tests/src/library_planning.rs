@@ -4,6 +4,13 @@ use crate::library::UNWRITTEN;
 use crate::outcome::Answer;
 
 extern "C" {
+    fn vempaldi_facts(
+        table: *const u8,
+        table_len: usize,
+        out: *mut u8,
+        out_len: usize,
+        answer: *mut Answer,
+    ) -> u64;
     fn vempaldi_shifts_and_peels(
         table: *const u8,
         table_len: usize,
@@ -59,12 +66,34 @@ extern "C" {
         out_len: usize,
         answer: *mut Answer,
     ) -> u64;
+    fn vempaldi_fused_ranges(
+        table: *const u8,
+        table_len: usize,
+        processors: u32,
+        processor: u32,
+        out: *mut u8,
+        out_len: usize,
+        answer: *mut Answer,
+    ) -> u64;
+    fn vempaldi_peeled_ranges(
+        table: *const u8,
+        table_len: usize,
+        processors: u32,
+        processor: u32,
+        out: *mut u8,
+        out_len: usize,
+        answer: *mut Answer,
+    ) -> u64;
 }
 
 type OfTable = unsafe extern "C" fn(*const u8, usize, *mut u8, usize, *mut Answer) -> u64;
 type OfPlan = unsafe extern "C" fn(*const u8, usize, u32, *mut u8, usize, *mut Answer) -> u64;
 type OfProcessor =
     unsafe extern "C" fn(*const u8, usize, u32, u32, *mut u8, usize, *mut Answer) -> u64;
+
+pub fn facts(table: &[u8], out: &mut [u8]) -> (Answer, u64) {
+    of_table(vempaldi_facts, table, out)
+}
 
 pub fn shifts_and_peels(table: &[u8], out: &mut [u8]) -> (Answer, u64) {
     of_table(vempaldi_shifts_and_peels, table, out)
@@ -92,6 +121,24 @@ pub fn fused_list(table: &[u8], processors: u32, processor: u32, out: &mut [u8])
 
 pub fn peeled_list(table: &[u8], processors: u32, processor: u32, out: &mut [u8]) -> (Answer, u64) {
     of_processor(vempaldi_peeled_list, table, processors, processor, out)
+}
+
+pub fn fused_ranges(
+    table: &[u8],
+    processors: u32,
+    processor: u32,
+    out: &mut [u8],
+) -> (Answer, u64) {
+    of_processor(vempaldi_fused_ranges, table, processors, processor, out)
+}
+
+pub fn peeled_ranges(
+    table: &[u8],
+    processors: u32,
+    processor: u32,
+    out: &mut [u8],
+) -> (Answer, u64) {
+    of_processor(vempaldi_peeled_ranges, table, processors, processor, out)
 }
 
 fn of_table(entry: OfTable, table: &[u8], out: &mut [u8]) -> (Answer, u64) {

@@ -1,5 +1,5 @@
 //! Every limit of a table from both sides. The answer that each table gets is
-//! typed here from docs/TABLE.md, not computed.
+//! typed here from the grounds' words, not computed.
 
 use crate::encoder::Encoder;
 use crate::examples::{reads_own_array, EXAMPLE};

@@ -1,6 +1,7 @@
 //! What each public entry of planning writes, for an output of `room` bytes.
 
-use crate::blocks::{number_below, plan, Plan};
+use crate::blocks::{number_below, plan, Plan, Range};
+use crate::facts;
 use crate::listing;
 use crate::lists::{self, Iteration};
 use crate::outcome::Refusal;
@@ -11,6 +12,10 @@ use crate::sweeps;
 const BUFFER: u64 = 13;
 
 pub type Output = Result<Vec<u8>, Refusal>;
+
+pub fn facts(table: &[u8], room: usize) -> Output {
+    fit(encode(facts::facts(&read(table)?)), room)
+}
 
 pub fn shifts_and_peels(table: &[u8], room: usize) -> Output {
     let amounts = planner::amounts(&read(table)?);
@@ -29,27 +34,45 @@ pub fn blocks(table: &[u8], processors: u32, room: usize) -> Output {
 }
 
 pub fn fused_list(table: &[u8], processors: u32, processor: u32, room: usize) -> Output {
-    list(table, processors, processor, room, lists::fused)
+    of_processor(table, processors, processor, room, |plan, b| numbers(&lists::fused(plan, b)))
 }
 
 pub fn peeled_list(table: &[u8], processors: u32, processor: u32, room: usize) -> Output {
-    list(table, processors, processor, room, lists::peeled)
+    of_processor(table, processors, processor, room, |plan, b| numbers(&lists::peeled(plan, b)))
+}
+
+pub fn fused_ranges(table: &[u8], processors: u32, processor: u32, room: usize) -> Output {
+    of_processor(table, processors, processor, room, |plan, b| ranges(plan, b, Plan::fused))
+}
+
+pub fn peeled_ranges(table: &[u8], processors: u32, processor: u32, room: usize) -> Output {
+    of_processor(table, processors, processor, room, |plan, b| ranges(plan, b, Plan::peeled))
 }
 
 /// Ground 10 is asked of both numbers before ground 11.
-fn list(
+fn of_processor(
     table: &[u8],
     processors: u32,
     processor: u32,
     room: usize,
-    part: fn(&Plan, usize) -> Vec<Iteration>,
+    part: impl Fn(&Plan, usize) -> Vec<i64>,
 ) -> Output {
     let table = read(table)?;
     number_below(processor, processors)?;
     let plan = plan(&table, processors)?;
-    let list = part(&plan, processor as usize);
-    let numbers = list.iter().flat_map(|one| [one.loop_number.into(), one.index.into()]);
-    fit(encode(numbers), room)
+    fit(encode(part(&plan, processor as usize)), room)
+}
+
+/// The loop and the index of each iteration.
+fn numbers(list: &[Iteration]) -> Vec<i64> {
+    list.iter().flat_map(|one| [one.loop_number.into(), one.index.into()]).collect()
+}
+
+/// Each loop's first index and the index past its last, 0 and 0 where there
+/// is none.
+fn ranges(plan: &Plan, b: usize, part: fn(&Plan, usize, usize) -> Range) -> Vec<i64> {
+    let ends = |range: Range| if range.count() > 0 { [range.a, range.e + 1] } else { [0, 0] };
+    (0..plan.amounts.len()).flat_map(|k| ends(part(plan, b, k))).collect()
 }
 
 pub fn sweeps(table: &[u8], room: usize) -> Output {

@@ -246,7 +246,7 @@ mod tests {
     }
 
     #[test]
-    fn the_example_says_what_its_text_says() {
+    fn the_example_says_what_was_typed() {
         let add = Item::Operation(Operation::Add);
         let first = vec![Item::Read(at(1, 0)), Item::Constant(1), add];
         let second = vec![Item::Read(at(0, -1)), Item::Read(at(0, 1)), add];
@@ -287,7 +287,7 @@ mod tests {
         }
     }
 
-    /// The sentence of ground 9, pair by pair: some iteration stores the element
+    /// The ground's sentence, pair by pair: some iteration stores the element
     /// that another one reads, both inside the bounds.
     fn meets(one: &Loop, read: Reference) -> bool {
         let store = one.destination;

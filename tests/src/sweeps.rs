@@ -1,4 +1,5 @@
-//! Sweeps over the arrays before and after fusion (docs/TABLE.md, 'Sweeps').
+//! Sweeps over the arrays before and after fusion: the sizes of the sets of
+//! arrays that are touched and that are written.
 
 use crate::table::{Loop, Table};
 use std::collections::BTreeSet;

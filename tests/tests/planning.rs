@@ -1,12 +1,23 @@
 //! Compares the library's plans with the second planner's: listings, lists,
-//! and every entry with buffers that are exact, too short and longer.
+//! facts, ranges, and every entry with buffers that are exact, too short and
+//! longer. Arguments name the parts to run; without any, all are.
 
 #[path = "planning/entries.rs"]
 mod entries;
 #[path = "planning/listings.rs"]
 mod listings;
+#[path = "planning/numbers.rs"]
+mod numbers;
+#[path = "planning/version.rs"]
+mod version;
+
+use vempaldi_checks::parts;
 
 fn main() {
-    listings::compare_all();
-    entries::compare_all();
+    parts::run(&[
+        ("version", version::compare),
+        ("listings", listings::compare_all),
+        ("entries", entries::compare_all),
+        ("numbers", numbers::compare_all),
+    ]);
 }

@@ -1,6 +1,7 @@
 //! Compares what the library does to a memory with what the second
 //! interpreter does: the plain run, rows of steps, single steps from any
-//! state, and runs in a caller's order.
+//! state, and runs in a caller's order. Arguments name the parts to run;
+//! without any, all are.
 
 #[path = "running/nans.rs"]
 mod nans;
@@ -19,10 +20,14 @@ mod states;
 #[path = "running/stop.rs"]
 mod stop;
 
+use vempaldi_checks::parts;
+
 fn main() {
-    nans::compare_all();
-    plain::compare_all();
-    rows::compare_all();
-    states::compare_all();
-    orders::compare_all();
+    parts::run(&[
+        ("nans", nans::compare_all),
+        ("plain", plain::compare_all),
+        ("rows", rows::compare_all),
+        ("states", states::compare_all),
+        ("orders", orders::compare_all),
+    ]);
 }

@@ -1,6 +1,7 @@
 //! Every entry of planning with output buffers that are exact, one byte too
 //! short, empty and longer.
 
+use std::hint::black_box;
 use vempaldi_checks::blocks::plan;
 use vempaldi_checks::collisions;
 use vempaldi_checks::damage;
@@ -22,7 +23,7 @@ type Expected<'a> = Box<dyn Fn(usize) -> Output + 'a>;
 type Call<'a> = Box<dyn Fn(&mut [u8]) -> (Answer, u64) + 'a>;
 
 /// One entry with all its arguments but the output.
-struct Entry<'a> {
+pub struct Entry<'a> {
     name: &'static str,
     expected: Expected<'a>,
     call: Call<'a>,
@@ -42,7 +43,7 @@ pub fn compare_all() {
     tally.require(&[0, 1, 2, 3, 4, 5, 6, 7, 8, 9, 10, 11, 13], LEAST_OF_EACH);
 }
 
-/// All lists of all processors, and one processor too many.
+/// All lists and ranges of all processors, and one processor too many.
 fn every_list(tally: &mut Tally) -> u64 {
     let mut random = Random::new(20);
     let mut plans = 0;
@@ -91,8 +92,17 @@ fn every_entry(tally: &mut Tally, table: &[u8], processors: u32, processor: u32)
     }
 }
 
-fn of_table(table: &[u8], processors: u32) -> [Entry<'_>; 5] {
+pub fn facts(table: &[u8]) -> Entry<'_> {
+    Entry {
+        name: "facts",
+        expected: Box::new(|room| outputs::facts(table, room)),
+        call: Box::new(|out| library::facts(table, out)),
+    }
+}
+
+fn of_table(table: &[u8], processors: u32) -> [Entry<'_>; 6] {
     [
+        facts(table),
         Entry {
             name: "shifts and peels",
             expected: Box::new(|room| outputs::shifts_and_peels(table, room)),
@@ -121,7 +131,27 @@ fn of_table(table: &[u8], processors: u32) -> [Entry<'_>; 5] {
     ]
 }
 
-fn of_processor(table: &[u8], processors: u32, processor: u32) -> [Entry<'_>; 2] {
+/// The ranges of a processor, fused and peeled.
+pub fn ranges(table: &[u8], processors: u32, processor: u32) -> [Entry<'_>; 2] {
+    [
+        Entry {
+            name: "fused ranges",
+            expected: Box::new(move |room| {
+                outputs::fused_ranges(table, processors, processor, room)
+            }),
+            call: Box::new(move |out| library::fused_ranges(table, processors, processor, out)),
+        },
+        Entry {
+            name: "peeled ranges",
+            expected: Box::new(move |room| {
+                outputs::peeled_ranges(table, processors, processor, room)
+            }),
+            call: Box::new(move |out| library::peeled_ranges(table, processors, processor, out)),
+        },
+    ]
+}
+
+fn lists(table: &[u8], processors: u32, processor: u32) -> [Entry<'_>; 2] {
     [
         Entry {
             name: "fused list",
@@ -138,22 +168,40 @@ fn of_processor(table: &[u8], processors: u32, processor: u32) -> [Entry<'_>; 2]
     ]
 }
 
+fn of_processor(table: &[u8], processors: u32, processor: u32) -> impl Iterator<Item = Entry<'_>> {
+    let lists = lists(table, processors, processor);
+    lists.into_iter().chain(ranges(table, processors, processor))
+}
+
+/// No room, one byte too little, enough, and more.
 fn every_room(tally: &mut Tally, table: &[u8], entry: &Entry) {
-    let needed = (entry.expected)(usize::MAX).map_or(0, |bytes| bytes.len());
+    let needed = needed(entry);
     let mut rooms = vec![needed, needed + 17];
     if needed > 0 {
         rooms.extend([needed - 1, 0]);
     }
     for room in rooms {
-        let expected = (entry.expected)(room);
-        match lent::compare(room, &expected, |out| (entry.call)(out)) {
-            Ok(answer) => tally.add(answer[0]),
-            Err(report) => {
-                eprintln!("{}: the library and the second planner disagree", entry.name);
-                eprintln!("  table    {}", hex(table));
-                eprintln!("{report}");
-                std::process::exit(1);
-            }
+        with_room(tally, table, entry, room);
+    }
+}
+
+/// The bytes that an accepted call writes, 0 where it is refused.
+pub fn needed(entry: &Entry) -> usize {
+    (entry.expected)(usize::MAX).map_or(0, |bytes| bytes.len())
+}
+
+pub fn with_room(tally: &mut Tally, table: &[u8], entry: &Entry, room: usize) {
+    let expected = (entry.expected)(room);
+    let before = table.to_vec();
+    let result = lent::compare(room, &expected, |out| (entry.call)(out));
+    assert!(black_box(table) == before, "{}: the table itself changed", entry.name);
+    match result {
+        Ok(answer) => tally.add(answer[0]),
+        Err(report) => {
+            eprintln!("{}: the library and the second planner disagree", entry.name);
+            eprintln!("  table    {}", hex(table));
+            eprintln!("{report}");
+            std::process::exit(1);
         }
     }
 }

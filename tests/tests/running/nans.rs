@@ -56,7 +56,7 @@ fn two_operands(left: u64, right: u64) -> u64 {
 }
 
 /// 1 if the stored result is not a number, which must then have the one
-/// pattern of docs/TABLE.md.
+/// pattern of the header.
 fn compare(body: Encoder, memory: [u64; 3]) -> u64 {
     let table = body.end().bytes;
     let mut wanted = memory.map(f64::from_bits);

@@ -3,6 +3,7 @@
 
 use crate::plans::{planned, Planned};
 use crate::stop::{first_difference, same_bits, stop};
+use std::hint::black_box;
 use vempaldi_checks::collisions;
 use vempaldi_checks::damage;
 use vempaldi_checks::encoder::encode;
@@ -79,7 +80,10 @@ fn any_order(random: &mut Random, planned: &Planned) -> Vec<u8> {
 fn compare(tally: &mut Tally, table: &[u8], processors: u32, order: &[u8], start: &[f64]) -> u64 {
     let mut found = start.to_vec();
     let mut wanted = start.to_vec();
+    let before = [table, order].concat();
     let (answer, idle) = library::run(table, processors, order, &mut found);
+    let after = [black_box(table), black_box(order)].concat();
+    assert!(before == after, "the table or the order itself changed");
     let expected = run(table, processors, order, &mut wanted);
     let wanted_idle = *expected.as_ref().unwrap_or(&0);
     let same = agrees(&answer, expected.as_ref().err())
@@ -120,7 +124,7 @@ fn same_as_row(planned: &Planned, order: &[u8], start: &[f64]) {
         let mut report = [9; 3];
         let answer =
             library::step(&planned.bytes, processors, named, counts, &mut memory, &mut report);
-        answer == ACCEPTED && report[0] == 0
+        answer == ACCEPTED && report[0] == 1
     };
     for &byte in order {
         idle += u64::from(!call(u32::from(byte), &mut counts));

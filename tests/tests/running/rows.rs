@@ -79,15 +79,16 @@ struct State {
     wanted: Vec<f64>,
 }
 
-/// What stands in a report before a call; a refused call leaves it there.
+/// What stands in a report before a call; a refused call leaves it there, and
+/// so it would a zeroed one: no report is 0.
 const NO_REPORT: [u32; 3] = [91, 92, 93];
 
 /// The three numbers of a report; waiting and finished have 0 behind them.
 pub fn numbers(report: Report) -> [u32; 3] {
     match report {
-        Report::Done(one) => [0, one.loop_number, one.index],
-        Report::Waiting => [1, 0, 0],
-        Report::Finished => [2, 0, 0],
+        Report::Done(one) => [1, one.loop_number, one.index],
+        Report::Waiting => [2, 0, 0],
+        Report::Finished => [3, 0, 0],
     }
 }
 

@@ -38,9 +38,10 @@ const fn entry(name: &'static str, call: fn(&Given) -> Came) -> Entry {
     Entry { name, call }
 }
 
-pub const ENTRIES: [Entry; 12] = [
+pub const ENTRIES: [Entry; 15] = [
     entry("check", |g| Came { answer: library::check(g.table), sum: 0 }),
     entry("join", |g| output(g, |out| library::join(g.table, g.table, out))),
+    entry("facts", |g| output(g, |out| planning::facts(g.table, out))),
     entry("shifts and peels", |g| output(g, |out| planning::shifts_and_peels(g.table, out))),
     entry("threshold", |g| output(g, |out| planning::threshold(g.table, out))),
     entry("sweeps", |g| output(g, |out| planning::sweeps(g.table, out))),
@@ -51,6 +52,12 @@ pub const ENTRIES: [Entry; 12] = [
     }),
     entry("peeled list", |g| {
         output(g, |out| planning::peeled_list(g.table, g.processors, g.processor, out))
+    }),
+    entry("fused ranges", |g| {
+        output(g, |out| planning::fused_ranges(g.table, g.processors, g.processor, out))
+    }),
+    entry("peeled ranges", |g| {
+        output(g, |out| planning::peeled_ranges(g.table, g.processors, g.processor, out))
     }),
     entry("plain run", plain_run),
     entry("run", run),

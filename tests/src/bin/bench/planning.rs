@@ -30,6 +30,10 @@ pub fn measure() {
     compare_amounts("shifts and peels alone, 400 mixed tables", &mixed);
     compare_amounts("shifts and peels alone, full tables, each array stored once", &full);
     compare_amounts("shifts and peels alone, full tables, two arrays shared", &dense);
+    compare_facts("facts, 400 mixed tables", &mixed);
+    compare_facts("facts, full tables", &full);
+    compare_ranges("fused and peeled ranges of all 16 processors, 400 mixed tables", &mixed);
+    compare_ranges("fused and peeled ranges of all 16 processors, full tables", &full);
 }
 
 fn repeat(count: usize, mut make: impl FnMut() -> Table) -> Vec<Table> {
@@ -86,10 +90,34 @@ pub fn listings(tables: &[Table], processors: u32) -> Pair {
 
 /// Reading the table and finding shifts and peels, without any text.
 fn compare_amounts(name: &str, tables: &[Table]) {
+    let pair =
+        beside(tables, library::shifts_and_peels, |table| outputs::shifts_and_peels(table, ROOM));
+    measure::print(name, "table", &pair);
+}
+
+/// Reading the table and telling what it has.
+fn compare_facts(name: &str, tables: &[Table]) {
+    let pair = beside(tables, library::facts, |table| outputs::facts(table, ROOM));
+    measure::print(name, "table", &pair);
+}
+
+/// What a code generator asks for: both calls for each processor, each of
+/// which reads and plans the table again.
+fn compare_ranges(name: &str, tables: &[Table]) {
     let pair = beside(
         tables,
-        |table, out| library::shifts_and_peels(table, out),
-        |table| outputs::shifts_and_peels(table, ROOM),
+        |table, out| {
+            for processor in 0..PROCESSORS {
+                black_box(library::fused_ranges(table, PROCESSORS, processor, out));
+                black_box(library::peeled_ranges(table, PROCESSORS, processor, out));
+            }
+        },
+        |table| {
+            for processor in 0..PROCESSORS {
+                let _ = black_box(outputs::fused_ranges(table, PROCESSORS, processor, ROOM));
+                let _ = black_box(outputs::peeled_ranges(table, PROCESSORS, processor, ROOM));
+            }
+        },
     );
     measure::print(name, "table", &pair);
 }

@@ -1,0 +1,113 @@
+/* What is expected of an answer, breaches, and lent bytes between guards. */
+#include "call.h"
+
+#include <inttypes.h>
+#include <stdio.h>
+#include <stdlib.h>
+#include <string.h>
+
+enum { MOST_READS = 16, PATTERN = 4096 };
+
+static const char *const names[ENTRIES] = {"check",      "join",        "facts",        "shifts and peels", "threshold",
+                                           "sweeps",     "blocks",      "listing",      "fused list",       "peeled list",
+                                           "fused ranges", "peeled ranges", "plain run", "step",            "run"};
+
+static uint64_t met[ENTRIES][16], named_reads[MOST_READS];
+
+/* The library is not instrumented, so the fuzzer learns what is new from the answers. Without libFuzzer this is a plain array. */
+#if defined(__clang__)
+__attribute__((section("__libfuzzer_extra_counters")))
+#endif
+static uint8_t novel[ENTRIES * 16 * 64];
+
+void begin_call(struct call *call, const uint8_t *bytes, size_t length, uint32_t processors) {
+    call->bytes = bytes, call->length = length, call->processors = processors, call->processor = 0;
+    read_table(bytes, length, &call->table, call->verdict);
+    if (call->verdict[0]) return;
+    find_amounts(&call->table, &call->plan);
+    call->planned = find_blocks(&call->plan, processors);
+}
+
+void expect(struct call *call, enum entry entry, uint64_t ground) {
+    call->entry = entry;
+    memcpy(call->expected, call->verdict, sizeof call->expected);
+    if (!call->verdict[0]) call->expected[0] = ground;
+    memset(call->answer, 0xee, sizeof call->answer);
+}
+
+uint64_t plan_ground(const struct call *call, int has_processor) {
+    if (call->verdict[0]) return 0;
+    if (has_processor && call->planned != 10 && call->processor >= call->processors) return 10;
+    return call->planned;
+}
+
+void answered(struct call *call) {
+    if (memcmp(call->answer, call->expected, sizeof call->answer)) breach(call, "another answer");
+    uint64_t number = call->answer[0], place = call->answer[1], read = call->answer[2];
+    met[call->entry][number]++;
+    if (call->entry == CHECK && number == 9) named_reads[read % MOST_READS]++;
+    uint64_t which = number == 9 ? place % 4 * 16 + read % 16 : place < 63 ? place : 63;
+    novel[((unsigned)call->entry * 16 + number) * 64 + which] = 1;
+}
+
+static void tell_answer(const char *what, const uint64_t answer[4]) {
+    fprintf(stderr, "  %-8s", what);
+    for (int i = 0; i < 4; i++) fprintf(stderr, " %" PRIu64, answer[i]);
+    fprintf(stderr, "\n");
+}
+
+void breach(const struct call *call, const char *what) {
+    fprintf(stderr, "BREACH in %s: %s\n  processors %u, processor %u\n", names[call->entry], what, call->processors, call->processor);
+    tell_answer("answer", call->answer);
+    tell_answer("expected", call->expected);
+    fprintf(stderr, "  table    ");
+    for (size_t i = 0; i < call->length; i++) fprintf(stderr, "%02x", call->bytes[i]);
+    fprintf(stderr, "\n");
+    abort();
+}
+
+void tell(void) {
+    fprintf(stderr, "fuzz: calls by ground (0 accepted):\n");
+    for (int e = 0; e < ENTRIES; e++) {
+        fprintf(stderr, "  %-16s", names[e]);
+        for (int n = 0; n < 16; n++)
+            if (met[e][n]) fprintf(stderr, " %d:%" PRIu64, n, met[e][n]);
+        fprintf(stderr, "\n");
+    }
+    fprintf(stderr, "  reads that check named with 9:");
+    for (int read = 0; read < MOST_READS; read++)
+        if (named_reads[read]) fprintf(stderr, " %d:%" PRIu64, read, named_reads[read]);
+    fprintf(stderr, "\n");
+}
+
+/* Bytes of which none is like its neighbours. */
+static const uint8_t *pattern(void) {
+    static uint8_t bytes[PATTERN];
+    if (bytes[0] == 0)
+        for (size_t k = 0; k < PATTERN; k++) bytes[k] = (uint8_t)(k * 7 + 13);
+    return bytes;
+}
+
+uint8_t *lend(struct lent *lent, size_t size) {
+    size_t whole = size + 2 * GUARD;
+    lent->all = malloc(whole);
+    lent->wanted = malloc(whole);
+    if (!lent->all || !lent->wanted) abort();
+    for (size_t i = 0; i < whole; i += PATTERN) memcpy(lent->all + i, pattern(), whole - i < PATTERN ? whole - i : PATTERN);
+    lent->size = size;
+    found(lent);
+    return lent->all + GUARD;
+}
+
+uint8_t *wanted_in(const struct lent *lent) { return lent->wanted + GUARD; }
+
+void found(struct lent *lent) { memcpy(lent->wanted, lent->all, lent->size + 2 * GUARD); }
+
+void compare(const struct call *call, const struct lent *lent, const char *what) {
+    if (memcmp(lent->all, lent->wanted, lent->size + 2 * GUARD)) breach(call, what);
+}
+
+void give_back(struct lent *lent) {
+    free(lent->all);
+    free(lent->wanted);
+}

@@ -1,0 +1,74 @@
+/* One input's calls: what they are given, what is expected of them, and what they were lent. */
+#ifndef CALL_H
+#define CALL_H
+
+#include "maker.h"
+#include "model.h"
+#include "vempaldi.h"
+
+enum entry {
+    CHECK, JOIN, FACTS, SHIFTS_AND_PEELS, THRESHOLD, SWEEPS, BLOCKS, LISTING, FUSED_LIST, PEELED_LIST, FUSED_RANGES, PEELED_RANGES,
+    PLAIN_RUN, STEP, RUN, ENTRIES
+};
+
+struct call {
+    enum entry entry;
+    const uint8_t *bytes;
+    size_t length;
+    uint32_t processors, processor;
+    /* The model's: the table with its plan, the refusal of the bytes, and 10 or 11 of the number of processors. */
+    struct table table;
+    struct plan plan;
+    uint64_t verdict[4], planned;
+    /* Of the call at hand: what it is to answer, and what it did. */
+    uint64_t expected[4], answer[4];
+};
+
+/* Reads the bytes by the model and plans them. `call` stays where it is from then on, for its plan points to its table. */
+void begin_call(struct call *call, const uint8_t *bytes, size_t length, uint32_t processors);
+
+/* Sets what the next call is to answer: the refusal of the bytes, or else `ground` (0 where it is accepted). */
+void expect(struct call *call, enum entry entry, uint64_t ground);
+
+/* 10 or 11: of the number of processors, and of the processor's own number where a call has one. */
+uint64_t plan_ground(const struct call *call, int has_processor);
+
+/* The answer is the one expected. */
+void answered(struct call *call);
+
+/* Prints the call and its table, and aborts. */
+void breach(const struct call *call, const char *what);
+
+/* How often each entry gave each ground, and how often check named each read. */
+void tell(void);
+
+/* Lent bytes with guards on both sides, and beside them what they are to be after the call. */
+struct lent {
+    uint8_t *all, *wanted;
+    size_t size;
+};
+enum { GUARD = 48 };
+
+uint8_t *lend(struct lent *lent, size_t size);
+/* The part of `wanted` that is lent. */
+uint8_t *wanted_in(const struct lent *lent);
+/* What the caller put into the lent bytes is as the call finds it. */
+void found(struct lent *lent);
+/* Lent bytes and guards are as wanted. */
+void compare(const struct call *call, const struct lent *lent, const char *what);
+void give_back(struct lent *lent);
+
+/* outputs.c: check, join, and every call that writes numbers or text. */
+void check(struct call *call);
+void join(const struct call *left, struct cursor *bytes);
+void outputs(struct call *call, struct cursor *bytes);
+/* One call with an output, as `call` names it; answers the count of bytes that it says were written. */
+uint64_t called(struct call *call, enum entry entry, uint8_t *out, size_t room);
+
+/* lists.c: the lists of all processors together, and the ranges beside them. */
+void lists_together(struct call *call);
+
+/* memories.c: plain run, step and run. */
+void memories(struct call *call, struct cursor *bytes);
+
+#endif

@@ -1,0 +1,97 @@
+/* What the library is to do, once more, in C: the tables of docs/TABLE.md and the header's sentences. It shares nothing with the library,
+ * and what the harness expects of a call comes from here, never from another call of the library. */
+#ifndef MODEL_H
+#define MODEL_H
+
+#include <stddef.h>
+#include <stdint.h>
+
+enum { MOST_ARRAYS = 16, MOST_LOOPS = 16, MOST_ITEMS = 32, MOST_PROCESSORS = 64 };
+
+struct reference {
+    int array;
+    int64_t offset;
+};
+
+/* A read (kind 3), a constant (4) or an operation (5); `value` is the constant or the operation's number. */
+struct item {
+    int kind;
+    struct reference from;
+    uint32_t value;
+};
+
+struct loop {
+    int64_t first, last;
+    struct reference to;
+    int items;
+    struct item item[MOST_ITEMS];
+};
+
+struct table {
+    int arrays, loops;
+    /* Of each array its length, and its first element in the memory. */
+    int64_t lengths[MOST_ARRAYS], begins[MOST_ARRAYS];
+    int64_t elements;
+    struct loop loop[MOST_LOOPS];
+    /* Where the loops begin in the bytes, and where the end record stands. */
+    size_t loops_at, end_at;
+};
+
+/* The table, or the four numbers of its refusal with 1 to 9. */
+void read_table(const uint8_t *bytes, size_t length, struct table *table, uint64_t answer[4]);
+
+/* A loop's indices from `from` to one below `past`; 0 and 0 where there are none. */
+struct range {
+    int64_t from, past;
+};
+
+struct iteration {
+    uint32_t loop, index;
+};
+
+struct plan {
+    const struct table *table;
+    int64_t shift[MOST_LOOPS], peel[MOST_LOOPS], threshold;
+    uint32_t processors;
+    /* First and last index of each block. */
+    int64_t begin[MOST_PROCESSORS], end[MOST_PROCESSORS];
+};
+
+enum phase { FUSED = 0, PEELED = 1 };
+
+/* Shifts, peels and the threshold of an accepted table; then, for a number of processors, its blocks. Answers 0, 10 or 11. */
+void find_amounts(const struct table *table, struct plan *plan);
+uint64_t find_blocks(struct plan *plan, uint32_t processors);
+
+struct range part_of(const struct plan *plan, enum phase phase, uint32_t processor, int loop);
+uint64_t list_length(const struct plan *plan, enum phase phase, uint32_t processor);
+uint64_t iterations_of(const struct table *table);
+
+/* A walk along a list, from its first iteration on. `next_of` answers whether there was one more. */
+struct walk {
+    const struct plan *plan;
+    enum phase phase;
+    uint32_t processor;
+    int64_t at, past;
+    int loop;
+};
+struct walk walk_from(const struct plan *plan, enum phase phase, uint32_t processor);
+int next_of(struct walk *walk, struct iteration *iteration);
+
+/* Sweeps before fusion and after it. */
+void sweeps_of(const struct table *table, uint32_t sweeps[2]);
+
+/* The listing's text, without a zero behind it. Answers its length. */
+size_t text_of(const struct plan *plan, char *out, size_t room);
+
+void perform(const struct table *table, struct iteration iteration, double *memory);
+void run_plainly(const struct table *table, double *memory);
+
+/* Ground 15, and one step of a processor below P from counts that are in order. */
+int in_order(const struct plan *plan, const uint32_t counts[MOST_PROCESSORS]);
+void step_once(const struct plan *plan, uint32_t processor, uint32_t counts[MOST_PROCESSORS], double *memory, uint32_t report[3]);
+
+/* How many of the bytes of an order are idle. */
+uint64_t idle_of(const struct plan *plan, const uint8_t *order, size_t length);
+
+#endif

@@ -1,0 +1,180 @@
+/* Shifts, peels, blocks, ranges, lists, sweeps and the listing of a table. */
+#include "model.h"
+
+#include <stdio.h>
+#include <string.h>
+
+static int64_t greater(int64_t one, int64_t other) { return one > other ? one : other; }
+static int64_t lesser(int64_t one, int64_t other) { return one < other ? one : other; }
+
+/* The references of a loop, its destination first; the others are reads. */
+static int references(const struct loop *loop, struct reference out[1 + MOST_ITEMS]) {
+    int count = 0;
+    out[count++] = loop->to;
+    for (int i = 0; i < loop->items; i++)
+        if (loop->item[i].kind == 3) out[count++] = loop->item[i].from;
+    return count;
+}
+
+/* What the dependences from loop j give loop k: a chain that ends at j goes on by each of them. */
+static void carry(struct plan *plan, int j, int k) {
+    struct reference from[1 + MOST_ITEMS], to[1 + MOST_ITEMS];
+    int froms = references(&plan->table->loop[j], from), tos = references(&plan->table->loop[k], to);
+    for (int a = 0; a < froms; a++)
+        for (int b = 0; b < tos; b++) {
+            if (from[a].array != to[b].array || (a > 0 && b > 0)) continue;
+            int64_t distance = from[a].offset - to[b].offset;
+            plan->shift[k] = greater(plan->shift[k], plan->shift[j] + greater(-distance, 0));
+            plan->peel[k] = greater(plan->peel[k], plan->peel[j] + greater(distance, 0));
+        }
+}
+
+void find_amounts(const struct table *table, struct plan *plan) {
+    memset(plan, 0, sizeof *plan);
+    plan->table = table;
+    for (int k = 0; k < table->loops; k++) {
+        for (int j = 0; j < k; j++) carry(plan, j, k);
+        plan->threshold = greater(plan->threshold, plan->shift[k] + plan->peel[k]);
+    }
+}
+
+uint64_t find_blocks(struct plan *plan, uint32_t processors) {
+    if (processors < 1 || processors > MOST_PROCESSORS) return 10;
+    int64_t first = plan->table->loop[0].first, last = plan->table->loop[0].last;
+    for (int k = 1; k < plan->table->loops; k++) {
+        first = lesser(first, plan->table->loop[k].first);
+        last = greater(last, plan->table->loop[k].last);
+    }
+    int64_t indices = last - first + 1, next = first;
+    if (indices < processors) return 11;
+    for (uint32_t b = 0; b < processors; b++) {
+        int64_t size = indices / processors + (b < indices % processors);
+        if (processors > 1 && size < plan->threshold) return 11;
+        plan->begin[b] = next;
+        plan->end[b] = (next += size) - 1;
+    }
+    plan->processors = processors;
+    return 0;
+}
+
+struct range part_of(const struct plan *plan, enum phase phase, uint32_t processor, int k) {
+    const struct loop *loop = &plan->table->loop[k];
+    int front = processor == 0, back = processor + 1 == plan->processors;
+    int64_t begin = plan->begin[processor], end = plan->end[processor], from, to;
+    if (phase == FUSED) {
+        from = front ? loop->first : greater(loop->first, begin + plan->peel[k]);
+        to = back ? loop->last : lesser(loop->last, end - plan->shift[k]);
+    } else {
+        from = greater(loop->first, end - plan->shift[k] + 1);
+        to = back ? from - 1 : lesser(loop->last, end + plan->peel[k]);
+    }
+    return from <= to ? (struct range){from, to + 1} : (struct range){0, 0};
+}
+
+uint64_t list_length(const struct plan *plan, enum phase phase, uint32_t processor) {
+    int64_t all = 0;
+    for (int k = 0; k < plan->table->loops; k++) {
+        struct range part = part_of(plan, phase, processor, k);
+        all += part.past - part.from;
+    }
+    return (uint64_t)all;
+}
+
+/* `loop` is the one to look at next. `at` is in a fused list the sum of index and shift, in a peeled one the index, or INT64_MAX where the
+ * loop has not begun. */
+struct walk walk_from(const struct plan *plan, enum phase phase, uint32_t processor) {
+    struct walk walk = {plan, phase, processor, INT64_MAX, 0, 0};
+    if (phase == PEELED) return walk;
+    for (int k = 0; k < plan->table->loops; k++) {
+        struct range part = part_of(plan, phase, processor, k);
+        if (part.from == part.past) continue;
+        walk.at = lesser(walk.at, part.from + plan->shift[k]);
+        walk.past = greater(walk.past, part.past + plan->shift[k]);
+    }
+    return walk;
+}
+
+static int next_fused(struct walk *walk, struct iteration *iteration) {
+    for (; walk->at < walk->past; walk->at++, walk->loop = 0)
+        while (walk->loop < walk->plan->table->loops) {
+            int k = walk->loop++;
+            struct range part = part_of(walk->plan, FUSED, walk->processor, k);
+            int64_t index = walk->at - walk->plan->shift[k];
+            if (index < part.from || index >= part.past) continue;
+            *iteration = (struct iteration){(uint32_t)k, (uint32_t)index};
+            return 1;
+        }
+    return 0;
+}
+
+static int next_peeled(struct walk *walk, struct iteration *iteration) {
+    for (; walk->loop < walk->plan->table->loops; walk->loop++) {
+        struct range part = part_of(walk->plan, PEELED, walk->processor, walk->loop);
+        if (walk->at == INT64_MAX) walk->at = part.from;
+        if (walk->at < part.past) {
+            *iteration = (struct iteration){(uint32_t)walk->loop, (uint32_t)walk->at++};
+            return 1;
+        }
+        walk->at = INT64_MAX;
+    }
+    return 0;
+}
+
+int next_of(struct walk *walk, struct iteration *iteration) {
+    return walk->phase == FUSED ? next_fused(walk, iteration) : next_peeled(walk, iteration);
+}
+
+static uint32_t marked(const uint8_t marks[MOST_ARRAYS]) {
+    uint32_t count = 0;
+    for (int q = 0; q < MOST_ARRAYS; q++) count += marks[q];
+    return count;
+}
+
+void sweeps_of(const struct table *table, uint32_t sweeps[2]) {
+    uint8_t touched[MOST_ARRAYS] = {0}, written[MOST_ARRAYS] = {0};
+    sweeps[0] = 0;
+    for (int k = 0; k < table->loops; k++) {
+        struct reference all[1 + MOST_ITEMS];
+        uint8_t own[MOST_ARRAYS] = {0};
+        for (int r = references(&table->loop[k], all); r-- > 0;) own[all[r].array] = touched[all[r].array] = 1;
+        written[table->loop[k].to.array] = 1;
+        sweeps[0] += marked(own) + 1;
+    }
+    sweeps[1] = marked(touched) + marked(written);
+}
+
+/* A text that grows. */
+struct text {
+    char *out;
+    size_t length, room;
+};
+
+static void line(struct text *text, const char *word, const int64_t *numbers, int count) {
+    char one[128];
+    int length = snprintf(one, sizeof one, "%s", word);
+    for (int i = 0; i < count; i++) length += snprintf(one + length, sizeof one - (size_t)length, " %lld", (long long)numbers[i]);
+    one[length++] = '\n';
+    if ((size_t)length <= text->room - text->length) memcpy(text->out + text->length, one, (size_t)length);
+    text->length += (size_t)length;
+}
+
+static void range_lines(struct text *text, const struct plan *plan, enum phase phase) {
+    for (uint32_t b = 0; b < plan->processors; b++)
+        for (int k = 0; k < plan->table->loops; k++) {
+            struct range part = part_of(plan, phase, b, k);
+            if (part.from == part.past) continue;
+            line(text, phase == FUSED ? "fused" : "peeled", (int64_t[]){b, k, part.from, part.past - 1}, 4);
+        }
+}
+
+size_t text_of(const struct plan *plan, char *out, size_t room) {
+    struct text text = {out, 0, room};
+    for (int k = 0; k < plan->table->loops; k++) line(&text, "loop", (int64_t[]){k, plan->shift[k], plan->peel[k]}, 3);
+    for (uint32_t b = 0; b < plan->processors; b++) line(&text, "block", (int64_t[]){b, plan->begin[b], plan->end[b]}, 3);
+    range_lines(&text, plan, FUSED);
+    range_lines(&text, plan, PEELED);
+    uint32_t sweeps[2];
+    sweeps_of(plan->table, sweeps);
+    line(&text, "sweeps", (int64_t[]){sweeps[0], sweeps[1]}, 2);
+    return text.length;
+}

@@ -1,0 +1,29 @@
+/* Which fault is chosen, and what several of them need. */
+#include "faults.h"
+
+#include <stdlib.h>
+#include <string.h>
+
+int fault(const char *name) {
+    static const char *chosen;
+    if (!chosen) chosen = getenv("VEMPALDI_FAULT");
+    if (!chosen) chosen = "";
+    return strcmp(chosen, name) == 0;
+}
+
+uint32_t number_at(const uint8_t *at) { return at[0] | (uint32_t)at[1] << 8 | (uint32_t)at[2] << 16 | (uint32_t)at[3] << 24; }
+
+void put_at(uint8_t *at, uint32_t number) {
+    for (int i = 0; i < 4; i++) at[i] = (uint8_t)(number >> 8 * i);
+}
+
+uint64_t loops_of(const uint8_t *table, size_t table_length) {
+    uint8_t out[VEMPALDI_AMOUNT_BYTES];
+    uint64_t answer[4];
+    return real_vempaldi_shifts_and_peels(table, table_length, out, sizeof out, answer) / 8;
+}
+
+void refuse(uint64_t answer[4], uint64_t ground) {
+    memset(answer, 0, 4 * sizeof *answer);
+    answer[0] = ground;
+}

@@ -1,0 +1,38 @@
+/* Planted faults: each exported function once more, around the real one, doing wrong where the environment's VEMPALDI_FAULT says so. `list`
+ * has the names, and who finds them. The archive's own functions have `real_` before their names (tests/faults.sh). */
+#ifndef FAULTS_H
+#define FAULTS_H
+
+#include "vempaldi.h"
+
+/* Whether the fault of this name is chosen. */
+int fault(const char *name);
+
+/* A number of an output, and one put there. */
+uint32_t number_at(const uint8_t *at);
+void put_at(uint8_t *at, uint32_t number);
+
+/* How many loops an accepted table has. */
+uint64_t loops_of(const uint8_t *table, size_t table_length);
+
+void refuse(uint64_t answer[4], uint64_t ground);
+
+#define REAL(name) extern __typeof__(vempaldi_##name) real_vempaldi_##name
+REAL(version);
+REAL(check);
+REAL(join);
+REAL(facts);
+REAL(shifts_and_peels);
+REAL(threshold);
+REAL(sweeps);
+REAL(blocks);
+REAL(fused_list);
+REAL(peeled_list);
+REAL(fused_ranges);
+REAL(peeled_ranges);
+REAL(listing);
+REAL(plain_run);
+REAL(step);
+REAL(run);
+
+#endif

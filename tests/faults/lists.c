@@ -1,0 +1,85 @@
+/* Faults in lists and ranges. */
+#include <sched.h>
+#include <string.h>
+
+#include "faults.h"
+
+/* The output goes through one place that all calls share. */
+static void through_shared(uint8_t *out, uint64_t written) {
+    static uint8_t shared[1 << 16];
+    if (written > sizeof shared) return;
+    memcpy(shared, out, written);
+    sched_yield();
+    memcpy(out, shared, written);
+}
+
+static void exchange(uint8_t *one, uint8_t *other) {
+    uint8_t kept[8];
+    memcpy(kept, one, 8);
+    memcpy(one, other, 8);
+    memcpy(other, kept, 8);
+}
+
+/* The loop of the last iteration of a fused list, from the ranges: the highest sum of index and shift, and of equal ones the last loop. */
+static uint64_t last_loop(const uint8_t *table, size_t table_length, const uint8_t *ranges, uint64_t loops) {
+    uint8_t amounts[VEMPALDI_AMOUNT_BYTES];
+    uint64_t answer[4], best = 0, highest = 0;
+    real_vempaldi_shifts_and_peels(table, table_length, amounts, sizeof amounts, answer);
+    for (uint64_t k = 0; k < loops; k++) {
+        uint64_t past = number_at(ranges + 8 * k + 4), sum = past + number_at(amounts + 8 * k);
+        if (past && sum >= highest) highest = sum, best = k;
+    }
+    return best;
+}
+
+/* The ranges without the last iteration of the list. */
+static void shorten(const uint8_t *table, size_t table_length, uint8_t *ranges, uint64_t loops) {
+    uint8_t *part = ranges + 8 * last_loop(table, table_length, ranges, loops);
+    if (number_at(part + 4) == 0) return;
+    put_at(part + 4, number_at(part + 4) - 1);
+    if (number_at(part) == number_at(part + 4)) memset(part, 0, 8);
+}
+
+uint64_t vempaldi_fused_list(const uint8_t *table, size_t table_length, uint32_t processors, uint32_t processor, uint8_t *out,
+                             size_t out_length, uint64_t answer[4]) {
+    uint64_t written = real_vempaldi_fused_list(table, table_length, processors, processor, out, out_length, answer);
+    if (answer[0]) return written;
+    if (fault("list-entry-doubled") && written >= 16) memcpy(out + written - 8, out + written - 16, 8);
+    if (fault("list-neighbours-exchanged") && written >= 16) exchange(out, out + 8);
+    if ((fault("list-entry-missing") || fault("list-and-ranges-shorter")) && written >= 8) written -= 8;
+    if (fault("list-through-shared-bytes")) through_shared(out, written);
+    return written;
+}
+
+uint64_t vempaldi_peeled_list(const uint8_t *table, size_t table_length, uint32_t processors, uint32_t processor, uint8_t *out,
+                              size_t out_length, uint64_t answer[4]) {
+    if (fault("list-of-next-processor") && processor + 1 < processors) processor++;
+    uint64_t written = real_vempaldi_peeled_list(table, table_length, processors, processor, out, out_length, answer);
+    for (uint64_t at = 8; at < written && fault("list-of-copies"); at += 8) memcpy(out + at, out, 8);
+    return written;
+}
+
+uint64_t vempaldi_fused_ranges(const uint8_t *table, size_t table_length, uint32_t processors, uint32_t processor, uint8_t *out,
+                               size_t out_length, uint64_t answer[4]) {
+    uint64_t written = real_vempaldi_fused_ranges(table, table_length, processors, processor, out, out_length, answer);
+    if (fault("ranges-short-before-processor") && answer[0] == 10 && processors >= 1 && processors <= 64) {
+        uint8_t blocks[VEMPALDI_BLOCK_BYTES];
+        uint64_t plan[4];
+        real_vempaldi_blocks(table, table_length, processors, blocks, sizeof blocks, plan);
+        if (plan[0] == 11) refuse(answer, 11);
+    }
+    if (fault("list-and-ranges-shorter") && !answer[0]) shorten(table, table_length, out, written / 8);
+    if (fault("ranges-last-included") && !answer[0] && number_at(out + 4)) put_at(out + 4, number_at(out + 4) - 1);
+    return written;
+}
+
+uint64_t vempaldi_peeled_ranges(const uint8_t *table, size_t table_length, uint32_t processors, uint32_t processor, uint8_t *out,
+                                size_t out_length, uint64_t answer[4]) {
+    uint64_t written = real_vempaldi_peeled_ranges(table, table_length, processors, processor, out, out_length, answer);
+    for (uint64_t at = 0; at < written; at += 8) {
+        int empty = number_at(out + at + 4) == 0;
+        if (fault("ranges-empty-not-0") && empty) put_at(out + at, 1), put_at(out + at + 4, 1);
+        if (fault("ranges-begin-one-later") && !empty) put_at(out + at, number_at(out + at) + 1);
+    }
+    return written;
+}

@@ -1,0 +1,90 @@
+/* Faults in facts, amounts, sweeps, blocks and the listing. */
+#include <string.h>
+
+#include "faults.h"
+
+uint64_t vempaldi_facts(const uint8_t *table, size_t table_length, uint8_t *out, size_t out_length, uint64_t answer[4]) {
+    uint64_t written = real_vempaldi_facts(table, table_length, out, out_length, answer);
+    if (answer[0]) return written;
+    if (fault("facts-writes-table")) ((uint8_t *)table)[table_length - 1] ^= 0x80;
+    uint32_t arrays = number_at(out);
+    for (uint32_t q = 0; q < arrays && fault("facts-first-and-length-exchanged"); q++) {
+        uint32_t first = number_at(out + 12 + 8 * q);
+        put_at(out + 12 + 8 * q, number_at(out + 16 + 8 * q));
+        put_at(out + 16 + 8 * q, first);
+    }
+    if (fault("facts-last-index-past")) put_at(out + written - 4, number_at(out + written - 4) + 1);
+    if (fault("facts-elements-of-first-array")) put_at(out + 8, number_at(out + 16));
+    return written;
+}
+
+uint64_t vempaldi_shifts_and_peels(const uint8_t *table, size_t table_length, uint8_t *out, size_t out_length, uint64_t answer[4]) {
+    uint64_t written = real_vempaldi_shifts_and_peels(table, table_length, out, out_length, answer);
+    if (fault("amounts-all-0") && !answer[0]) memset(out, 0, written);
+    return written;
+}
+
+/* The largest shift and the largest peel, of whatever loops. */
+static uint32_t of_two_loops(const uint8_t *table, size_t table_length) {
+    uint8_t amounts[VEMPALDI_AMOUNT_BYTES];
+    uint64_t answer[4], written = real_vempaldi_shifts_and_peels(table, table_length, amounts, sizeof amounts, answer);
+    uint32_t shift = 0, peel = 0;
+    for (uint64_t i = 0; i < written; i += 8) {
+        if (number_at(amounts + i) > shift) shift = number_at(amounts + i);
+        if (number_at(amounts + i + 4) > peel) peel = number_at(amounts + i + 4);
+    }
+    return shift + peel;
+}
+
+uint64_t vempaldi_threshold(const uint8_t *table, size_t table_length, uint8_t *out, size_t out_length, uint64_t answer[4]) {
+    uint64_t written = real_vempaldi_threshold(table, table_length, out, out_length, answer);
+    if (answer[0]) return written;
+    if (fault("threshold-byte-behind") && out_length > written) out[written] ^= 1;
+    if (fault("threshold-of-two-loops")) put_at(out, of_two_loops(table, table_length));
+    return written;
+}
+
+uint64_t vempaldi_sweeps(const uint8_t *table, size_t table_length, uint8_t *out, size_t out_length, uint64_t answer[4]) {
+    uint64_t written = real_vempaldi_sweeps(table, table_length, out, out_length, answer);
+    if (answer[0]) return written;
+    if (fault("sweeps-byte-past-room")) out[out_length] ^= 1;
+    if (fault("sweeps-count-one-less")) written--;
+    return written;
+}
+
+/* The longer blocks last. */
+static void longer_last(uint8_t *out, uint32_t processors) {
+    uint32_t next = number_at(out), all = number_at(out + 8 * processors - 4) - next + 1;
+    for (uint32_t b = 0; b < processors; b++) {
+        uint32_t size = all / processors + (processors - b <= all % processors);
+        put_at(out + 8 * b, next);
+        put_at(out + 8 * b + 4, (next += size) - 1);
+    }
+}
+
+uint64_t vempaldi_blocks(const uint8_t *table, size_t table_length, uint32_t processors, uint8_t *out, size_t out_length,
+                         uint64_t answer[4]) {
+    uint64_t written = real_vempaldi_blocks(table, table_length, processors, out, out_length, answer);
+    if (fault("blocks-longer-last") && !answer[0]) longer_last(out, processors);
+    if (fault("blocks-refusal-writes") && answer[0] && out_length) out[0] ^= 1;
+    if (fault("blocks-buffer-before-short") && answer[0] == 11 && out_length < 8 * processors) refuse(answer, 13);
+    return written;
+}
+
+/* The text without its last line but one. */
+static uint64_t line_less(uint8_t *out, uint64_t written) {
+    uint64_t last = written - 1, before;
+    while (out[last - 1] != '\n') last--;
+    for (before = last - 1; before > 0 && out[before - 1] != '\n';) before--;
+    memmove(out + before, out + last, written - last);
+    return written - (last - before);
+}
+
+uint64_t vempaldi_listing(const uint8_t *table, size_t table_length, uint32_t processors, uint8_t *out, size_t out_length,
+                          uint64_t answer[4]) {
+    if (fault("listing-just-fits-refused") && out_length) out_length--;
+    uint64_t written = real_vempaldi_listing(table, table_length, processors, out, out_length, answer);
+    if (fault("listing-line-missing") && !answer[0]) written = line_less(out, written);
+    if (fault("listing-processors-before-serial") && answer[0] == 9 && (processors < 1 || processors > 64)) refuse(answer, 10);
+    return written;
+}

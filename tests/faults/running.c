@@ -1,0 +1,106 @@
+/* Faults in the plain run, a step and a run. */
+#include <stdlib.h>
+#include <string.h>
+
+#include "faults.h"
+
+/* A memory as it was before a call. */
+static double *copy_of(const double *memory, size_t length) {
+    double *copy = malloc(length * sizeof *copy + 1);
+    if (!copy) abort();
+    if (length) memcpy(copy, memory, length * sizeof *copy);
+    return copy;
+}
+
+static void put_back(double *memory, const double *before, size_t length) {
+    if (length) memcpy(memory, before, length * sizeof *memory);
+}
+
+/* Stored results that are not numbers get the other sign. */
+static void other_sign(double *memory, const double *before, size_t length) {
+    for (size_t i = 0; i < length; i++) {
+        uint64_t now, then;
+        memcpy(&now, memory + i, 8);
+        memcpy(&then, before + i, 8);
+        if (now == 0x7ff8000000000000u && then != now) ((uint8_t *)(memory + i))[7] |= 0x80;
+    }
+}
+
+/* The table with its last loop one iteration shorter, run from the same memory. */
+static void without_last(const uint8_t *table, size_t length, double *memory, const double *before, size_t numbers) {
+    static const size_t bodies[] = VEMPALDI_BODY_LENGTHS;
+    uint8_t shorter[VEMPALDI_TABLE_BYTES];
+    uint64_t answer[4];
+    size_t last = 0;
+    memcpy(shorter, table, length);
+    for (size_t at = 0; at < length; at += 1 + bodies[table[at]])
+        if (table[at] == 2) last = at;
+    if (number_at(table + last + 1) == number_at(table + last + 5)) return;
+    put_at(shorter + last + 5, number_at(table + last + 5) - 1);
+    put_back(memory, before, numbers);
+    real_vempaldi_plain_run(shorter, length, memory, numbers, answer);
+}
+
+static size_t elements_of(const uint8_t *table, size_t length) {
+    uint8_t facts[VEMPALDI_FACTS_BYTES];
+    uint64_t answer[4];
+    return real_vempaldi_facts(table, length, facts, sizeof facts, answer) ? number_at(facts + 8) : 0;
+}
+
+void vempaldi_plain_run(const uint8_t *table, size_t table_length, double *memory, size_t memory_length, uint64_t answer[4]) {
+    double *before = copy_of(memory, memory_length);
+    real_vempaldi_plain_run(table, table_length, memory, memory_length, answer);
+    if (fault("plain-longer-memory") && answer[0] == 12 && memory_length > elements_of(table, table_length))
+        real_vempaldi_plain_run(table, table_length, memory, elements_of(table, table_length), answer);
+    if (fault("plain-last-missing") && !answer[0]) without_last(table, table_length, memory, before, memory_length);
+    if (fault("plain-nan-sign") || fault("all-nan-sign")) other_sign(memory, before, memory_length);
+    free(before);
+}
+
+/* A step with 15 told before 12. */
+static int wrong_state(const uint8_t *table, size_t length, uint32_t processors, uint32_t processor, const uint32_t counts[64]) {
+    size_t elements = elements_of(table, length);
+    double *memory = calloc(elements + 1, sizeof *memory);
+    uint32_t own[64], report[3];
+    uint64_t answer[4];
+    if (!memory) abort();
+    memcpy(own, counts, sizeof own);
+    real_vempaldi_step(table, length, processors, processor, own, memory, elements, report, answer);
+    free(memory);
+    return answer[0] == 15;
+}
+
+void vempaldi_step(const uint8_t *table, size_t table_length, uint32_t processors, uint32_t processor, uint32_t counts[64],
+                   double *memory, size_t memory_length, uint32_t report[3], uint64_t answer[4]) {
+    double *before = copy_of(memory, memory_length);
+    uint32_t above = processors < 64 ? counts[63] : 0;
+    if (fault("step-last-count-not-looked-at") && processors < 64) counts[63] = 0;
+    real_vempaldi_step(table, table_length, processors, processor, counts, memory, memory_length, report, answer);
+    if (fault("step-last-count-not-looked-at") && processors < 64) counts[63] = above;
+    if (fault("step-stores-nothing")) put_back(memory, before, memory_length);
+    if (fault("step-waiting-as-finished") && !answer[0] && report[0] == VEMPALDI_WAITING) report[0] = VEMPALDI_FINISHED;
+    if (fault("step-reports-from-0") && !answer[0]) report[0]--;
+    if (fault("step-refused-counts") && answer[0] == 10) counts[0]++;
+    if (fault("step-refused-reports") && answer[0]) memset(report, 0, 12), report[1] = 1;
+    if (fault("step-state-before-memory") && answer[0] == 12 && wrong_state(table, table_length, processors, processor, counts))
+        refuse(answer, 15);
+    if (fault("all-nan-sign")) other_sign(memory, before, memory_length);
+    free(before);
+}
+
+uint64_t vempaldi_run(const uint8_t *table, size_t table_length, uint32_t processors, const uint8_t *order, size_t order_length,
+                      double *memory, size_t memory_length, uint64_t answer[4]) {
+    double *before = copy_of(memory, memory_length);
+    uint64_t idle = real_vempaldi_run(table, table_length, processors, order, order_length, memory, memory_length, answer);
+    if (fault("run-idle-one-more") && !answer[0]) idle++;
+    if (fault("run-idle-of-wrong-numbers") && !answer[0]) {
+        idle = 0;
+        for (size_t i = 0; i < order_length; i++) idle += order[i] >= processors;
+    }
+    if (fault("run-stores-nothing")) put_back(memory, before, memory_length);
+    if (fault("run-writes-order") && order_length) ((uint8_t *)order)[0] ^= 1;
+    if (fault("run-refused-writes") && answer[0] && memory_length) memory[0] = 0.5;
+    if (fault("all-nan-sign")) other_sign(memory, before, memory_length);
+    free(before);
+    return idle;
+}
