@@ -11,7 +11,7 @@ use Rattle.plans.specs.Plans.{Settings}
 use Rattle.stepping.specs.declared.Report.{Report}
 use Rattle.stepping.specs.declared.Report.the-variants.{Refused, Performed, Waiting, Finished}
 use Rattle.stepping.specs.Meaning.{performed-small}
-use Rattle.vempaldi.specs.Answers.{answered, ReportFits, reportAt}
+use Rattle.told.specs.Answers.{answered, ReportFits, reportAt}
 
 pub report-small : (s : List ℕ) (w : Settings) (b : ℕ) (cs : List ℕ) (m : List Float) (r : Report) → r ≡ reportAt s w b cs m → ReportFits r
 unfolding ReportFits

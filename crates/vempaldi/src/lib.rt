@@ -1,8 +1,9 @@
 // The exported functions: thin, with plain numbers and slices. None requires anything: what it cannot take it refuses.
-use outputs::Outcome;
-use refusals::Refusal;
-use stepping::Report;
 use steps::Counts;
+use told::refusal_in;
+use told::tell_outcome;
+use told::tell_report;
+use told::write_answer;
 ghost use mathlib.Core.Path.{_≡_};
 ghost use lib.ListN.{length};
 ghost use Rattle.refusals.specs.Answers.{refusalOf};
@@ -16,26 +17,8 @@ ghost use Rattle.plain.specs.Plain.{plainAnswer, plainMemory};
 ghost use Rattle.plans.specs.Plans.{settings};
 ghost use Rattle.stepping.specs.Step.{step};
 ghost use Rattle.stepping.specs.Run.{runAnswer, runMemory, runIdle};
-ghost use Rattle.vempaldi.specs.Answers.{answered, written, reported, refusalIn, reportAt, version, ReportFits};
-
-// An answer is the ground's number, the place, and the two numbers that are named.
-fn write_answer(answer: &mut [u64; 4], r: Refusal)
-    ensures { λ _. ⌜ now (answer .exit) ≡ answered r (now (answer .entry)) ⌝ }
-{
-    answer[0] = r.ground as u64;
-    answer[1] = r.place as u64;
-    answer[2] = r.first as u64;
-    answer[3] = r.second as u64;
-}
-
-// The answer of a call that gives bytes; the result is how many were written.
-fn tell_outcome(answer: &mut [u64; 4], o: Outcome) -> u64
-    ensures { λ _. ⌜ now (answer .exit) ≡ answered (o .refusal) (now (answer .entry)) ⌝ }
-    ensures { λ n. ⌜ n ≡ o .written ⌝ }
-{
-    write_answer(answer, o.refusal);
-    o.written as u64
-}
+ghost use Rattle.told.specs.Answers.{answered, reported, refusalIn, reportAt};
+ghost use Rattle.vempaldi.specs.Version.{version};
 
 // The version: 10,000 times the first of its numbers, 100 times the second, and the third.
 const VERSION: u32 = 200;
@@ -228,45 +211,6 @@ pub extern "C" fn vempaldi_plain_run(table: &[u8], memory: &mut [f64], answer: &
 {
     let r = plain::plain_run(table, memory);
     write_answer(answer, r);
-}
-
-fn write_report(report: &mut [u32; 3], kind: u32, number: u32, index: u32)
-    ensures { λ _. ⌜ now (report .exit) ≡ written kind number index (now (report .entry)) ⌝ }
-{
-    report[0] = kind;
-    report[1] = number;
-    report[2] = index;
-}
-
-// What a call reports: 1, a loop and an iteration; 2 where its processor waits; 3 where it is finished. A refused call leaves it as found, and 0 is
-// never written, so that a report which was zeroed says no iteration.
-fn tell_report(report: &mut [u32; 3], r: Report)
-    requires { ⌜ ReportFits r ⌝ }
-    ensures { λ _. ⌜ now (report .exit) ≡ reported r (now (report .entry)) ⌝ }
-{
-    match r {
-        Report::Refused(_) => {}
-        Report::Performed { number, index } => {
-            write_report(report, 1, number as u32, index as u32)
-        }
-        Report::Waiting => write_report(report, 2, 0, 0),
-        Report::Finished => write_report(report, 3, 0, 0),
-    }
-}
-
-// What is refused by a call that reports this.
-fn refusal_in(r: Report) -> Refusal
-    ensures { λ x. ⌜ x ≡ refusalIn r ⌝ }
-{
-    match r {
-        Report::Refused(x) => x,
-        Report::Performed {
-            number: _,
-            index: _,
-        } => Refusal::none(),
-        Report::Waiting => Refusal::none(),
-        Report::Finished => Refusal::none(),
-    }
 }
 
 // One step of a processor: the counts and the memory are as the step before left them, first all counts 0.

@@ -2,7 +2,7 @@ use mathlib.Core.Path.{ap, _∙_}
 use denote.Ref.{now}
 use Rattle.stepping.specs.declared.Report.{Report}
 use Rattle.plans.specs.Plans.{settings}
-use Rattle.vempaldi.specs.Answers.{reported}
+use Rattle.told.specs.Answers.{reported}
 use Rattle.vempaldi.proofs.Laws.{report-small}
 use borrow.Author.Needs.{needs}
 use Rattle.vempaldi.proofs.vempaldi_step.Statement.{statement}

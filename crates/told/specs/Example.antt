@@ -15,7 +15,7 @@ use Rattle.known.specs.Memory.{own, saidFrom}
 use Rattle.known.specs.Known.{known}
 use Rattle.stepping.specs.declared.Report.{Report}
 use Rattle.stepping.specs.declared.Report.the-variants.{Refused, Performed, Waiting, Finished}
-use Rattle.vempaldi.specs.Answers.{answered, reported, reportAt}
+use Rattle.told.specs.Answers.{answered, reported, reportAt}
 
 module _ (a b c d : ℕ) where
   pub all-written : (r : Refusal) → answered r (a ∷ b ∷ c ∷ d ∷ []) ≡ r .ground ∷ r .place ∷ r .first ∷ r .second ∷ []

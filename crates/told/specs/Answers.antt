@@ -36,10 +36,6 @@ refusalIn Finished = none
 abbrev pub reportAt : List ℕ → Settings → ℕ → List ℕ → List Float → Report
 reportAt s w b counts m = reportOf (step s w b counts m .said)
 
--- the library's version, 0.2.0: 10,000 times the first number, 100 times the second, and the third
-abbrev pub version : ℕ
-version = 200
-
 -- a report's numbers have room
 unfoldable pub ReportFits : Report → Type 0
 ReportFits (Refused r) = Unit {0}

@@ -21,7 +21,7 @@ use Rattle.answers.specs.Refused as answers
 use Rattle.answers.specs.Refusing.{StepRefused}
 use Rattle.answers.specs.Decided as decided
 use Rattle.answers.specs.Untouched as untouched
-use Rattle.vempaldi.specs.Answers.{reported, refusalIn, reportAt}
+use Rattle.told.specs.Answers.{reported, refusalIn, reportAt}
 
 -- what is told is what the step refuses
 told-refuses : (x : Said Iteration) → (refusalIn (reportOf x) .ground ≡ 0 → ⊥) → x ≡ refuses (refusalIn (reportOf x))

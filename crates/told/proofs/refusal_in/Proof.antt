@@ -1,7 +1,7 @@
-use Rattle.vempaldi.specs.Answers.{refusalIn}
+use Rattle.told.specs.Answers.{refusalIn}
 use borrow.Author.Needs.{needs}
-use Rattle.vempaldi.proofs.refusal_in.Statement.{statement}
-use Rattle.vempaldi.proofs.refusal_in.Tie as tie
+use Rattle.told.proofs.refusal_in.Statement.{statement}
+use Rattle.told.proofs.refusal_in.Tie as tie
 
 returns : tie.Need-returns
 unfolding refusalIn

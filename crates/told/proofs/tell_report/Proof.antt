@@ -1,10 +1,10 @@
-use Rattle.vempaldi.specs.Answers.{reported, ReportFits}
+use Rattle.told.specs.Answers.{reported, ReportFits}
 use native.Mathlib.Omega.{arith}
 use mathlib.Core.Path.{subst}
 use Rattle.stepping.specs.declared.Report.{Report}
 use borrow.Author.Needs.{needs}
-use Rattle.vempaldi.proofs.tell_report.Statement.{statement}
-use Rattle.vempaldi.proofs.tell_report.Tie as tie
+use Rattle.told.proofs.tell_report.Statement.{statement}
+use Rattle.told.proofs.tell_report.Tie as tie
 
 cast-write-report : tie.Need-cast-write-report
 unfolding ReportFits
