@@ -105,6 +105,21 @@ run_programs() {
     same "vempaldi-plan: P is a number from 0 to 255, not 'x'" "$("$prefix/bin/vempaldi-plan" x "$table" 2>&1)" "vempaldi-plan with a word for P"
 }
 
+# The scripts of the checkout, each through a link to a relative link to it.
+scripts_through_links() {
+    local script table="$prefix/share/vempaldi/examples/example.table"
+    mkdir links
+    ln -s "$root" links/checkout
+    for script in plan vempaldi version crates; do
+        ln -s "checkout/bin/$script" "links/to-$script"
+        ln -s "links/to-$script" "$script-link"
+    done
+    same "$listing" "$(./plan-link 2 "$table")" "bin/plan through links"
+    same "$listing" "$(./vempaldi-link plan "$table" -p 2)" "bin/vempaldi through links"
+    same "$version" "$(./version-link)" "bin/version through links"
+    ./crates-link | grep -q '^vempaldi: ' || wrong "bin/crates does not work through links"
+}
+
 # The C example by pkg-config: shared, then static, which needs no shared library to run.
 c_by_pkg_config() {
     cp "$prefix/share/vempaldi/examples/c/example.c" .
@@ -241,6 +256,7 @@ look_around
 look_at_shared
 compare_versions
 run_programs
+scripts_through_links
 c_by_pkg_config
 by_cmake
 fortran
