@@ -19,8 +19,9 @@ other:
 vempaldi: one
 C
 ghost='ghost use mathlib.Core.Path.{_≡_};'
-printf '%s\n' "$ghost" 'pub fn seven() -> usize' '    ensures { λ r. ⌜ r ≡ 7 ⌝ }' '{' '    7' '}' > crates/one/src/lib.rt
-printf '%s\n' "$ghost" '#[no_mangle]' 'pub extern "C" fn vempaldi_seven() -> usize' '    ensures { λ r. ⌜ r ≡ 7 ⌝ }' '{' '    one::seven()' '}' \
+contract='    ensures { λ r. ⌜ r ≡ 7 ⌝ }'
+printf '%s\n' "$ghost" 'pub fn seven() -> usize' "$contract" '{' '    7' '}' > crates/one/src/lib.rt
+printf '%s\n' "$ghost" '#[no_mangle]' 'pub extern "C" fn vempaldi_seven() -> usize' "$contract" '{' '    one::seven()' '}' \
     > crates/vempaldi/src/lib.rt
 cp crates/one/src/lib.rt crates/other/src/lib.rt
 
@@ -45,7 +46,7 @@ no_library() { [ ! -e build/libvempaldi.a ] || wrong "$1: there is a library"; }
 # From nothing: how long at the start, a line a crate, with the count of those that the library depends on.
 builds 0 bin/library
 library 'a first run'
-sed -n 1p "$work/said" | grep -qE '^build/libvempaldi.a is not there: 2 crates .*minutes' || wrong 'the first line does not say how long it takes'
+sed -n 1p "$work/said" | grep -qE '^build/libvempaldi.a is not there: 2 crates .*minutes' || wrong 'the first line does not say how long'
 says '^proved 1 of 2: one, [0-9]+ s$'
 says '^proved 2 of 2: vempaldi, [0-9]+ s$'
 [ "$(wc -l < "$work/said")" -eq 3 ] || wrong 'a first run says three lines'

@@ -24,7 +24,10 @@ example() {
     local name=$1 got
     shift
     got=$("$@" "$prefix/share/vempaldi/examples/example.table" 2 2>&1) || { printf '%s\n' "$got"; wrong "the example $name fails"; }
-    case $got in "$listing"$'\n'*'same bits as the plain run'*) ;; *) printf '%s\n' "$got"; wrong "the example $name does not say what it should" ;; esac
+    case $got in
+    "$listing"$'\n'*'same bits as the plain run'*) ;;
+    *) printf '%s\n' "$got"; wrong "the example $name does not say what it should" ;;
+    esac
 }
 
 for tool in cc gfortran cargo pkg-config cmake man nm readelf; do
@@ -52,11 +55,16 @@ install_and_move() {
 
 # What was installed: every header and module of the checkout, and no path of this machine in any file.
 look_around() {
-    local file found
-    for file in bin/vempaldi bin/vempaldi-plan libexec/vempaldi/plan; do [ -x "$prefix/$file" ] || wrong "$file is not there, or is no program"; done
+    local file found kit
+    for file in bin/vempaldi bin/vempaldi-plan libexec/vempaldi/plan; do
+        [ -x "$prefix/$file" ] || wrong "$file is not there, or is no program"
+    done
     for file in "$root"/include/*.h; do cmp "$file" "$prefix/include/${file##*/}" || wrong "a header is not installed"; done
-    for file in "$root"/bindings/fortran/*.f90; do cmp "$file" "$prefix/share/vempaldi/fortran/${file##*/}" || wrong "a module is not installed"; done
-    found=$(grep -rlaF -e "$root" -e "$work" -e "${HOME:-/root}/" "$prefix" || true)
+    for file in "$root"/bindings/fortran/*.f90; do
+        cmp "$file" "$prefix/share/vempaldi/fortran/${file##*/}" || wrong "a module is not installed"
+    done
+    kit=$(dirname "$(dirname "$(readlink -f "$(command -v rt)")")")
+    found=$(grep -rlaF -e "$root" -e "$work" -e "${HOME:-/root}/" -e "$kit/" "$prefix" || true)
     [ -z "$found" ] || wrong "a path of this machine stands in: $found"
     found=$(find "$prefix" -type l ! -exec test -e {} \; -print)
     [ -z "$found" ] || wrong "links that lead nowhere: $found"
@@ -67,8 +75,8 @@ look_around() {
 # The shared library has its name, the header's functions and no others, and nothing that is relocated in its code.
 look_at_shared() {
     local library="$prefix/lib/libvempaldi.so.$version" exported declared
-    [ "$(readlink "$prefix/lib/libvempaldi.so.$interface")" = "libvempaldi.so.$version" ] || wrong "libvempaldi.so.$interface is no link to the library"
-    readelf -dW "$library" | grep -qF "[libvempaldi.so.$interface]" || wrong "the shared library does not have the name libvempaldi.so.$interface"
+    same "libvempaldi.so.$version" "$(readlink "$prefix/lib/libvempaldi.so.$interface")" "where libvempaldi.so.$interface leads"
+    readelf -dW "$library" | grep -qF "[libvempaldi.so.$interface]" || wrong "the shared library's name is not libvempaldi.so.$interface"
     ! readelf -dW "$library" | grep -q TEXTREL || wrong "the shared library's code is relocated"
     exported=$(nm -D --defined-only --format=posix "$library" | cut -d' ' -f1 | sort)
     declared=$(sed -nE 's/^(void|uint32_t|uint64_t) (vempaldi_[a-z_]+)\(.*/\2/p' "$prefix/include/vempaldi.h" | sort)
@@ -92,7 +100,7 @@ int main(void) {
 }
 C
     eval cc version.c "$(pkg-config --cflags vempaldi)" '"$(place archive)"' -o version
-    same "$(printf '%s\n' "$version" | awk -F. '{ n = $1 * 10000 + $2 * 100 + $3; print n, n, n }')" "$(./version)" "the header's numbers, and the library's"
+    same "$(awk -F. '{ n = $1 * 10000 + $2 * 100 + $3; print n, n, n }' <<< "$version")" "$(./version)" "the header's numbers, and the library's"
 }
 
 # The installed command and the proved program.
@@ -139,7 +147,7 @@ cmake_build() {
 
 # The C and Fortran examples by CMake, static and shared; versions that fit and that don't.
 by_cmake() {
-    local kind asked
+    local kind asked used
     mkdir project
     cp "$prefix/share/vempaldi/examples/c/example.c" "$prefix/share/vempaldi/examples/fortran/example.f90" project
     cat > project/CMakeLists.txt <<'C'
@@ -153,13 +161,22 @@ target_link_libraries(example-f vempaldi::vempaldi)
 C
     for kind in OFF ON; do
         rm -rf project-build
-        cmake_build project -DBUILD_SHARED_LIBS=$kind -Dasked="$version" || { cat cmake.log; wrong "the project of CMake, BUILD_SHARED_LIBS=$kind, is not built"; }
+        cmake_build project -DBUILD_SHARED_LIBS=$kind -Dasked="$version" || {
+            cat cmake.log
+            wrong "the project of CMake, BUILD_SHARED_LIBS=$kind, is not built"
+        }
         example "in C by CMake, BUILD_SHARED_LIBS=$kind" project-build/example-c
         example "in Fortran by CMake, BUILD_SHARED_LIBS=$kind" project-build/example-f
-        same "$kind" "$(if readelf -dW project-build/example-c | grep -qF libvempaldi.so; then echo ON; else echo OFF; fi)" "whether the shared library is used"
+        used=OFF
+        ! readelf -dW project-build/example-c | grep -qF libvempaldi.so || used=ON
+        same "$kind" "$used" "whether the shared library is used"
     done
-    for asked in 0 "${version%.*}" "0.1...$version"; do cmake_finds "$asked" || { cat cmake.log; wrong "CMake does not take $version for $asked"; }; done
-    for asked in 99 "${version%%.*}.99" "$version.1" 0.1 "0.1...<$version"; do ! cmake_finds "$asked" || wrong "CMake takes $version for $asked"; done
+    for asked in "${version%%.*}" "${version%.*}" "0.1...$version"; do
+        cmake_finds "$asked" || { cat cmake.log; wrong "CMake does not take $version for $asked"; }
+    done
+    for asked in 99 "${version%%.*}.99" "$version.1" 0.1 "0.1...<$version"; do
+        ! cmake_finds "$asked" || wrong "CMake takes $version for $asked"
+    done
 }
 
 # Whether CMake takes the installed version for the one asked for.
@@ -180,7 +197,7 @@ fortran() {
 rust() {
     mkdir -p rust/src
     cp "$prefix/share/vempaldi/examples/rust/example.rs" rust/src/main.rs
-    printf '[package]\nname = "user"\nversion = "1.0.0"\nedition = "2021"\n\n[dependencies]\nvempaldi = { path = "%s" }\n' "$(place rustdir)" > rust/Cargo.toml
+    printf '%s\n' '[package]' 'name = "user"' 'edition = "2021"' '[dependencies]' "vempaldi = { path = \"$(place rustdir)\" }" > rust/Cargo.toml
     cargo build --quiet --offline --manifest-path rust/Cargo.toml || wrong "the Rust example is not built"
     example 'in Rust' rust/target/debug/user
     [ ! -e "$prefix/share/vempaldi/rust/target" ] || wrong "building the user's package writes into the prefix"
@@ -264,4 +281,4 @@ rust
 man_pages
 completion
 compare_options
-echo "bin/install: the examples in C, Fortran and Rust are built from the moved prefix alone, with pkg-config, CMake and cargo; man pages, completion, versions"
+echo "bin/install: the examples are built from the moved prefix alone, with pkg-config, CMake and cargo; man pages, completion, versions"
