@@ -1,5 +1,5 @@
 #!/usr/bin/env bash
-# The scripts of bin/ on a checkout of their own, with two small crates for the library and one that has no part in it: what a first run prints,
+# The scripts of bin/ on a checkout of their own, with two small crates for the library and two that have no part in it: what a first run prints,
 # when the library is made anew and when it is not, that a build which fails, is interrupted or has no toolchain leaves no old library, and
 # that the scripts work through links. The proofs are real ones (rt), a second or two each.
 set -eu
@@ -9,7 +9,7 @@ work=$(mktemp -d)
 trap 'rm -rf "$work"' EXIT
 # A space in the path, for nobody promises that there is none.
 tree="$work/a tree"
-mkdir -p "$tree/crates/one/src" "$tree/crates/one/must-fail" "$tree/crates/vempaldi/src" "$tree/crates/other/src"
+mkdir -p "$tree/crates/one/src" "$tree/crates/one/must-fail" "$tree/crates/vempaldi/src" "$tree/crates/other/src" "$tree/crates/plan/src"
 cp -R bin share include "$tree"
 cd "$tree"
 cat > crates.txt <<'C'
@@ -17,7 +17,9 @@ cat > crates.txt <<'C'
 one:
 other:
 vempaldi: one
+plan: one
 C
+echo 'fn main() {}' > crates/plan/src/main.rt
 ghost='ghost use mathlib.Core.Path.{_≡_};'
 contract='    ensures { λ r. ⌜ r ≡ 7 ⌝ }'
 printf '%s\n' "$ghost" 'pub fn seven() -> usize' "$contract" '{' '    7' '}' > crates/one/src/lib.rt
@@ -129,6 +131,21 @@ sed -i 's/^    8$/    one::seven()/' crates/vempaldi/src/lib.rt
 builds 0 bin/library
 library 'it is mended'
 
+# The program behind bin/plan, in the same way; also where rt has proved it and it is not there any more.
+builds 0 bin/build
+says '^build/plan is not there: 2 crates '
+says '^proved 2 of 2: plan, [0-9]+ s$'
+rm target/bin/plan build/plan
+builds 0 bin/build
+says '^proved 2 of 2: plan, [0-9]+ s$'
+builds 0 bin/plan 2 /dev/null
+silent 'an empty program that is there'
+echo 'fn main() { let x = 1; }' > crates/plan/src/main.rt
+builds 0 bin/plan 2 /dev/null
+says '^the sources or the toolchain have changed since build/plan was made'
+builds 0 bin/library
+silent 'a program is no part of the library'
+
 # No toolchain: a library that cannot be made again is neither used nor removed.
 mkdir "$work/tools"
 for tool in bash env dirname readlink sed awk sort sha256sum cut find xargs cat mkdir; do ln -s "$(command -v $tool)" "$work/tools/$tool"; done
@@ -136,4 +153,4 @@ builds 1 env PATH="$work/tools" bin/library
 says 'the Rattle toolchain \(rt\) is not there'
 library 'there is no toolchain'
 cd "$root"
-echo "bin/library: a line a crate, made anew where something has changed and only there, none left where it fails"
+echo "bin/library, bin/plan: a line a crate, made anew where something has changed and only there, none left where it fails"
