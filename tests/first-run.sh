@@ -146,9 +146,42 @@ says '^the sources or the toolchain have changed since build/plan was made'
 builds 0 bin/library
 silent 'a program is no part of the library'
 
+# A source that changes while it is proved, by a stand-in for rt: what was made is of neither text, and is not kept.
+cat > "$work/kit/rt" <<R
+#!/bin/sh
+case \$1 in
+version) echo another kit ;;
+check) echo '// more' >> crates/one/src/lib.rt ;;
+staticlib) mkdir -p target/staticlib; cp crates.txt target/staticlib/libvempaldi.a ;;
+esac
+R
+builds 1 env PATH="$work/kit:$PATH" bin/library
+says '^the sources have changed while they were proved'
+no_library 'a source changes while it is proved'
+
+# Two builds at once: the second waits for the first, and then has nothing to do.
+cat > "$work/kit/rt" <<R
+#!/bin/sh
+case \$1 in
+version) echo another kit ;;
+check) mkdir "$work/kit/busy" || : > "$work/kit/both"; echo check >> "$work/kit/calls"; sleep 2; rmdir "$work/kit/busy" ;;
+staticlib) mkdir -p target/staticlib; cp crates.txt target/staticlib/libvempaldi.a ;;
+esac
+R
+PATH="$work/kit:$PATH" bin/library > "$work/first" 2>&1 &
+first=$!
+for _ in $(seq 100); do [ -d "$work/kit/busy" ] || sleep 0.05; done
+builds 0 env PATH="$work/kit:$PATH" bin/library
+says '^another build is at work; waiting for it$'
+wait "$first" || wrong 'the first of two builds fails'
+[ ! -e "$work/kit/both" ] || wrong 'two builds prove at the same time'
+[ "$(wc -l < "$work/kit/calls")" -eq 1 ] || wrong 'the second build proves again'
+builds 0 bin/library
+library 'rt itself again'
+
 # No toolchain: a library that cannot be made again is neither used nor removed.
 mkdir "$work/tools"
-for tool in bash env dirname readlink sed awk sort sha256sum cut find xargs cat mkdir; do ln -s "$(command -v $tool)" "$work/tools/$tool"; done
+for tool in bash env dirname readlink sed awk sort sha256sum cut find xargs cat mkdir rm mv cp cmp wc grep flock nproc tail; do ln -s "$(command -v $tool)" "$work/tools/$tool"; done
 builds 1 env PATH="$work/tools" bin/library
 says 'the Rattle toolchain \(rt\) is not there'
 library 'there is no toolchain'
