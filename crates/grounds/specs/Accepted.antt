@@ -4,12 +4,11 @@ use mathlib.Core.Path.{_≡_}
 use mathlib.Core.List.{List, [], _∷_}
 use mathlib.Core.List.{List·Memᴰ as Mem}
 use lib.ListN.{length, getD}
-use Rattle.records.specs.History.{lengths, operands}
+use Rattle.records.specs.History.{operands}
 use Rattle.model.specs.declared.Reference.{Reference}
 use Rattle.model.specs.Table.{Item, read, constant, operation, Statement, Loop, Table, count, loop, first, last}
 use Rattle.model.specs.References.{references}
 use Rattle.grounds.specs.Statements.{sum}
-use Rattle.grounds.specs.Counted.{few}
 
 -- items worked after d waiting numbers: there is never a ninth, an operation is 1 to 5 and finds its operands, and exactly one remains
 abbrev pub Works : List Item → ℕ → Type 0
@@ -41,5 +40,3 @@ pub record Valid (t : Table) : Type 0 where
   pub some-loops : 1 ≤ count t
   pub few-loops : count t ≤ 16
   pub each : (k : ℕ) → k < count t → ValidLoop (t .lengths) k (loop t k)
-
--- so, of grounds 5 and 7: there is an array of each number, and no iteration reaches outside it

@@ -10,7 +10,6 @@ use lib.ListN.{length, getD}
 use Rattle.model.specs.declared.Reference.{Reference}
 use Rattle.model.specs.Table.{Statement, Table, loop, count, iteration, Inside}
 use Rattle.model.specs.References.{reads, refs, Meet}
-use Rattle.serial.specs.Serial.{collides}
 
 -- two different iterations of loop k meet at an element, one storing
 pub record Serial (t : Table) (k : ℕ) : Type 0 where
