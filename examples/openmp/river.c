@@ -85,6 +85,9 @@ static void take_facts(struct plan *plan, const struct table *t) {
     vempaldi_shifts_and_peels(t->bytes, t->length, amounts, sizeof amounts, answer);
     stop_if_refused("shifts", answer);
     for (int k = 0; k < plan->loops; k++) plan->shift[k] = number(amounts, 2 * k);
+    vempaldi_sweeps(t->bytes, t->length, amounts, sizeof amounts, answer);
+    stop_if_refused("sweeps", answer);
+    for (int n = 0; n < 2; n++) plan->sweeps[n] = number(amounts, n);
 }
 
 int make_plan(struct plan *plan, const struct table *t, int processors) {
@@ -147,12 +150,14 @@ void run_unfused(const struct plan *plan, const struct rivers *v, int rounds) {
     }
 }
 
-/* The library lists these iterations by their sum, index plus shift, equal sums in loop order. Here a strip of sums runs whole, its loops one
- * after the other, so that inner loops stay plain and what one loop leaves in the cache the next one finds there. Is that the same? Let an
- * iteration i of loop j and one i + d of a later loop k meet at an element, one of them storing: in the plain run j's comes first. By its
- * definition k's shift is at least j's, and where d < 0 at least j's plus -d; so (i + d) + shift k >= i + shift j: the sum of k's iteration is
- * not below that of j's. Thus j's is in an earlier strip, or in the same one, where loop j runs before loop k: first in either case. Two
- * iterations of one loop never meet (ground 9), so their order is free. Every pair that meets runs in the plain run's order. */
+/* The library lists these iterations by their sum, index plus shift, equal sums in loop order. Here a strip of sums runs whole, its loops
+ * one after the other, so that the inner loops stay plain and each loop finds in the cache what the one before left there. Why is that
+ * allowed? Let iteration i of loop j and iteration i + d of a later loop k meet at an element, one of them storing. The plain run has j's
+ * first. This is a dependence of distance d, so k's shift is at least j's, and at least j's plus -d where d < 0; hence
+ * (i + d) + shift k >= i + shift j: the sum of k's iteration is not below that of j's (proved: `contained` in crates/rows/specs/Contained). So j's
+ * stands in an earlier strip, or in the same one, where all of loop j runs before loop k: in both cases j's runs first. Iterations of one loop
+ * never meet (ground 9), so a compiler may take several at once. Every two iterations of this part that meet keep the plain run's order, and
+ * none of another processor meets one of this part before the barrier (`ordered` in crates/rows/specs/Theorem), so no lock is needed. */
 void fused_part(const struct plan *plan, const struct rivers *v, int b, ptrdiff_t strip) {
     const struct range *part = plan->fused[b];
     ptrdiff_t sum = PTRDIFF_MAX, end = 0;

@@ -22,8 +22,8 @@ struct table {
 /* Everything that the loops below ask the library for, in numbers. */
 struct plan {
     int loops, processors;
-    uint32_t elements, array[4];                                      /* all elements; the first element of H, Q, S, D */
-    struct range own[MOST_LOOPS], block[VEMPALDI_MOST_PROCESSORS];    /* a loop's own bounds; a processor's block */
+    uint32_t elements, array[4], sweeps[2];                        /* all elements; the first of H, Q, S, D; sweeps before and after */
+    struct range own[MOST_LOOPS], block[VEMPALDI_MOST_PROCESSORS]; /* a loop's own bounds; a processor's block */
     ptrdiff_t shift[MOST_LOOPS];
     struct range fused[VEMPALDI_MOST_PROCESSORS][MOST_LOOPS], peeled[VEMPALDI_MOST_PROCESSORS][MOST_LOOPS];
 };
