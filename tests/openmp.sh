@@ -68,7 +68,7 @@ grep -q '^status 1$' <<< "$shiftless" || fail "without shifts the status is not 
 "$made/river" --table 200 1 | cmp - examples/river.table || fail "the table of 200 sections is not examples/river.table"
 same "five time steps" "joining time steps: refused 4 crowd, place 0
 status 1" "$(told "$made/river" --table 200 5)"
-for words in "--time 200" "--time 200 x" "--time 0 1" "--broken nothing" "--table 200 1 1" "x"; do
+for words in "--time 200" "--time 200 x" "--time 200x 1" "--time 0 1" "--broken nothing" "--table 200 1 1" "x"; do
     told "$made/river" $words | grep -q '^status 2$' || fail "'$words' is not a usage error"
 done
 

@@ -27,7 +27,7 @@ static void fill(double *memory, size_t count) {
     uint64_t state = 14;
     for (size_t n = 0; n < count; n++) {
         state = state * 6364136223846793005u + 1442695040888963407u;
-        memory[n] = 50 + (double)(state >> 11) / 9007199254740992.0;
+        memory[n] = (double)(state >> 11) / 9007199254740992.0; /* 53 bits, below 1 */
     }
 }
 
