@@ -1,7 +1,8 @@
 #!/usr/bin/env bash
-# tests/openmp.sh: compiles examples/openmp against the library of build/ and runs its checks. What it must print is counted by hand: a size has
-# for each count of threads one run of the unfused loops and four of the fused ones; one time step has the shifts and peels 0 0 1 2 and
-# so the threshold 4, each further step adds 3 to both, so four have 22; 33 - 2 indices are too few for 8 blocks of 4, 177 - 2 for 8 of 22.
+# tests/openmp.sh: compiles examples/openmp against the library of build/ and runs its checks. What it must print is counted by hand: a size
+# has for each count of threads one run of the unfused loops and four of the fused ones. One time step has the shifts and peels 0 0 1 2,
+# so the threshold 4; each further step adds 3 to both, so four have 11 and 22. 33 - 2 indices are too few for 8 blocks of 4, and 177 - 2
+# for 8 of 22.
 set -eu
 cd "$(dirname "$0")/.."
 library=${VEMPALDI_LIB:-build}
@@ -78,4 +79,4 @@ grep -q '^status 0$' <<< "$timed" || fail "the timed runs: $timed"
 for sweeps in "4  12 to 8" "8  24 to 8" "16  48 to 8"; do
     [ "$(grep -cE "^ +1 +$sweeps +[0-9]+ " <<< "$timed")" -eq 4 ] || fail "the timed runs don't have four lines of '$sweeps': $timed"
 done
-echo "examples/openmp: 460 runs twice over and on three threads have the plain run's bits, and the checks find a plan without shifts, peels or barrier"
+echo "examples/openmp: 460 runs, in three ways, have the plain run's bits; without shifts, peels or barrier they don't"
