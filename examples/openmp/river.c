@@ -130,7 +130,7 @@ static void stage(double *restrict h, const double *restrict d, ptrdiff_t w, ptr
     for (ptrdiff_t x = from; x < past; x++) h[x] = h[x] + (d[x - w] - d[x + w]) / 50;
 }
 
-/* Loop k of the table over the indices from the larger of two firsts to the smaller of two pasts. */
+/* Loop k of the table over the indices that are in both ranges. */
 static void run_loop(int k, const struct rivers *v, struct range a, struct range b) {
     const ptrdiff_t from = (a.first > b.first ? a.first : b.first) * v->width, past = (a.past < b.past ? a.past : b.past) * v->width;
     switch (k % STEP_LOOPS) {
