@@ -14,7 +14,7 @@
 #include "river.h"
 
 enum fault { NONE, SHIFTS, PEELS, BARRIER };
-enum { ROUNDS = 3, TIMED_STEPS = 4, TURNS = 9, WHOLE = 131072 /* no block has more indices, so this is one strip */ };
+enum { ROUNDS = 3, TIMED_STEPS = 4, TURNS = 15, WHOLE = 131072 /* no block has more indices, so this is one strip */ };
 
 static double *room(size_t count) {
     double *memory = malloc(count * sizeof *memory);
@@ -101,33 +101,34 @@ static int check(enum fault fault) {
     return wrong != 0;
 }
 
-/* The best time of the unfused loops and of the fused ones, in milliseconds, taken by turns. Each has its own memory; both do as many
- * time steps, so the memories must end the same. */
-static void time_both(const struct plan *plan, double *const memory[2], ptrdiff_t width, ptrdiff_t strip, double best[2]) {
-    const struct rivers unfused = rivers_in(memory[0], plan, width), fused = rivers_in(memory[1], plan, width);
-    const int rounds = TIMED_STEPS * STEP_LOOPS / plan->loops;
+/* The best time of the unfused loops and of the fused ones, in milliseconds, taken by turns on the same memory. */
+static void time_both(const struct plan *plan, const struct rivers *rivers, ptrdiff_t strip, int rounds, double best[2]) {
     best[0] = best[1] = 1e9;
     for (int turn = 0; turn < 2 * TURNS; turn++) {
         const double begin = omp_get_wtime();
-        if (turn % 2) run_fused(plan, &fused, strip, rounds);
-        else run_unfused(plan, &unfused, rounds);
+        if (turn % 2) run_fused(plan, rivers, strip, rounds);
+        else run_unfused(plan, rivers, rounds);
         const double taken = (omp_get_wtime() - begin) * 1e3;
         if (taken < best[turn % 2]) best[turn % 2] = taken;
     }
 }
 
+/* For each strip length: both leave the same bits, and how long each takes. */
 static int time_plan(const struct table *table, int threads, double *const memory[2], ptrdiff_t width) {
     static const ptrdiff_t strips[] = {8, 64, 512, WHOLE};
     struct plan plan;
     double best[2];
     if (!make_plan(&plan, table, threads)) return printf("%7d  %5d  the blocks are too short\n", threads, plan.loops), 0;
+    const struct rivers rivers = rivers_in(memory[0], &plan, width), others = rivers_in(memory[1], &plan, width);
     const size_t count = plan.elements * (size_t)width;
+    const int rounds = TIMED_STEPS * STEP_LOOPS / plan.loops;
     for (size_t s = 0; s < sizeof strips / sizeof *strips; s++) {
         fill(memory[0], count), fill(memory[1], count);
-        time_both(&plan, memory, width, strips[s], best);
+        run_unfused(&plan, &rivers, rounds), run_fused(&plan, &others, strips[s], rounds);
+        if (memcmp(memory[0], memory[1], count * sizeof(double)) != 0) return puts("NOT the same bits"), 1;
+        time_both(&plan, &rivers, strips[s], rounds, best);
         printf("%7d  %5d  %2u to %u  %6td  %10.2f  %8.2f  %5.2f\n", threads, plan.loops, (unsigned)plan.sweeps[0], (unsigned)plan.sweeps[1],
                strips[s], best[0], best[1], best[0] / best[1]);
-        if (memcmp(memory[0], memory[1], count * sizeof(double)) != 0) return puts("NOT the same bits"), 1;
     }
     return 0;
 }
