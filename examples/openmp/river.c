@@ -16,11 +16,12 @@ enum { ADD = 1, SUBTRACT, MULTIPLY, DIVIDE };
 void stop_if_refused(const char *what, const uint64_t answer[4]) {
     static const char *const words[] = VEMPALDI_WORDS;
     if (answer[0] == VEMPALDI_ACCEPTED) return;
-    fprintf(stderr, "%s: refused %" PRIu64 " %s, place %" PRIu64 "\n", what, answer[0], words[answer[0]], answer[1]);
+    const char *word = answer[0] < sizeof words / sizeof *words ? words[answer[0]] : "(of a later library)";
+    fprintf(stderr, "%s: refused %" PRIu64 " %s, place %" PRIu64 "\n", what, answer[0], word, answer[1]);
     exit(1);
 }
 
-/* ---- the table: a kind byte, then fields, little-endian ---- */
+/* ---- the table: a kind byte, then fields, little-endian; bodies are postfix ---- */
 
 static void put(struct table *table, int bytes, int64_t value) {
     for (int n = 0; n < bytes; n++) table->bytes[table->length++] = (uint8_t)((uint64_t)value >> 8 * n);
@@ -37,11 +38,15 @@ static void one_step(struct table *t, uint32_t sections) {
     const uint32_t last = sections - 2;
     t->length = 0;
     for (int q = 0; q < ARRAYS; q++) array(t, sections);
+    /* S[i] = (H[i-1] - H[i+1]) / 200 */
     loop(t, 1, last, S), take(t, H, -1), take(t, H, 1), operation(t, SUBTRACT), constant(t, 200), operation(t, DIVIDE);
+    /* Q[i] = Q[i] * 9 / 10 + S[i] * 40 */
     loop(t, 1, last, Q), take(t, Q, 0), constant(t, 9), operation(t, MULTIPLY), constant(t, 10), operation(t, DIVIDE);
     take(t, S, 0), constant(t, 40), operation(t, MULTIPLY), operation(t, ADD);
+    /* D[i] = (Q[i-1] + 2 * Q[i] + Q[i+1]) / 4 */
     loop(t, 1, last, D), take(t, Q, -1), constant(t, 2), take(t, Q, 0), operation(t, MULTIPLY), operation(t, ADD);
     take(t, Q, 1), operation(t, ADD), constant(t, 4), operation(t, DIVIDE);
+    /* H[i] = H[i] + (D[i-1] - D[i+1]) / 50 */
     loop(t, 1, last, H), take(t, H, 0), take(t, D, -1), take(t, D, 1), operation(t, SUBTRACT), constant(t, 50);
     operation(t, DIVIDE), operation(t, ADD);
     put(t, 1, 6);
