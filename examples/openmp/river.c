@@ -1,4 +1,5 @@
 #include "river.h"
+#include "vempaldi_builder.h"
 
 #include <float.h>
 #include <inttypes.h>
@@ -11,7 +12,6 @@
 #endif
 
 enum { H, Q, S, D, ARRAYS };
-enum { ADD = 1, SUBTRACT, MULTIPLY, DIVIDE };
 
 void stop_if_refused(const char *what, const uint64_t answer[4]) {
     static const char *const words[] = VEMPALDI_WORDS;
@@ -21,35 +21,33 @@ void stop_if_refused(const char *what, const uint64_t answer[4]) {
     exit(1);
 }
 
-/* ---- the table: a kind byte, then fields, little-endian; bodies are postfix ---- */
+/* ---- the table: bodies are postfix ---- */
 
-static void put(struct table *table, int bytes, int64_t value) {
-    for (int n = 0; n < bytes; n++) table->bytes[table->length++] = (uint8_t)((uint64_t)value >> 8 * n);
-}
-static void array(struct table *t, uint32_t length) { put(t, 1, 1), put(t, 4, length); }
-static void loop(struct table *t, uint32_t first, uint32_t last, int to) {
-    put(t, 1, 2), put(t, 4, first), put(t, 4, last), put(t, 1, to), put(t, 2, 0);
-}
-static void take(struct table *t, int from, int offset) { put(t, 1, 3), put(t, 1, from), put(t, 2, offset); }
-static void constant(struct table *t, uint32_t value) { put(t, 1, 4), put(t, 4, value); }
-static void operation(struct table *t, int code) { put(t, 1, 5), put(t, 1, code); }
+typedef struct vempaldi_builder builder;
+static void loop(builder *b, uint32_t last, int to) { vempaldi_builder_open_loop(b, 1, last, to, 0); }
+static void take(builder *b, int from, int offset) { vempaldi_builder_read(b, from, offset); }
+static void constant(builder *b, int64_t value) { vempaldi_builder_constant(b, value); }
+static void operation(builder *b, int code) { vempaldi_builder_operation(b, code); }
 
-static void one_step(struct table *t, uint32_t sections) {
+static void one_step(struct table *table, uint32_t sections) {
     const uint32_t last = sections - 2;
-    t->length = 0;
-    for (int q = 0; q < ARRAYS; q++) array(t, sections);
+    builder built, *b = &built;
+    vempaldi_builder_start(b);
+    for (int q = 0; q < ARRAYS; q++) vempaldi_builder_array(b, sections);
     /* S[i] = (H[i-1] - H[i+1]) / 200 */
-    loop(t, 1, last, S), take(t, H, -1), take(t, H, 1), operation(t, SUBTRACT), constant(t, 200), operation(t, DIVIDE);
+    loop(b, last, S), take(b, H, -1), take(b, H, 1), operation(b, VEMPALDI_SUBTRACT), constant(b, 200), operation(b, VEMPALDI_DIVIDE);
     /* Q[i] = Q[i] * 9 / 10 + S[i] * 40 */
-    loop(t, 1, last, Q), take(t, Q, 0), constant(t, 9), operation(t, MULTIPLY), constant(t, 10), operation(t, DIVIDE);
-    take(t, S, 0), constant(t, 40), operation(t, MULTIPLY), operation(t, ADD);
+    loop(b, last, Q), take(b, Q, 0), constant(b, 9), operation(b, VEMPALDI_MULTIPLY), constant(b, 10), operation(b, VEMPALDI_DIVIDE);
+    take(b, S, 0), constant(b, 40), operation(b, VEMPALDI_MULTIPLY), operation(b, VEMPALDI_ADD);
     /* D[i] = (Q[i-1] + 2 * Q[i] + Q[i+1]) / 4 */
-    loop(t, 1, last, D), take(t, Q, -1), constant(t, 2), take(t, Q, 0), operation(t, MULTIPLY), operation(t, ADD);
-    take(t, Q, 1), operation(t, ADD), constant(t, 4), operation(t, DIVIDE);
+    loop(b, last, D), take(b, Q, -1), constant(b, 2), take(b, Q, 0), operation(b, VEMPALDI_MULTIPLY), operation(b, VEMPALDI_ADD);
+    take(b, Q, 1), operation(b, VEMPALDI_ADD), constant(b, 4), operation(b, VEMPALDI_DIVIDE);
     /* H[i] = H[i] + (D[i-1] - D[i+1]) / 50 */
-    loop(t, 1, last, H), take(t, H, 0), take(t, D, -1), take(t, D, 1), operation(t, SUBTRACT), constant(t, 50);
-    operation(t, DIVIDE), operation(t, ADD);
-    put(t, 1, 6);
+    loop(b, last, H), take(b, H, 0), take(b, D, -1), take(b, D, 1), operation(b, VEMPALDI_SUBTRACT), constant(b, 50);
+    operation(b, VEMPALDI_DIVIDE), operation(b, VEMPALDI_ADD);
+    if (vempaldi_builder_end(b) != VEMPALDI_BUILT) fprintf(stderr, "a number does not fit its field\n"), exit(1);
+    memcpy(table->bytes, b->bytes, b->length);
+    table->length = b->length;
 }
 
 void make_table(struct table *table, uint32_t sections, int steps) {
