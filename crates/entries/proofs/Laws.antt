@@ -27,7 +27,7 @@ use Rattle.plans.specs.Code.{plannedIn, Made, Laid, made-laid, named-made}
 use Rattle.ranges.specs.Code.{rangeOf as rangeIn}
 use Rattle.ranges.specs.Listed.{loops-are, few-blocks, span-fits, range-in, listed-small}
 use Rattle.numbers.specs.Pairs.{pairs-length}
-use Rattle.entries.specs.Entries.{amountsOf, blocksOf, pairsOf, rangeOf, told, rangesOf}
+use Rattle.entries.specs.Entries.{amountsOf, blocksOf, pairsOf, loopRange, emptyAsZero, rangesOf}
 use Rattle.entries.specs.Code.{Fitting}
 
 -- A LIST of iterations
@@ -91,32 +91,32 @@ module _ (a : Axis) (c : List ℕ) (h : Laid a c) (phase b : ℕ) (l : b < a .bl
         index = λ i m. omega (arith, listed-small a c h phase b i l (omega arith));
       })
 
--- RANGES: told, empty or not; the plan's
+-- RANGES: empty or not; the plan's
 module _ (r : Range) where
-  pub told-empty : r .past ≤ r .from → told r ≡ record { from = 0; past = 0 }
-  told-empty l = rw (le-ltb (r .from) (r .past) l)
+  pub zero-empty : r .past ≤ r .from → emptyAsZero r ≡ record { from = 0; past = 0 }
+  zero-empty l = rw (le-ltb (r .from) (r .past) l)
 
-  pub told-some : r .from < r .past → told r ≡ r
-  told-some l = rw (lt-ltb (r .from) (r .past) l)
+  pub zero-some : r .from < r .past → emptyAsZero r ≡ r
+  zero-some l = rw (lt-ltb (r .from) (r .past) l)
 
 pub ranges-are : (a : Axis) (c : List ℕ) → Laid a c → (phase b : ℕ)
-    → joined (loopsIn c) (λ k. told (rangeIn phase a c b k) .from ∷ told (rangeIn phase a c b k) .past ∷ []) ≡ rangesOf phase b (plannedIn a c)
+    → joined (loopsIn c) (λ k. emptyAsZero (rangeIn phase a c b k) .from ∷ emptyAsZero (rangeIn phase a c b k) .past ∷ []) ≡ rangesOf phase b (plannedIn a c)
 ranges-are a c h phase b = go phase
   where
     same : (f g : ℕ → Range) (n : ℕ) → ((k : ℕ) → k < n → f k ≡ g k)
-        → joined n (λ k. told (f k) .from ∷ told (f k) .past ∷ []) ≡ joined n (λ k. told (g k) .from ∷ told (g k) .past ∷ [])
+        → joined n (λ k. emptyAsZero (f k) .from ∷ emptyAsZero (f k) .past ∷ []) ≡ joined n (λ k. emptyAsZero (g k) .from ∷ emptyAsZero (g k) .past ∷ [])
     same f g zero e = refl
     same f g (suc n) e =
-        ap (λ (l : List ℕ). l ++ (told (f n) .from ∷ told (f n) .past ∷ [])) (same f g n (λ k l. e k (omega arith)))
-        ∙ ap (λ (r : Range). joined n (λ k. told (g k) .from ∷ told (g k) .past ∷ []) ++ (told r .from ∷ told r .past ∷ [])) (e n (omega arith))
+        ap (λ (l : List ℕ). l ++ (emptyAsZero (f n) .from ∷ emptyAsZero (f n) .past ∷ [])) (same f g n (λ k l. e k (omega arith)))
+        ∙ ap (λ (r : Range). joined n (λ k. emptyAsZero (g k) .from ∷ emptyAsZero (g k) .past ∷ []) ++ (emptyAsZero r .from ∷ emptyAsZero r .past ∷ [])) (e n (omega arith))
 
-    go : (m : ℕ) → joined (loopsIn c) (λ k. told (rangeIn m a c b k) .from ∷ told (rangeIn m a c b k) .past ∷ []) ≡ rangesOf m b (plannedIn a c)
+    go : (m : ℕ) → joined (loopsIn c) (λ k. emptyAsZero (rangeIn m a c b k) .from ∷ emptyAsZero (rangeIn m a c b k) .past ∷ []) ≡ rangesOf m b (plannedIn a c)
     go zero =
-        same (rangeIn 0 a c b) (rangeOf 0 b (plannedIn a c)) (loopsIn c) (λ k l. range-in a c h 0 b k l)
-        ∙ ap (λ (n : ℕ). joined n (λ k. told (rangeOf 0 b (plannedIn a c) k) .from ∷ told (rangeOf 0 b (plannedIn a c) k) .past ∷ [])) (loops-are a c h)
+        same (rangeIn 0 a c b) (loopRange 0 b (plannedIn a c)) (loopsIn c) (λ k l. range-in a c h 0 b k l)
+        ∙ ap (λ (n : ℕ). joined n (λ k. emptyAsZero (loopRange 0 b (plannedIn a c) k) .from ∷ emptyAsZero (loopRange 0 b (plannedIn a c) k) .past ∷ [])) (loops-are a c h)
     go (suc m) =
-        same (rangeIn (suc m) a c b) (rangeOf 1 b (plannedIn a c)) (loopsIn c) (λ k l. range-in a c h (suc m) b k l)
-        ∙ ap (λ (n : ℕ). joined n (λ k. told (rangeOf 1 b (plannedIn a c) k) .from ∷ told (rangeOf 1 b (plannedIn a c) k) .past ∷ [])) (loops-are a c h)
+        same (rangeIn (suc m) a c b) (loopRange 1 b (plannedIn a c)) (loopsIn c) (λ k l. range-in a c h (suc m) b k l)
+        ∙ ap (λ (n : ℕ). joined n (λ k. emptyAsZero (loopRange 1 b (plannedIn a c) k) .from ∷ emptyAsZero (loopRange 1 b (plannedIn a c) k) .past ∷ [])) (loops-are a c h)
 
 pub ranges-size : (a : Axis) (c : List ℕ) → Laid a c → (phase b : ℕ) → length (encoded (rangesOf phase b (plannedIn a c))) ≡ 8 * loopsIn c
 ranges-size a c h phase b = pairs-length (count (tableIn c)) _ _ ∙ ap (λ (n : ℕ). 8 * n) (sym (loops-are a c h))

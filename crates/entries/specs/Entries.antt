@@ -34,16 +34,16 @@ abbrev pub listedOf : ℕ → ℕ → Planned → List ℕ
 listedOf phase b q = pairsOf (work (q .table) (q .plan) phase b)
 
 -- the range of each loop that processor b runs in a phase: these iterations and no others are in its list (`in-range`)
-abbrev pub rangeOf : ℕ → ℕ → Planned → ℕ → Range
-rangeOf zero b q = fusedRange (q .table) (q .plan) b
-rangeOf (suc n) b q = peeledRange (q .table) (q .plan) b
+abbrev pub loopRange : ℕ → ℕ → Planned → ℕ → Range
+loopRange zero b q = fusedRange (q .table) (q .plan) b
+loopRange (suc n) b q = peeledRange (q .table) (q .plan) b
 
 -- a range is told by its first index and the one past its last, an empty one by 0 and 0
-abbrev pub told : Range → Range
-told r = cond (ltb (r .from) (r .past)) r (record { from = 0; past = 0 })
+abbrev pub emptyAsZero : Range → Range
+emptyAsZero r = cond (ltb (r .from) (r .past)) r (record { from = 0; past = 0 })
 
 abbrev pub rangesOf : ℕ → ℕ → Planned → List ℕ
-rangesOf phase b q = joined (count (q .table)) (λ k. told (rangeOf phase b q k) .from ∷ told (rangeOf phase b q k) .past ∷ [])
+rangesOf phase b q = joined (count (q .table)) (λ k. emptyAsZero (loopRange phase b q k) .from ∷ emptyAsZero (loopRange phase b q k) .past ∷ [])
 
 -- each entry, with so much room
 unfoldable pub amounts : List ℕ → ℕ → Given

@@ -7,6 +7,8 @@ use blocks::Axis;
 use blocks::Range;
 use blocks::block_of as block_in;
 use model::Iteration;
+use numbers::NUMBER;
+use numbers::PAIR;
 use outputs::Outcome;
 use outputs::refused;
 use outputs::short;
@@ -34,13 +36,8 @@ ghost use Rattle.plans.specs.Code.{plannedIn, Laid};
 ghost use Rattle.ranges.specs.Code.{partIn, partAt, listOf};
 ghost use Rattle.ranges.specs.Code.{rangeOf as rangeIn};
 ghost use Rattle.sweeps.specs.Sweeps.{before, after};
-ghost use Rattle.entries.specs.Entries.{amountsOf, blocksOf, pairsOf, told, rangesOf, amounts, thresholds, sweepsGiven, blocksGiven, listGiven, rangesGiven};
+ghost use Rattle.entries.specs.Entries.{amountsOf, blocksOf, pairsOf, emptyAsZero, rangesOf, amounts, thresholds, sweepsGiven, blocksGiven, listGiven, rangesGiven};
 ghost use Rattle.entries.specs.Code.{Fitting};
-
-// How many bytes a number has, and a pair of numbers.
-const NUMBER: usize = 4;
-
-const PAIR: usize = 8;
 
 // Shift and peel of each of n loops.
 fn write_amounts(out: &mut [u8], n: usize, a: Amounts) -> usize
@@ -235,7 +232,7 @@ pub fn list(s: &[u8], phase: u32, processors: u32, b: u32, out: &mut [u8]) -> Ou
 // A range by its first index and the one past its last, an empty one by 0 and 0.
 fn put_range(out: &mut [u8], at: usize, r: Range) -> usize
     requires { ⌜ at < 2 ^ 32 ⌝ }
-    ensures { λ x. ⌜ Put (now (out .entry)) at (four (told r .from) ++ four (told r .past)) 8 (now (out .exit)) x ⌝ }
+    ensures { λ x. ⌜ Put (now (out .entry)) at (four (emptyAsZero r .from) ++ four (emptyAsZero r .past)) 8 (now (out .exit)) x ⌝ }
 {
     let from = r.from;
     let past = r.past;
@@ -258,7 +255,7 @@ fn put_part(
 ) -> usize
     requires { ⌜ at < 2 ^ 32 ⌝ }
     requires { ⌜ (k < 16) × (b < a .blocks) × (lastAt (now store) k < 2 ^ 31) × (blk .from + column (a .peels) k < 2 ^ 32) × (blk .past + column (a .peels) k < 2 ^ 32) ⌝ }
-    ensures { λ r. ⌜ Put (now (out .entry)) at (four (told (partAt (partIn phase) a (now (store .entry)) blk b k) .from) ++ four (told (partAt (partIn phase) a (now (store .entry)) blk b k) .past)) 8 (now (out .exit)) r ⌝ }
+    ensures { λ r. ⌜ Put (now (out .entry)) at (four (emptyAsZero (partAt (partIn phase) a (now (store .entry)) blk b k) .from) ++ four (emptyAsZero (partAt (partIn phase) a (now (store .entry)) blk b k) .past)) 8 (now (out .exit)) r ⌝ }
 {
     let part = ranges::part_in(phase);
     let r = ranges::range_at(part, a, blk, b, k, store);
@@ -268,7 +265,7 @@ fn put_part(
 // The ranges of the loops in a phase of block b.
 fn write_ranges(out: &mut [u8], phase: u32, a: Axis, b: u32, store: &Store) -> usize
     requires { ⌜ Laid a (now store) × (b < a .blocks) ⌝ }
-    ensures { λ r. ⌜ Put (now (out .entry)) 0 (encoded (joined (loopsIn (now (store .entry))) (λ k. told (rangeIn phase a (now (store .entry)) b k) .from ∷ told (rangeIn phase a (now (store .entry)) b k) .past ∷ []))) (8 * loopsIn (now (store .entry))) (now (out .exit)) r ⌝ }
+    ensures { λ r. ⌜ Put (now (out .entry)) 0 (encoded (joined (loopsIn (now (store .entry))) (λ k. emptyAsZero (rangeIn phase a (now (store .entry)) b k) .from ∷ emptyAsZero (rangeIn phase a (now (store .entry)) b k) .past ∷ []))) (8 * loopsIn (now (store .entry))) (now (out .exit)) r ⌝ }
 {
     let blk = block_in(a.first, a.count, a.blocks, b);
     let loops = reader::loops_in(store);
@@ -286,8 +283,8 @@ fn give_ranges(out: &mut [u8], phase: u32, a: Axis, b: u32, store: &Store) -> Ou
     requires { ⌜ Laid a (now store) × (b < a .blocks) ⌝ }
     ensures { λ r. ⌜ Gives (fitted (length (now (out .entry))) (encoded (rangesOf phase b (plannedIn a (now (store .entry)))))) (now (out .entry)) (now (out .exit)) r ⌝ }
 {
-    let loops = reader::loops_in(store);
-    if out.len() < PAIR * loops {
+    let pairs = reader::loops_in(store);
+    if out.len() < PAIR * pairs {
         return short();
     }
     let n = write_ranges(out, phase, a, b, store);

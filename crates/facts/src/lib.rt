@@ -1,5 +1,6 @@
 // Facts of a table, four bytes each, in lent bytes; or a refusal, which leaves them as found.
 use arithmetic::narrow;
+use numbers::PAIR;
 use outputs::Outcome;
 use outputs::refused;
 use outputs::short;
@@ -20,10 +21,8 @@ ghost use Rattle.outputs.specs.Given.{fitted};
 ghost use Rattle.outputs.specs.Gives.{Gives};
 ghost use Rattle.facts.specs.Facts.{factsOf, factsGiven};
 
-// How many bytes the three counts have, and a pair of numbers.
+// How many bytes the three counts have.
 const COUNTS: usize = 12;
-
-const PAIR: usize = 8;
 
 // How many arrays, loops and elements there are.
 fn put_counts(out: &mut [u8], arrays: usize, loops: usize, elements: u32) -> usize

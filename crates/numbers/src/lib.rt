@@ -4,6 +4,11 @@ ghost use Prim.Native.Nat.{_+_, _<_, _^_};
 ghost use Rattle.text.specs.Lent.{Put};
 ghost use Rattle.numbers.specs.Numbers.{four};
 
+// How many bytes a number has, and a pair of numbers.
+pub const NUMBER: usize = 4;
+
+pub const PAIR: usize = 8;
+
 // One number.
 pub fn put_number(out: &mut [u8], at: usize, x: u32) -> usize
     requires { ⌜ at + 4 < 2 ^ 64 ⌝ }

@@ -5,14 +5,14 @@ use Rattle.text.specs.Written.{put-length}
 use Rattle.numbers.specs.Pairs.{Rowed, rowed-none, rowed-next, rowed-at, rowed-end}
 use Rattle.ranges.specs.Code.{rangeOf}
 use Rattle.ranges.specs.Listed.{few-loops, span-fits, part-asks}
-use Rattle.entries.specs.Entries.{told}
+use Rattle.entries.specs.Entries.{emptyAsZero}
 use borrow.Author.Needs.{needs}
 use Rattle.entries.proofs.write_ranges.Statement.{statement}
 use Rattle.entries.proofs.write_ranges.Tie as tie
 
 abbrev Inv-loop : tie.InvT-loop
 Inv-loop out₀ phase a b store blk loops at₀ k₀ out at k =
-    Rowed (λ j. told (rangeOf phase a store b j) .from) (λ j. told (rangeOf phase a store b j) .past) loops 0 out₀ out k at
+    Rowed (λ j. emptyAsZero (rangeOf phase a store b j) .from) (λ j. emptyAsZero (rangeOf phase a store b j) .past) loops 0 out₀ out k at
 
 abbrev μ-loop : tie.MeasureT-loop
 μ-loop out₀ phase a b store blk loops at₀ k₀ out at k = loops - k
