@@ -1,4 +1,4 @@
--- The grounds 10 to 13 and 15, each by itself, in docs/TABLE.md's words. (1 to 8 are in grounds, 9 in serial, 14 and joining's own 4 in joining.)
+-- The grounds 10 to 13 and 15, each by itself, in docs/TABLE.md's words. (1 to 8 are in grounds, 9 in serial, 14 and joining's own 4 in joins.)
 use Prim.Native.Nat.{ℕ, _+_, _≤_, _<_}
 use mathlib.Core.Logic.{_⊎_, _≢_}
 use mathlib.Core.List.{List}

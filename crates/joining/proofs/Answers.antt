@@ -21,9 +21,9 @@ use Rattle.outputs.specs.declared.Outcome.{Outcome}
 use Rattle.outputs.specs.Given.{Given, fitted}
 use Rattle.outputs.specs.Gives.{refusing, writing, Gives}
 use Rattle.outputs.specs.GivesLaws.{gives-refused, after-refuses, after-gives, gives-short, gives-written}
-use Rattle.joining.specs.Joining.{alike, joinedRecords, joining}
-use Rattle.joining.specs.Written.{alike-same}
-use Rattle.joining.specs.Copied.{bytes, bytes-length, bytes-joined}
+use Rattle.joins.specs.Joining.{alike, joinedRecords, joining}
+use Rattle.joins.specs.Written.{alike-same}
+use Rattle.joins.specs.Copied.{bytes, bytes-length, bytes-joined}
 use Rattle.joining.proofs.Walks.{copied-both}
 
 -- an accepted table is longer than its arrays' records

@@ -11,8 +11,8 @@ use lib.Seq.{length-take-le, take-length, take-at, drop-append-add, drop-drop, d
 use borrow.Author.Tests.{eq-eqb, ne-eqb}
 use Rattle.reader.specs.Store.{Sized, arraysIn, tableIn}
 use Rattle.reader.specs.Held.{Held, few-arrays}
-use Rattle.joining.specs.Joining.{alike}
-use Rattle.joining.specs.Written.{alike-same}
+use Rattle.joins.specs.Joining.{alike}
+use Rattle.joins.specs.Written.{alike-same}
 
 -- LENGTHS: the first n of xs and of ys; those from k on give what all give
 pub record Inv (xs ys : List ℕ) (n k : ℕ) : Type 0 where

@@ -16,8 +16,8 @@ ghost use Rattle.refusals.specs.Answers.{accepted};
 ghost use Rattle.serial.specs.Serial.{table};
 ghost use Rattle.outputs.specs.Given.{fitted};
 ghost use Rattle.outputs.specs.Gives.{Gives};
-ghost use Rattle.joining.specs.Joining.{alike, joining};
-ghost use Rattle.joining.specs.Copied.{bytes};
+ghost use Rattle.joins.specs.Joining.{alike, joining};
+ghost use Rattle.joins.specs.Copied.{bytes};
 ghost use Rattle.reader.specs.Store.{tableIn};
 ghost use Rattle.reader.specs.Held.{Held};
 

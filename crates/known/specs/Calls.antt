@@ -9,7 +9,7 @@ use Rattle.turns.specs.Turn.{refuses}
 use Rattle.turns.specs.Row.{zeros, noneDone}
 use Rattle.plans.specs.Plans.{settings}
 use Rattle.entries.specs.Entries.{thresholds, blocksGiven}
-use Rattle.joining.specs.Joining.{alike, joining}
+use Rattle.joins.specs.Joining.{alike, joining}
 use Rattle.known.specs.Records.{array, ahead, loop, one, end}
 use Rattle.known.specs.Bytes.{tableOf, example, itself, steep, river}
 use Rattle.known.specs.Computed.{refusalFor}

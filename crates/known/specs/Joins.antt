@@ -5,8 +5,8 @@ use Rattle.refusals.specs.Refusals.{none, met, naming}
 use Rattle.refusals.specs.Answers.{accepted, refused}
 use Rattle.outputs.specs.Given.{fitted, countOf}
 use Rattle.records.specs.Encoding.{inTwo, inFour, inOffset, encode, encodeAll}
-use Rattle.joining.specs.Records.{arrayRecords, itemRecords, loopRecords}
-use Rattle.joining.specs.Joining.{alike, joinedRecords, joining}
+use Rattle.joins.specs.Records.{arrayRecords, itemRecords, loopRecords}
+use Rattle.joins.specs.Joining.{alike, joinedRecords, joining}
 use Rattle.known.specs.Records.{array, ahead, store, read, one, end, times}
 use Rattle.known.specs.Bytes.{tableOf, example, itself, storer, reader, joinedBytes}
 use Rattle.known.specs.Computed.{refusal, refusalFor, shiftsIn, peelsIn}

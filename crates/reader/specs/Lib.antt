@@ -16,7 +16,3 @@ pub mod ReadInto
 pub mod ReadIntoLaws
 -- how a reading that accepts goes
 pub mod Accepting
--- the bytes of the longest table, and of an input that is refused furthest
-pub mod Longest
--- the bounds on bytes are attained
-pub mod Attained

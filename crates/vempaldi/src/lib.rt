@@ -9,7 +9,7 @@ ghost use lib.ListN.{length};
 ghost use Rattle.refusals.specs.Answers.{refusalOf};
 ghost use Rattle.serial.specs.Serial.{table as accepts};
 ghost use Rattle.outputs.specs.Given.{final, countOf};
-ghost use Rattle.joining.specs.Joining.{joining};
+ghost use Rattle.joins.specs.Joining.{joining};
 ghost use Rattle.facts.specs.Facts.{factsGiven};
 ghost use Rattle.entries.specs.Entries.{amounts, thresholds, sweepsGiven, blocksGiven, fusedGiven, peeledGiven, fusedRangesGiven, peeledRangesGiven};
 ghost use Rattle.printing.specs.Printing.{listingGiven};

@@ -12,9 +12,9 @@ use Rattle.records.specs.EncodingLaws.{encode-length, encode-append}
 use Rattle.model.specs.Table.{Table}
 use Rattle.refusals.specs.Answers.{accepted}
 use Rattle.reader.specs.Reading.{reading}
-use Rattle.joining.specs.Records.{arrayRecords, loopRecords, recordsOf}
-use Rattle.joining.specs.Canonical.{canonical}
-use Rattle.joining.specs.Joining.{joinedRecords}
+use Rattle.joins.specs.Records.{arrayRecords, loopRecords, recordsOf}
+use Rattle.joins.specs.Canonical.{canonical}
+use Rattle.joins.specs.Joining.{joinedRecords}
 
 -- the end is left's last byte; the arrays are right's first records, of five bytes each
 unfoldable pub bytes : List ℕ → List ℕ → ℕ → List ℕ

@@ -11,7 +11,7 @@ use Rattle.refusals.specs.Refusals.{met}
 use Rattle.refusals.specs.Answers.{refused, _if_else_, after}
 use Rattle.serial.specs.Serial.{table}
 use Rattle.outputs.specs.Given.{Given, fitted}
-use Rattle.joining.specs.Records.{arrayRecords, loopRecords}
+use Rattle.joins.specs.Records.{arrayRecords, loopRecords}
 
 -- two lists of arrays' lengths are the same
 unfoldable pub alike : List ℕ → List ℕ → Bool

@@ -13,8 +13,8 @@ use Rattle.refusals.specs.Answers.{accepted, refused}
 use Rattle.reader.specs.Reading.{loopsOf, follow, readFrom, reading}
 use Rattle.serial.specs.Serial.{collides, hit, loopHit, serialFrom, through, table}
 use Rattle.outputs.specs.Given.{fitted}
-use Rattle.joining.specs.Records.{arrayRecords, itemRecords, loopRecords}
-use Rattle.joining.specs.Joining.{alike, joinedRecords, joining, together}
+use Rattle.joins.specs.Records.{arrayRecords, itemRecords, loopRecords}
+use Rattle.joins.specs.Joining.{alike, joinedRecords, joining, together}
 
 -- an array of n elements; loops from 0 to 2 and from 1 to 3, A0[i] = 1 and A0[i−1] = 2; a loop from 0 to 1, A0[i] = A0[i] + A0[i+1]
 abbrev pub array : ℕ → List ℕ

@@ -19,11 +19,11 @@ use Rattle.reader.specs.Accepting.{accepted-rest, arrays-counted, loops-counted
 use Rattle.serial.specs.declared.Collision.the-variants.{Nothing}
 use Rattle.serial.specs.Serial.{table, loopHit}
 use Rattle.serial.specs.Parallel.{Parallel, parallel-accepted, accepted-parallel}
-use Rattle.joining.specs.Records.{recordsOf}
-use Rattle.joining.specs.Canonical.{Onward, ends, goes, rest-onward, onward-accepted}
-use Rattle.joining.specs.Joining.{joinedRecords, joining, together}
-use Rattle.joining.specs.Written.{joined-together, written-known}
-use Rattle.joining.specs.Beside.{Opening, opening, onward-opened, onward-end, Behind, behind-first, behind-clear, behind-more}
+use Rattle.joins.specs.Records.{recordsOf}
+use Rattle.joins.specs.Canonical.{Onward, ends, goes, rest-onward, onward-accepted}
+use Rattle.joins.specs.Joining.{joinedRecords, joining, together}
+use Rattle.joins.specs.Written.{joined-together, written-known}
+use Rattle.joins.specs.Beside.{Opening, opening, onward-opened, onward-end, Behind, behind-first, behind-clear, behind-more}
 
 -- the left table without its end, and then whatever follows
 left-part : (rs all total : List Record) → Onward rs all → Onward all total → Onward rs total

@@ -13,8 +13,8 @@ use Rattle.model.specs.Table.{Item, read, constant, operation}
 use Rattle.model.specs.Table.{Loop as LoopOf}
 use Rattle.reader.specs.Reading.{loopsOf}
 use Rattle.reader.specs.Accepting.{arrays-counted, loops-counted}
-use Rattle.joining.specs.RecordsLaws.{no-loop}
-use Rattle.joining.specs.Canonical.{Onward, ends, goes}
+use Rattle.joins.specs.RecordsLaws.{no-loop}
+use Rattle.joins.specs.Canonical.{Onward, ends, goes}
 
 -- THE ARRAYS COME FIRST
 -- the first loop: before it there are arrays alone

@@ -16,8 +16,8 @@ use Rattle.model.specs.Table.{Table}
 use Rattle.refusals.specs.Answers.{accepted}
 use Rattle.reader.specs.Reading.{reading, tableOf, loopsOf}
 use Rattle.reader.specs.Accepting.{Rest, ended, passed, rest-accepted, accepted-rest}
-use Rattle.joining.specs.Records.{arrayRecords, loopRecords, recordsOf}
-use Rattle.joining.specs.RecordsLaws.{before, before-more}
+use Rattle.joins.specs.Records.{arrayRecords, loopRecords, recordsOf}
+use Rattle.joins.specs.RecordsLaws.{before, before-more}
 
 -- one record more
 encode-more : (rs : List Record) (r : Record) → Clear r (summary rs) (lengths rs) → (r ≡ End → ⊥) → encodeAll (before (r ∷ rs)) ≡ encodeAll (before rs) ++ encode r

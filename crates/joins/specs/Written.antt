@@ -16,10 +16,10 @@ use Rattle.refusals.specs.Answers.{accepted}
 use Rattle.refusals.specs.AnswerLaws.{if-accepted, after-accepted}
 use Rattle.serial.specs.Serial.{table}
 use Rattle.outputs.specs.Given.{fitted}
-use Rattle.joining.specs.Joining.{alike, joinedRecords, joining, together}
-use Rattle.joining.specs.Example.{array, ones, twos, end, tableWith, example}
-use Rattle.joining.specs.Records.{arrayRecords, loopRecords, recordsOf}
-use Rattle.joining.specs.RecordsLaws.{loops-append}
+use Rattle.joins.specs.Joining.{alike, joinedRecords, joining, together}
+use Rattle.joins.specs.Example.{array, ones, twos, end, tableWith, example}
+use Rattle.joins.specs.Records.{arrayRecords, loopRecords, recordsOf}
+use Rattle.joins.specs.RecordsLaws.{loops-append}
 
 -- alike means equal
 pub alike-same : (ns ms : List ℕ) → alike ns ms ≡ true → ns ≡ ms

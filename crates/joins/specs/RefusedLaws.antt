@@ -18,9 +18,9 @@ use Rattle.reader.specs.Reading.{Answer}
 use Rattle.serial.specs.Serial.{table}
 use Rattle.tables.specs.Nine.{told-some, refused-told}
 use Rattle.outputs.specs.Given.{Given, fitted}
-use Rattle.joining.specs.Joining.{alike, joinedRecords, joining}
-use Rattle.joining.specs.Written.{alike-same, same-alike}
-use Rattle.joining.specs.Refused.{BothAccepted, OfBoth, in-left, in-right, unlike, crowd, buffer}
+use Rattle.joins.specs.Joining.{alike, joinedRecords, joining}
+use Rattle.joins.specs.Written.{alike-same, same-alike}
+use Rattle.joins.specs.Refused.{BothAccepted, OfBoth, in-left, in-right, unlike, crowd, buffer}
 
 -- two lists of lengths that differ are not alike, and the other way
 unlike-differ : (ns ms : List ℕ) → alike ns ms ≡ false → ns ≢ ms

@@ -7,8 +7,8 @@ use Rattle.refusals.specs.Answers.{refused, refusalOf}
 use Rattle.records.specs.Bytes.{two, four, offset, kindOf, bodyLength, recordOf, recordAt}
 use Rattle.records.specs.Grounds.{early, edge, fields, ground, passed, tested}
 use Rattle.records.specs.History.{operands, withArray, withLoop, withItem, advanced, blank, summary, lengths}
 use Rattle.reader.specs.Reading.{loopsOf, follow, readFrom, reading}
-use Rattle.reader.specs.Longest.{longest, furthest}
+use Rattle.longest.specs.Longest.{longest, furthest}
 
 pub longest-accepted : (length longest ≡ 2065) × (refusalOf (reading longest) ≡ none)
 unfolding two four offset kindOf bodyLength recordOf recordAt early edge fields ground passed tested

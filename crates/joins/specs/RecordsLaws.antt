@@ -12,7 +12,7 @@ use Rattle.model.specs.Table.{Item, read, constant, operation}
 use Rattle.model.specs.Table.{Loop as LoopOf}
 use Rattle.reader.specs.Reading.{loopsOf}
 use Rattle.reader.specs.Accepting.{loops-counted}
-use Rattle.joining.specs.Records.{arrayRecords, itemRecords, loopRecords}
+use Rattle.joins.specs.Records.{arrayRecords, itemRecords, loopRecords}
 
 -- ROWS ONE AFTER THE OTHER
 arrays-append : (ns ms : List ℕ) → arrayRecords (ns ++ ms) ≡ arrayRecords ns ++ arrayRecords ms

@@ -11,7 +11,7 @@ use Rattle.refusals.specs.Refusals.{met}
 use Rattle.refusals.specs.Answers.{accepted}
 use Rattle.serial.specs.Serial.{table}
 use Rattle.tables.specs.Told.{Told}
-use Rattle.joining.specs.Joining.{joinedRecords}
+use Rattle.joins.specs.Joining.{joinedRecords}
 
 -- both tables are accepted
 abbrev pub BothAccepted : List ℕ → List ℕ → Table → Table → Type 0
