@@ -44,7 +44,7 @@ fn texts_are_joined_as_their_tables() {
     std::fs::remove_file(&out).expect("removed");
     let told = run(&["join", RIVER, "examples/jacobi.txt"]);
     let said =
-        "examples/river.txt and examples/jacobi.txt: refused 14 unlike: array 0 has 200 elements, in the second table 400\n";
+        "examples/river.txt and examples/jacobi.txt: refused 14 unlike: array 0 is H with 200 elements, in the second table A with 400\n";
     assert_eq!((told.status, told.err.as_str()), (1, said));
 }
 
@@ -52,8 +52,8 @@ fn texts_are_joined_as_their_tables() {
 fn joined_tables_are_told_apart_by_what_differs() {
     let one = out_name("one-array");
     std::fs::write(&one, "array H 12\nloop 1 10 -> H[i]: 1\n").expect("written");
-    let told = fed(&["join", &one, "-"], b"array H 12\narray Q 12\nloop 1 10 -> H[i]: 1\n");
-    assert_eq!(told.err, format!("{one} and -: refused 14 unlike: the first table has 1 array, the second one 2\n"));
+    let told = fed(&["join", &one, "-"], &bytes(EXAMPLE));
+    assert_eq!(told.err, format!("{one} and -: refused 14 unlike: the first table has 1 array, the second one 3\n"));
     let nine = "loop 1 10 -> H[i]: 1\n".repeat(9);
     std::fs::write(&one, format!("array H 12\n{nine}")).expect("written");
     let told = fed(&["join", &one, "-"], format!("array H 12\n{nine}").as_bytes());
