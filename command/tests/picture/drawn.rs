@@ -228,7 +228,7 @@ impl Drawn {
             overview.with("strong").into_iter().find(|one| one.text == "all blocks, to scale").expect("a head").number("y");
         let names = self.stand_over_columns(overview, head, &[named, bare]);
         let below = self.stand_over_columns(overview, head + 14.0, &[bounds]);
-        assert!(below % names == 0 || below == ends.len(), "indices of every {below}th panel, names of every {names}th");
+        assert!(below.is_multiple_of(names) || below == ends.len(), "indices of every {below}th panel, names of every {names}th");
     }
 
     /// One text at least in that line: those of one of these rows, each over its column; or every second, third and so on from the first on,
