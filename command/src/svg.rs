@@ -72,9 +72,9 @@ impl Picture {
         self.body += &format!("<text class='{} mid' x='{x:.1}' y='{y:.1}'>{}</text>\n", font.class, escape(said));
     }
 
-    /// The first of the rows whose texts all fit, each in the middle of its room. Where none does, every second text, every third and so on,
-    /// each from the left edge of its own room on into those that stay without; the last one is left out where it has no room. Only
-    /// multiples of `every` are asked for, so that a row below another one can keep to it. The result is how many rooms the texts are apart.
+    /// The first of the rows whose texts all fit, each in the middle of its room. Where none does, every second text, every third and so
+    /// on, each from the left edge of its own room on into those that stay without; the last one is left out where it has no room. Only
+    /// multiples of `every` are asked for, so that a row can keep to the one above it. The result is how many rooms the texts are apart.
     pub fn spread(&mut self, rooms: &[(f64, f64)], every: usize, y: f64, font: &Font, rows: &[Vec<String>]) -> usize {
         let fits = |room: &(f64, f64), text: &str| width(text, font) + 2.0 * APART <= room.1;
         let all_fit = |&(step, row): &(usize, &Vec<String>)| {

@@ -81,8 +81,8 @@ fn the_fullest_picture_can_be_read() {
     }
 }
 
-/// The indices of all blocks of a plan for sixty-four processors have no room side by side, and where the panels are many, neither have their
-/// names: some of them are left out, and never all.
+/// The indices of many panels have no room side by side, and where there are more panels yet, neither have their names: some of them are
+/// left out, and never all.
 #[test]
 fn some_panels_are_named_where_not_all_can_be() {
     let full = Drawn::new(&fed(&["draw", "-", "-p", "64"], fullest().as_bytes()).out);
