@@ -231,7 +231,7 @@ impl Drawn {
         assert!(below.is_multiple_of(names) || below == ends.len(), "indices of every {below}th panel, names of every {names}th");
     }
 
-    /// One text at least in that line: those of one of these rows, each over its column; or every second, third and so on from the first on,
+    /// One text at least in that line: those of one of these rows, each over its column; or every second, third and so on from the first,
     /// each from its column's left edge on and not as far as the next. The result is how many columns these are apart.
     fn stand_over_columns(&self, overview: &Element, y: f64, rows: &[Vec<String>]) -> usize {
         let is_text = |one: &&Element| one.name == "text" && one.number("y") == y && one.text != "all blocks, to scale";
