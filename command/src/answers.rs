@@ -5,6 +5,7 @@ use crate::batch;
 use crate::input::Input;
 use crate::options::Options;
 use crate::outcome::{Failure, Outcome};
+use crate::outputs;
 use crate::parse::TextError;
 use crate::refusals::{describe, Asked};
 use vempaldi::Refusal;
@@ -61,11 +62,11 @@ fn line(refusal: &Refusal) -> String {
 
 const ALONE: &str = "with --raw the standard output has the answer alone";
 
-/// What a command makes needs a file of its own beside a raw answer.
+/// What a command makes needs a file beside a raw answer, and one that the command does not read.
 pub fn needs_file(options: &Options) -> Told {
     match options.value("-o") {
         None | Some("-") if options.raw() => Err(Failure::Usage(format!("{ALONE}: -o OUT must name a file"))),
-        _ => Ok(()),
+        _ => outputs::apart_from_inputs(options),
     }
 }
 

@@ -32,8 +32,8 @@ pub const PLAN: Help = Help {
 
 pub const JOIN: Help = Help {
     usage: "vempaldi join LEFT RIGHT [-o OUT] [--raw]",
-    does: "one table: left's loops, then right's, over the same arrays",
-    options: "  -o OUT       where to write it, if not to the standard output\n",
+    does: "one table: left's loops, then right's, over the same arrays, in texts of the same names",
+    options: "  -o OUT       where to write it, if not to the standard output; none of the files to read\n",
     parts: &[],
 };
 
@@ -43,7 +43,8 @@ pub const RUN: Help = Help {
     options: "  -p N         how many processors, 1 to 64
   --order ORDER, --memory MEMORY   see below
   --values     print the memory after the run
-  -o OUT       write the memory after the run, of one FILE: binary64 numbers, little-endian
+  -o OUT       write the memory after the run, of one FILE: binary64 numbers, little-endian; OUT is
+               none of the files to read
 ",
     parts: &[ORDERS, MEMORIES],
 };
@@ -58,7 +59,7 @@ pub const DUMP: Help = Help {
 pub const MAKE: Help = Help {
     usage: "vempaldi make FILE [-o OUT] [--raw]",
     does: "the table of a text",
-    options: "  -o OUT       where to write it, if not to the standard output\n",
+    options: "  -o OUT       where to write it, if not to the standard output; none of the files to read\n",
     parts: &[TEXT],
 };
 
@@ -66,7 +67,7 @@ pub const DRAW: Help = Help {
     usage: "vempaldi draw FILE -p N [-o OUT] [--raw]",
     does: "a picture of the plan in SVG: blocks across, loops down",
     options: "  -p N         how many processors, 1 to 64
-  -o OUT       where to write it, if not to the standard output
+  -o OUT       where to write it, if not to the standard output; none of the files to read
 ",
     parts: &[],
 };
@@ -82,14 +83,15 @@ a last line on the standard error counts them. -p2 is -p 2, --order=turns is --o
 
 const STATUS: &str = "
 Exit status: 0 all accepted (run: and all memories agree), 1 something refused or different or a
-text wrong, 2 usage or input/output error.
+text wrong (join: or names that differ), 2 usage or input/output error.
 ";
 
 const REFUSED: &str = "
 A refusal says its number and word, the record and the byte, and what is wrong there; of a text also
 line, column and the line itself; 9 shows the loop with the read that it names marked. Records,
 bytes, arrays, loops, reads and processors count from 0, lines and columns of a text from 1.
-docs/REFUSALS.md has an example of each and what to do about it.
+REFUSALS.md has an example of each and what to do about it (in docs of the source tree, installed
+in share/doc/vempaldi).
 ";
 
 const LINES: &str = "
@@ -100,8 +102,9 @@ The lines of a plan:
 ";
 
 const JSON: &str = "
-plan --json: docs/plan.schema.json has the form of the objects. A refused table and a wrong text
-have theirs too, with 'accepted' false; a file that cannot be read has none.
+plan --json: plan.schema.json has the form of the objects (in docs of the source tree, installed in
+share/doc/vempaldi). A refused table and a wrong text have theirs too, with 'accepted' false; a file
+that cannot be read has none.
 ";
 
 const ORDERS: &str = "
@@ -126,7 +129,8 @@ MEMORY, the numbers before the run:
 const RAW: &str = "
 --raw: the standard output has the library's answers and nothing else, a line or several for each
 file in the order given, without names. The standard error has usage and input/output errors alone
-(and what is wrong with a text; run: and a memory that differs). A refusal is one line:
+(and what is wrong with a text; join: and names that differ; run: and a memory that differs). A
+refusal is one line:
   refused NUMBER PLACE          for 9: refused 9 LOOP READ
 Accepted:
   check, dump, make: accepted   (check -q: nothing; dump: no text)

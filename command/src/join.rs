@@ -22,10 +22,23 @@ pub fn join(options: &Options) -> Result<Outcome, Failure> {
         (Err(error), _) => return answers::wrong_text(left, &error),
         (_, Err(error)) => return answers::wrong_text(right, &error),
     };
-    match vempaldi::join(&first.table, &second.table) {
-        Ok(joined) => answers::made(options, &joined, &format!("{}\n", joined.len())),
-        Err(refusal) => refused(options, &first, &second, &refusal),
+    let joined = match vempaldi::join(&first.table, &second.table) {
+        Ok(joined) => joined,
+        Err(refusal) => return refused(options, &first, &second, &refusal),
+    };
+    // The library joins by place and knows no names. It has refused nothing, so a script has no line for this.
+    if let Some((array, ours, theirs)) = differing_names(&first, &second) {
+        let names = format!("array {array} is {ours} in the first text, {theirs} in the second");
+        batch::say(&format!("{left} and {right}: {names}; joining goes by an array's place, not by its name"));
+        return Ok(Outcome::Bad);
     }
+    answers::made(options, &joined, &format!("{}\n", joined.len()))
+}
+
+/// The first place at which two texts have arrays of different names. A table has no names that could differ.
+fn differing_names<'a>(left: &'a Input, right: &'a Input) -> Option<(usize, &'a str, &'a str)> {
+    let pairs = left.names.0.iter().zip(&right.names.0).enumerate();
+    pairs.map(|(array, (ours, theirs))| (array, ours.as_str(), theirs.as_str())).find(|(_, ours, theirs)| ours != theirs)
 }
 
 /// The refusal of joining does not say which table met a ground, so each is asked by itself.
@@ -53,18 +66,37 @@ fn words(left: &Input, right: &Input, refusal: &Refusal) -> Option<String> {
         Ground::Unlike => {
             let mut pairs = first.arrays.iter().zip(&second.arrays).enumerate();
             let different = pairs.find(|(_, (ours, theirs))| ours.length != theirs.length);
-            let (count, other) = (first.arrays.len(), second.arrays.len());
             Some(match different {
-                Some((array, (ours, theirs))) => {
-                    format!(
-                        "array {array} has {}, in the second table {}",
-                        counted(ours.length as usize, "element"),
-                        theirs.length
-                    )
-                }
-                None => format!("the first table has {}, the second one {other}", counted(count, "array")),
+                Some((array, (ours, theirs))) => lengths(left, right, array, [ours.length, theirs.length]),
+                None => counts(left, right, [first.arrays.len(), second.arrays.len()]),
             })
         }
         _ => None,
+    }
+}
+
+/// An array that is longer in one of the two, by the names that texts give it.
+fn lengths(left: &Input, right: &Input, array: usize, [ours, theirs]: [u32; 2]) -> String {
+    let elements = counted(ours as usize, "element");
+    match (left.names.0.get(array), right.names.0.get(array)) {
+        (Some(one), Some(other)) if one != other => {
+            format!("array {array} is {one} with {elements}, in the second table {other} with {theirs}")
+        }
+        (Some(name), _) | (None, Some(name)) => format!("array {array} ({name}) has {elements}, in the second table {theirs}"),
+        (None, None) => format!("array {array} has {elements}, in the second table {theirs}"),
+    }
+}
+
+/// One of the two has more arrays: which these are, where names say it.
+fn counts(left: &Input, right: &Input, [ours, theirs]: [usize; 2]) -> String {
+    let said = format!("the first table has {}, the second one {theirs}", counted(ours, "array"));
+    if let Some((array, one, other)) = differing_names(left, right) {
+        return format!("{said}; array {array} is {one} in the first, {other} in the second");
+    }
+    let (longer, side) = if ours > theirs { (left, "first") } else { (right, "second") };
+    let array = ours.min(theirs);
+    match longer.names.0.get(array) {
+        Some(name) => format!("{said}; array {array} ({name}) is in the {side} alone"),
+        None => said,
     }
 }

@@ -18,6 +18,7 @@ mod make;
 mod memories;
 mod names;
 mod nearest;
+mod numbers;
 mod objects;
 mod options;
 mod orders;

@@ -87,6 +87,12 @@ impl Options {
         self.raw() || self.has("--json")
     }
 
+    /// All that is read: the files, and those of `--order @FILE` and `--memory @FILE`.
+    pub fn inputs(&self) -> impl Iterator<Item = &str> {
+        let given = self.given.iter().filter(|(name, _)| ["--order", "--memory"].contains(name));
+        self.files.iter().map(String::as_str).chain(given.filter_map(|(_, value)| value.strip_prefix('@')))
+    }
+
     pub fn processors(&self) -> Result<u32, Failure> {
         let value = self.value("-p").ok_or_else(|| Failure::Usage("-p N is missing".to_string()))?;
         value.parse().map_err(|_| Failure::Usage(format!("-p {} is not a number of processors, 1 to 64", quoted(value))))

@@ -1,9 +1,10 @@
-//! `plan -o DIR`: a file in DIR for each table.
+//! Where a command writes: `-o OUT`, a file that is none of those it reads, and `plan -o DIR`, a file in DIR for each table.
 
 use crate::batch;
+use crate::options::Options;
 use crate::outcome::Failure;
 use crate::wording::quoted;
-use std::fs;
+use std::fs::{self, Metadata};
 use std::io::ErrorKind;
 use std::path::{Path, PathBuf};
 
@@ -30,7 +31,7 @@ impl Outputs {
                 return Err(Failure::Usage(both));
             }
             if files.iter().any(|file| same_file(Path::new(file), path)) {
-                return Err(Failure::Usage(format!("{} is one of the files to read", path.display())));
+                return Err(is_read(path));
             }
         }
         paths.iter().try_for_each(|path| remove(path))?;
@@ -49,8 +50,40 @@ impl Outputs {
     }
 }
 
+/// Nothing is written over what the command reads: its files, and those of an order or a memory.
+pub fn apart_from_inputs(options: &Options) -> Result<(), Failure> {
+    let Some(out) = options.value("-o").filter(|out| *out != "-") else { return Ok(()) };
+    match options.inputs().any(|file| same_file(Path::new(file), Path::new(out))) {
+        true => Err(is_read(Path::new(out))),
+        false => Ok(()),
+    }
+}
+
+fn is_read(path: &Path) -> Failure {
+    Failure::Usage(format!("{} is one of the files to read", path.display()))
+}
+
+/// Under whatever names. Of what is no plain file, such as a terminal, nothing is lost.
 fn same_file(left: &Path, right: &Path) -> bool {
-    matches!((left.canonicalize(), right.canonicalize()), (Ok(left), Ok(right)) if left == right)
+    let left = if left == Path::new("-") { Path::new("/dev/stdin") } else { left };
+    match (fs::metadata(left), fs::metadata(right)) {
+        (Ok(one), Ok(other)) if one.is_file() && other.is_file() => {
+            one_inode(&one, &other)
+                || matches!((left.canonicalize(), right.canonicalize()), (Ok(left), Ok(right)) if left == right)
+        }
+        _ => false,
+    }
+}
+
+#[cfg(unix)]
+fn one_inode(left: &Metadata, right: &Metadata) -> bool {
+    use std::os::unix::fs::MetadataExt;
+    (left.dev(), left.ino()) == (right.dev(), right.ino())
+}
+
+#[cfg(not(unix))]
+fn one_inode(_: &Metadata, _: &Metadata) -> bool {
+    false
 }
 
 fn remove(path: &Path) -> Result<(), Failure> {

@@ -2,6 +2,7 @@
 
 use crate::limits::{INDICES, LENGTHS, OFFSETS};
 use crate::names::Names;
+use crate::numbers::{looks_like_number, no_item};
 use crate::pieces::Piece;
 use crate::records::OPERATIONS;
 use crate::spans::{column, marked, Field, Span, Spot};
@@ -173,23 +174,17 @@ impl Maker {
     fn item(&mut self, word: &Piece) -> Result<(), Wrong> {
         if let Some(code) = OPERATIONS.iter().position(|name| *name == word.text) {
             self.record(&[5, code as u8 + 1], word, &[]);
-        } else if begins_with_digit(word.text) {
-            let value: u32 = word.text.parse().map_err(|_| wrong(word, no_whole_number(word.text)))?;
+        } else if looks_like_number(word.text) {
+            // A sign would be taken by `parse`.
+            let value = word.text.parse().ok().filter(|_| !word.text.starts_with('+'));
+            let value: u32 = value.ok_or_else(|| wrong(word, no_item(word.text, &self.made.names.of(0))))?;
             self.record(&[&[4][..], &value.to_le_bytes()].concat(), word, &[]);
-        } else if let Some(positive) = word.text.strip_prefix('-').filter(|rest| is_digits(rest)) {
-            return Err(wrong(word, self.no_negative(word.text, positive)));
         } else {
             let read = self.reference(word, "no item: NAME[i+OFFSET], a whole number, or one of + - * / neg")?;
             let fields = [(Field::Array, read.array), (Field::Offset, read.offset)];
             self.record(&[&[3][..], &read.encoded].concat(), word, &fields);
         }
         Ok(())
-    }
-
-    fn no_negative(&self, word: &str, positive: &str) -> String {
-        let name = self.made.names.of(0);
-        let forms = format!("Write '0 {positive} -' or '{positive} neg'; an offset is written {name}[i{word}]");
-        format!("{} is no item: a whole number is not negative. {forms}", quoted(word))
     }
 
     fn reference(&self, word: &Piece, what: &str) -> Result<Reference, Wrong> {
@@ -224,24 +219,11 @@ fn no_array(name: &str, known: &[String]) -> String {
     }
 }
 
-fn no_whole_number(word: &str) -> String {
-    let hint = if word.contains('.') { "; a fraction is a division: 3 2 /" } else { "" };
-    format!("{} is not a whole number up to 4294967295{hint}", quoted(word))
-}
-
 /// A length or an index. The library says whether it is in its range; here it only has to fit its four bytes.
 fn number(word: &Piece, what: &str, allowed: &RangeInclusive<u32>) -> Result<u32, Wrong> {
     let hint = if word.text.starts_with('-') { " (it is not negative)" } else { "" };
     let no_number = || format!("{} is not {what}, {} to {}{hint}", quoted(word.text), allowed.start(), allowed.end());
     word.text.parse().map_err(|_| wrong(word, no_number()))
-}
-
-fn begins_with_digit(word: &str) -> bool {
-    word.starts_with(|first: char| first.is_ascii_digit())
-}
-
-fn is_digits(word: &str) -> bool {
-    !word.is_empty() && word.chars().all(|one| one.is_ascii_digit())
 }
 
 fn is_name(word: &str) -> bool {

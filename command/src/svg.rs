@@ -4,6 +4,9 @@ pub mod letters;
 
 use letters::{width, Font};
 
+/// On both sides of a text that has others beside it.
+const APART: f64 = 2.0;
+
 #[derive(Default)]
 pub struct Picture {
     body: String,
@@ -69,12 +72,25 @@ impl Picture {
         self.body += &format!("<text class='{} mid' x='{x:.1}' y='{y:.1}'>{}</text>\n", font.class, escape(said));
     }
 
-    /// The first of the rows whose texts all fit their rooms; nothing where none does.
-    pub fn fitting_all(&mut self, rooms: &[(f64, f64)], y: f64, font: &Font, rows: &[Vec<String>]) {
-        let fits = |row: &&Vec<String>| rooms.iter().zip(*row).all(|(room, text)| width(text, font) <= room.1);
-        for (room, text) in rows.iter().find(fits).into_iter().flat_map(|row| rooms.iter().zip(row)) {
-            self.centred(*room, y, font, text);
+    /// The first of the rows whose texts all fit, each in the middle of its room. Where none does, every second text, every third and so
+    /// on, each from the left edge of its own room on into those that stay without; the last one is left out where it has no room. Only
+    /// multiples of `every` are asked for, so that a row can keep to the one above it. The result is how many rooms the texts are apart.
+    pub fn spread(&mut self, rooms: &[(f64, f64)], every: usize, y: f64, font: &Font, rows: &[Vec<String>]) -> usize {
+        let fits = |room: &(f64, f64), text: &str| width(text, font) + 2.0 * APART <= room.1;
+        let all_fit = |&(step, row): &(usize, &Vec<String>)| {
+            let whole = rooms.chunks_exact(step).map(together);
+            whole.zip(row.iter().step_by(step)).all(|(room, text)| fits(&room, text))
+        };
+        let mut choices = (1..=rooms.len()).flat_map(|times| rows.iter().map(move |row| (times * every, row)));
+        let Some((step, row)) = choices.find(all_fit) else { return every };
+        let texts = rooms.chunks(step).map(together).zip(row.iter().step_by(step));
+        for (room, text) in texts.filter(|(room, text)| fits(room, text)) {
+            match step {
+                1 => self.centred(room, y, font, text),
+                _ => self.text(room.0 + APART, y, font, text),
+            }
         }
+        step
     }
 
     /// As much of a text as the room has, with dots behind where some is missing; all of it when the pointer rests on it.
@@ -91,6 +107,12 @@ impl Picture {
         let paper = format!("<rect class='paper' width='{width}' height='{height}'/>\n");
         format!("{head}<style>\n{style}</style>\n{paper}{}</svg>\n", self.body)
     }
+}
+
+/// Rooms side by side as one.
+fn together(rooms: &[(f64, f64)]) -> (f64, f64) {
+    let (first, last) = (rooms[0], rooms[rooms.len() - 1]);
+    (first.0, last.0 + last.1 - first.0)
 }
 
 fn attributes(data: &[(&str, u32)]) -> String {

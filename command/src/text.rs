@@ -8,6 +8,7 @@ use crate::options::Options;
 use crate::outcome::{Failure, Outcome};
 use crate::records::{decode, Item, Loop, OPERATIONS};
 use crate::refusals::{describe, Asked};
+use crate::wording::in_one_line;
 
 const WORDS: Words = Words { good: "accepted", bad: "refused" };
 
@@ -15,7 +16,7 @@ pub fn dump_files(options: &Options) -> Result<Outcome, Failure> {
     let several = options.some_files()?.len() > 1;
     batch::each(options, &WORDS, |input| {
         let text = || {
-            let head = if several { format!("# {}\n", input.name) } else { String::new() };
+            let head = if several { format!("# {}\n", in_one_line(&input.name)) } else { String::new() };
             batch::print((head + &dump(&input.table, &input.names)).as_bytes())
         };
         match vempaldi::check(&input.table) {

@@ -10,6 +10,16 @@ pub fn quoted(word: &str) -> String {
     format!("'{shown}{cut}'")
 }
 
+/// A file's name as it is, but quoted where it has characters that a line could not have.
+pub fn in_one_line(name: &str) -> String {
+    let escaped: String = name.chars().flat_map(char::escape_debug).collect();
+    if escaped == name {
+        escaped
+    } else {
+        format!("'{escaped}'")
+    }
+}
+
 /// `1 processor`, `2 processors`, `2 indices`.
 pub fn counted(count: usize, word: &str) -> String {
     match (count, word) {

@@ -12,8 +12,14 @@ use vempaldi_checks::processors;
 use vempaldi_checks::random::Random;
 use vempaldi_checks::tables::{self, LARGE, MIDDLE, SMALL};
 
+/// As others read it.
 fn schema() -> Schema {
-    Schema(Json::read(&String::from_utf8(bytes("docs/plan.schema.json")).expect("text")))
+    Schema { form: Json::read(&String::from_utf8(bytes("docs/plan.schema.json")).expect("text")), strict: false }
+}
+
+/// Nothing is printed that the schema does not name.
+fn strict() -> Schema {
+    Schema { strict: true, ..schema() }
 }
 
 /// The one object that is printed, which has the schema's form.
@@ -21,7 +27,7 @@ fn object(words: &[&str], input: &[u8]) -> Json {
     let told = fed(&[&["plan", "--json"], words].concat(), input);
     assert_eq!((told.err.as_str(), told.out.lines().count()), ("", 1), "{}", told.out);
     let object = Json::read(&told.out);
-    schema().fits(&object).unwrap_or_else(|wrong| panic!("{wrong}\n{}", told.out));
+    schema().fits(&object).and_then(|()| strict().fits(&object)).unwrap_or_else(|wrong| panic!("{wrong}\n{}", told.out));
     assert_eq!(told.status, i32::from(*object.at("accepted") == Json::Truth(false)));
     object
 }
@@ -93,7 +99,9 @@ fn refused_tables_have_the_librarys_answer() {
         assert!(named[1] == 0 && (number == 9 || named[0] == 0));
         let words = fed(&["plan", "-", "-p2"], &table).err;
         assert_eq!(words.lines().next(), Some(format!("-: {}", refusal.at("message").text()).as_str()));
-        assert!(refusal.at("message").text().starts_with(&format!("refused {number} {}", refusal.at("word").text())));
+        let word = refusal.at("word").text();
+        assert_eq!(word, vempaldi::Ground::of_number(number as u64).word());
+        assert!(refusal.at("message").text().starts_with(&format!("refused {number} {word}")));
         assert!(refusal.get("line").is_none(), "a table has no lines");
         refused += 1;
     }
@@ -144,7 +152,53 @@ fn objects_go_into_a_directory() {
     std::fs::remove_dir_all(&directory).expect("removed");
 }
 
-/// Any key that is taken away, made another type, or added makes an object that does not fit: the schema and its reader can say no.
+/// The value with a key more in each of the objects in it, one after the other.
+fn with_a_key_more(value: &Json) -> Vec<Json> {
+    match value {
+        Json::Object(keys) => {
+            let more = keys.clone().into_iter().chain([("more".to_string(), Json::Number(1))]).collect();
+            let inner = keys.iter().flat_map(|(key, one)| with_a_key_more(one).into_iter().map(move |one| (key.clone(), one)));
+            let inside = inner.map(|(key, one)| Json::Object(keys.clone().into_iter().chain([(key, one)]).collect()));
+            std::iter::once(Json::Object(more)).chain(inside).collect()
+        }
+        Json::List(rows) => {
+            let inner = rows.iter().enumerate().flat_map(|(at, one)| with_a_key_more(one).into_iter().map(move |one| (at, one)));
+            inner.map(|(at, one)| Json::List([&rows[..at], &[one], &rows[at + 1..]].concat())).collect()
+        }
+        _ => Vec::new(),
+    }
+}
+
+/// A new version may have more keys: who reads by the schema of this one is not to fail on them, wherever they stand.
+#[test]
+fn the_schema_is_open_to_keys_that_are_not_yet_known() {
+    let counts = [(&[EXAMPLE, "-p2"][..], 14), (&[EXAMPLE, "-p65"], 2), (&["-", "-p1"], 2)];
+    for (words, count) in counts {
+        let more = with_a_key_more(&object(words, b"loop"));
+        // Accepted, the whole, sweeps, 3 arrays, 2 loops, 2 blocks, 4 fused parts and 1 peeled one.
+        assert_eq!(more.len(), count, "{words:?}");
+        for one in more {
+            schema().fits(&one).unwrap_or_else(|wrong| panic!("{wrong}\n{one:?}"));
+            assert!(strict().fits(&one).is_err(), "{one:?}");
+        }
+    }
+}
+
+/// And a new ground has another number and word.
+#[test]
+fn the_schema_is_open_to_grounds_that_are_not_yet_known() {
+    let told = run(&["plan", "--json", EXAMPLE, "-p65"]).out;
+    for (number, word, fits) in
+        [(16, "later", true), (15, "state", true), (0, "later", false), (16, "", false), (16, "La ter", false)]
+    {
+        let other =
+            told.replacen("\"number\":10,\"word\":\"processors\"", &format!("\"number\":{number},\"word\":\"{word}\""), 1);
+        assert_ne!(other, told);
+        assert_eq!(schema().fits(&Json::read(&other)).is_ok(), fits, "{other}");
+    }
+}
+
+/// Any key that is taken away or made another type makes an object that does not fit: the schema and its reader can say no.
 #[test]
 fn the_schema_refuses_what_is_not_an_object_of_it() {
     let schema = schema();
@@ -159,9 +213,6 @@ fn the_schema_refuses_what_is_not_an_object_of_it() {
             other.insert(key.clone(), Json::List(vec![Json::Truth(true)]));
             assert!(schema.fits(&Json::Object(other)).is_err(), "another {key}");
         }
-        let mut more = keys.clone();
-        more.insert("more".to_string(), Json::Number(1));
-        assert!(schema.fits(&Json::Object(more)).is_err(), "one more");
     }
     for text in ["[]", "{}", "1", "\"\""] {
         assert!(schema.fits(&Json::read(text)).is_err(), "{text}");

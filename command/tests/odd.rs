@@ -249,3 +249,112 @@ fn the_version_is_the_commands_and_the_librarys() {
     let number = env!("CARGO_PKG_VERSION");
     assert_eq!((told.status, told.out), (0, format!("vempaldi {number}\nlibrary {number}\n")));
 }
+
+/// A name of a file that holds these bytes; the file is removed at the end.
+struct Kept(String, Vec<u8>);
+
+impl Kept {
+    fn new(name: &str, bytes: Vec<u8>) -> Kept {
+        let name = out_name(name);
+        std::fs::write(&name, &bytes).expect("written");
+        Kept(name, bytes)
+    }
+
+    fn is_as_before(&self) -> bool {
+        std::fs::read(&self.0).expect("there") == self.1
+    }
+}
+
+impl Drop for Kept {
+    fn drop(&mut self) {
+        std::fs::remove_file(&self.0).ok();
+    }
+}
+
+/// A usage error, with and without --raw, before anything is written.
+fn keeps(words: &[&str], kept: &Kept, out: &str) {
+    for more in [&[][..], &["--raw"]] {
+        let told = fed(&[words, &["-o", out], more].concat(), b"");
+        let said = format!("vempaldi: {out} is one of the files to read (vempaldi {} --help says how)\n", words[0]);
+        assert_eq!((told.status, told.out.as_str(), told.err), (2, "", said), "{words:?}");
+        assert!(kept.is_as_before(), "{words:?}");
+    }
+}
+
+#[test]
+fn an_output_is_none_of_the_files_to_read() {
+    let (text, table) = (Kept::new("own.txt", bytes("examples/example.txt")), Kept::new("own.table", bytes(EXAMPLE)));
+    let memory = Kept::new("own.memory", vec![0; 36 * 8]);
+    let at_memory = format!("@{}", memory.0);
+    keeps(&["make", &text.0], &text, &text.0);
+    keeps(&["join", &table.0, EXAMPLE], &table, &table.0);
+    keeps(&["join", EXAMPLE, &table.0], &table, &table.0);
+    keeps(&["draw", &table.0, "-p2"], &table, &table.0);
+    keeps(&["run", &table.0, "-p2"], &table, &table.0);
+    keeps(&["run", EXAMPLE, "-p2", "--memory", &at_memory], &memory, &memory.0);
+    keeps(&["run", EXAMPLE, "-p2", "--order", &at_memory], &memory, &memory.0);
+    // A file that is not there yet, a device and the standard output are none.
+    let fresh = out_name("own.fresh");
+    assert_eq!(run(&["make", &text.0, "-o", &fresh]).status, 0);
+    assert_eq!(run(&["join", &table.0, &table.0, "-o", &fresh]).status, 0);
+    std::fs::remove_file(&fresh).expect("removed");
+    let device = ["run", EXAMPLE, "-p2", "--order", "@/dev/null", "-o", "/dev/null"];
+    assert_eq!(run(&device).status, 0);
+    assert_eq!(run(&["draw", &table.0, "-p2", "-o", "-"]).status, 0);
+    assert!(table.is_as_before() && text.is_as_before());
+}
+
+/// Under another name it is the same file, and as the standard input too.
+#[cfg(unix)]
+#[test]
+fn an_output_is_none_of_the_files_to_read_by_any_name() {
+    let table = Kept::new("many-names.table", bytes(EXAMPLE));
+    let (soft, hard) = (out_name("many-names.soft"), out_name("many-names.hard"));
+    std::os::unix::fs::symlink(&table.0, &soft).expect("linked");
+    std::fs::hard_link(&table.0, &hard).expect("linked");
+    for name in [&soft, &hard] {
+        keeps(&["join", &table.0, EXAMPLE], &table, name);
+        keeps(&["draw", name, "-p2"], &table, &table.0);
+    }
+    let mut command = std::process::Command::new(env!("CARGO_BIN_EXE_vempaldi"));
+    let input = std::fs::File::open(&table.0).expect("there");
+    let output = command.args(["draw", "-", "-p2", "-o", &table.0]).stdin(input).output().expect("ran");
+    assert_eq!(output.status.code(), Some(2));
+    assert!(table.is_as_before());
+    for name in [soft, hard] {
+        std::fs::remove_file(name).expect("removed");
+    }
+}
+
+/// A text of several tables stays one whatever the files are called.
+#[test]
+fn a_line_feed_in_a_name_does_not_break_a_dump() {
+    let odd = Kept::new("a\nloop 'b'.table", bytes(EXAMPLE));
+    let told = run(&["dump", &odd.0, EXAMPLE]);
+    assert_eq!(told.status, 0);
+    let heads: Vec<&str> = told.out.lines().filter(|line| line.starts_with("# ") && line.contains("table")).collect();
+    assert_eq!(heads.len(), 2, "{}", told.out);
+    assert!(heads[0].ends_with("a\\nloop \\'b\\'.table'") && heads[0].starts_with("# '"), "{}", heads[0]);
+    assert_eq!(heads[1], "# examples/example.table");
+    // Without the comments it is the text of one table twice.
+    let plain = |text: &str| -> String { text.split_inclusive('\n').filter(|line| !line.starts_with('#')).collect() };
+    assert_eq!(plain(&told.out), plain(&run(&["dump", EXAMPLE]).out).repeat(2));
+}
+
+/// Who has the tree finds the documents there, and who has installed it below the directory of installation.
+#[test]
+fn help_says_where_the_documents_are() {
+    let documents = [
+        (&["--help"][..], "REFUSALS.md"),
+        (&["check", "--help"], "REFUSALS.md"),
+        (&["--help"], "plan.schema.json"),
+        (&["plan", "--help"], "plan.schema.json"),
+    ];
+    for (words, document) in documents {
+        let help = run(words).out.replace('\n', " ");
+        assert!(help.contains(document), "{words:?}");
+        assert!(help.contains("in docs of the source tree, installed in share/doc/vempaldi"), "{words:?}: {help}");
+        assert!(!help.contains(&format!("docs/{document}")), "{words:?}");
+        bytes(&format!("docs/{document}"));
+    }
+}

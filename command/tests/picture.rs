@@ -64,16 +64,46 @@ fn the_examples_can_be_read_for_few_and_for_many_processors() {
 }
 
 /// Sixteen loops, each one shifted and peeled by one more than the one before: the most labels that a plan can have.
-#[test]
-fn the_fullest_picture_can_be_read() {
+fn fullest() -> String {
     let mut text: String = (0..16).map(|k| format!("array A{k} 16384\n")).collect();
     text += "loop 20 16000 -> A0[i]: 1\n";
     for k in 1..16 {
         text += &format!("loop 20 16000 -> A{k}[i]: A{0}[i-1] A{0}[i+1] +\n", k - 1);
     }
+    text
+}
+
+#[test]
+fn the_fullest_picture_can_be_read() {
     for count in [1, 2, 8, 64] {
-        let drawn = checked(&made(&text), count);
+        let drawn = checked(&made(&fullest()), count);
         assert!(drawn.frame().width() <= 1_600.0, "{}", drawn.frame().width());
+    }
+}
+
+/// The indices of many panels have no room side by side, and where there are more panels yet, neither have their names: some of them are
+/// left out, and never all.
+#[test]
+fn some_panels_are_named_where_not_all_can_be() {
+    let full = Drawn::new(&fed(&["draw", "-", "-p", "64"], fullest().as_bytes()).out);
+    let said = |drawn: &Drawn, font: &str, wanted: fn(&str) -> bool| {
+        let inside = drawn.root.with("overview")[0].with(font);
+        inside.iter().map(|one| one.text.clone()).filter(|text| wanted(text)).collect::<Vec<String>>()
+    };
+    let is_range = |text: &str| text.chars().all(|one| one.is_ascii_digit() || one == '-' || one == 'P');
+    let (names, bounds) = (said(&full, "strong", is_range), said(&full, "small", is_range));
+    assert_eq!((names.len(), full.root.with("panel").len()), (21, 21), "{names:?}");
+    // 15,981 indices: the first blocks have 250 of them, and the first panel four blocks.
+    assert!(bounds.len() >= 10 && bounds[0] == "20-1019", "{bounds:?}");
+    // A block with so many labels that few others have room beside it, so that there are many panels.
+    for (loops, least) in [(11, 20), (15, 64)] {
+        let mut crowded = "array A 64000\nloop 0 63999 -> A[i]: 1\n".to_string();
+        (0..loops).for_each(|k| crowded += &format!("loop {} {} -> A[i]: 2\n", 30_000 + 60 * k, 30_001 + 60 * k));
+        let drawn = checked(&made(&crowded), 64);
+        let (names, bounds) = (said(&drawn, "strong", is_range), said(&drawn, "small", is_range));
+        let panels = drawn.root.with("panel").len();
+        assert!(panels >= least && names.len() < panels && names.len() >= panels / 3, "{panels}: {names:?}");
+        assert!(bounds.len() < names.len() && bounds.len() >= panels / 8, "{panels}: {bounds:?}");
     }
 }
 

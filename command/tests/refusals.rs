@@ -1,5 +1,6 @@
 //! Runs the commands of docs/REFUSALS.md as they are printed there: what follows a command in its block is what it says. A section that
-//! has a ground's number is about that refusal; the one for scripts has raw answers, accepted ones too; that on JSON has objects.
+//! has a ground's number is about that refusal; that on names has a message of the command's own; the one for scripts has raw answers,
+//! accepted ones too; that on JSON has objects.
 
 use std::path::PathBuf;
 use std::process::Command;
@@ -77,6 +78,14 @@ fn the_head_says_a_refusal_too() {
     let found = of_section(|section| section.is_empty());
     assert_eq!(found.len(), 1);
     run(&found[0], 1);
+}
+
+/// It is none of the library's, so no refusal is said.
+#[test]
+fn names_of_joined_texts_are_told_as_printed() {
+    let found = of_section(|section| section == "Names");
+    assert_eq!(found.len(), 1);
+    assert!(!run(&found[0], 1).contains("refused"));
 }
 
 #[test]

@@ -44,7 +44,7 @@ fn texts_are_joined_as_their_tables() {
     std::fs::remove_file(&out).expect("removed");
     let told = run(&["join", RIVER, "examples/jacobi.txt"]);
     let said =
-        "examples/river.txt and examples/jacobi.txt: refused 14 unlike: array 0 has 200 elements, in the second table 400\n";
+        "examples/river.txt and examples/jacobi.txt: refused 14 unlike: array 0 is H with 200 elements, in the second table A with 400\n";
     assert_eq!((told.status, told.err.as_str()), (1, said));
 }
 
@@ -52,8 +52,8 @@ fn texts_are_joined_as_their_tables() {
 fn joined_tables_are_told_apart_by_what_differs() {
     let one = out_name("one-array");
     std::fs::write(&one, "array H 12\nloop 1 10 -> H[i]: 1\n").expect("written");
-    let told = fed(&["join", &one, "-"], b"array H 12\narray Q 12\nloop 1 10 -> H[i]: 1\n");
-    assert_eq!(told.err, format!("{one} and -: refused 14 unlike: the first table has 1 array, the second one 2\n"));
+    let told = fed(&["join", &one, "-"], &bytes(EXAMPLE));
+    assert_eq!(told.err, format!("{one} and -: refused 14 unlike: the first table has 1 array, the second one 3\n"));
     let nine = "loop 1 10 -> H[i]: 1\n".repeat(9);
     std::fs::write(&one, format!("array H 12\n{nine}")).expect("written");
     let told = fed(&["join", &one, "-"], format!("array H 12\n{nine}").as_bytes());
@@ -112,7 +112,7 @@ fn told_of(place: &str, line: &str, marks: &str, what: &str) -> String {
 }
 
 /// Wrong lines behind an array H: the line, the mark below it, what is said.
-const WRONG: [(&str, &str, &str); 23] = [
+const WRONG: [(&str, &str, &str); 33] = [
     ("loop 1 10 -> H[i]: H[i] -1 +", "                        ^^", NEGATIVE_1),
     ("loop 1 10 -> H[i]: -20", "                   ^^^", NEGATIVE_20),
     (
@@ -126,6 +126,24 @@ const WRONG: [(&str, &str, &str); 23] = [
         "'++' is no item: NAME[i+OFFSET], a whole number, or one of + - * / neg",
     ),
     ("loop 1 10 -> H[i]: 4294967296", "                   ^^^^^^^^^^", "'4294967296' is not a whole number up to 4294967295"),
+    ("loop 1 10 -> H[i]: -99999999999", "                   ^^^^^^^^^^^^", TOO_NEGATIVE),
+    ("loop 1 10 -> H[i]: -4294967295", "                   ^^^^^^^^^^^", MOST_NEGATIVE),
+    ("loop 1 10 -> H[i]: -256", "                   ^^^^", NEGATIVE_256),
+    (
+        "loop 1 10 -> H[i]: .5",
+        "                   ^^",
+        "'.5' is not a whole number up to 4294967295; a fraction is a division: 1 2 /",
+    ),
+    ("loop 1 10 -> H[i]: -1.5", "                   ^^^^", MINUS_3_HALVES),
+    (
+        "loop 1 10 -> H[i]: 3.14",
+        "                   ^^^^",
+        "'3.14' is not a whole number up to 4294967295; a fraction is a division: 157 50 /",
+    ),
+    ("loop 1 10 -> H[i]: 2.0", "                   ^^^", "'2.0' is not a whole number up to 4294967295; write 2"),
+    ("loop 1 10 -> H[i]: +7", "                   ^^", "'+7' is not a whole number up to 4294967295; write 7"),
+    ("loop 1 10 -> H[i]: -255", "                   ^^^^", NEGATIVE_255),
+    ("loop 1 10 -> H[i]: .00000000001", "                   ^^^^^^^^^^^^", NO_DIVISION),
     ("loop 1 10 -> H[i]: Q[i-1]", "                   ^", "no array 'Q'; there is H"),
     ("loop 1 10 -> Q[i]: 1", "             ^", "no array 'Q'; there is H"),
     ("loop 1 10 -> H: 1", "             ^", "'H' is not what a loop stores: NAME[i], NAME[i+3] or NAME[i-3]"),
@@ -148,6 +166,15 @@ const WRONG: [(&str, &str, &str); 23] = [
 const NEGATIVE_1: &str = "'-1' is no item: a whole number is not negative. Write '0 1 -' or '1 neg'; an offset is written H[i-1]";
 const NEGATIVE_20: &str =
     "'-20' is no item: a whole number is not negative. Write '0 20 -' or '20 neg'; an offset is written H[i-20]";
+
+const NEGATIVE_255: &str =
+    "'-255' is no item: a whole number is not negative. Write '0 255 -' or '255 neg'; an offset is written H[i-255]";
+const NEGATIVE_256: &str = "'-256' is no item: a whole number is not negative. Write '0 256 -' or '256 neg'";
+const MOST_NEGATIVE: &str =
+    "'-4294967295' is no item: a whole number is not negative. Write '0 4294967295 -' or '4294967295 neg'";
+const TOO_NEGATIVE: &str = "'-99999999999' is no item: a whole number is not negative, and 4294967295 at most";
+const MINUS_3_HALVES: &str = "'-1.5' is not a whole number up to 4294967295; a fraction is a division: 3 2 / neg";
+const NO_DIVISION: &str = "'.00000000001' is not a whole number up to 4294967295; a fraction is a division of two such numbers";
 
 /// The column of the first mark, from 1.
 fn column(marks: &str) -> usize {

@@ -54,12 +54,12 @@ fn columns(picture: &mut Picture, plan: &Plan, scale: &Scale, (top, end): (f64, 
         let name = |panel| labels::range(ends(panel).0, ends(panel).1, &format!("-{word}"));
         panels.iter().map(|panel| format!("{word}{}", name(panel))).collect()
     };
-    picture.fitting_all(&spans, top + 16.0, &STRONG, &[named("P"), named("")]);
+    let every = picture.spread(&spans, 1, top + 16.0, &STRONG, &[named("P"), named("")]);
     let bounds = |panel: &Panel| {
         let (first, last) = (&plan.blocks[panel.processors.start], &plan.blocks[panel.processors.end - 1]);
         labels::range(first.first, last.last, "-")
     };
-    picture.fitting_all(&spans, top + 30.0, &SMALL, &[panels.iter().map(bounds).collect()]);
+    picture.spread(&spans, every, top + 30.0, &SMALL, &[panels.iter().map(bounds).collect()]);
 }
 
 /// A loop from its first to its last index; a single iteration as a diamond with its index.

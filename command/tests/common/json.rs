@@ -153,18 +153,22 @@ impl Reader {
     }
 }
 
-pub struct Schema(pub Json);
+/// A schema as others read it; or a strict one, to which an object with a key that it does not name does not fit either.
+pub struct Schema {
+    pub form: Json,
+    pub strict: bool,
+}
 
 impl Schema {
     /// What does not fit, if anything.
     pub fn fits(&self, value: &Json) -> Result<(), String> {
-        self.by(&self.0, value)
+        self.by(&self.form, value)
     }
 
     fn by(&self, schema: &Json, value: &Json) -> Result<(), String> {
         let Json::Object(keywords) = schema else { panic!("no schema: {schema:?}") };
         keywords.iter().try_for_each(|(keyword, asked)| {
-            let fits = self.keyword(schema, keyword, asked, value)?;
+            let fits = self.keyword(keyword, asked, value)?;
             if fits {
                 Ok(())
             } else {
@@ -173,7 +177,7 @@ impl Schema {
         })
     }
 
-    fn keyword(&self, schema: &Json, keyword: &str, asked: &Json, value: &Json) -> Result<bool, String> {
+    fn keyword(&self, keyword: &str, asked: &Json, value: &Json) -> Result<bool, String> {
         Ok(match (keyword, value) {
             ("$schema" | "title" | "description" | "$defs", _) => true,
             ("$ref", _) => self.by(self.referred(asked.text()), value).map(|()| true)?,
@@ -183,28 +187,29 @@ impl Schema {
             ("type", _) => asked.text() == kind(value),
             ("minimum", Json::Number(number)) => *number >= asked.number(),
             ("maximum", Json::Number(number)) => *number <= asked.number(),
+            ("pattern", Json::Text(text)) => {
+                assert_eq!(asked.text(), "^[a-z]+$", "the one pattern that is known");
+                !text.is_empty() && text.chars().all(|one| one.is_ascii_lowercase())
+            }
             ("minLength", Json::Text(text)) => text.chars().count() as i64 >= asked.number(),
             ("minItems", Json::List(rows)) => rows.len() as i64 >= asked.number(),
             ("maxItems", Json::List(rows)) => rows.len() as i64 <= asked.number(),
             ("items", Json::List(rows)) => rows.iter().try_for_each(|row| self.by(asked, row)).map(|()| true)?,
             ("required", Json::Object(keys)) => asked.list().iter().all(|key| keys.contains_key(key.text())),
-            ("additionalProperties", Json::Object(keys)) => {
-                assert_eq!(*asked, Json::Truth(false));
-                keys.keys().all(|key| schema.at("properties").get(key).is_some())
-            }
             ("properties", Json::Object(keys)) => {
                 let known = keys.iter().filter_map(|(key, value)| Some((asked.get(key)?, value)));
-                known.map(|(asked, value)| self.by(asked, value)).collect::<Result<Vec<()>, String>>().map(|_| true)?
+                known.clone().try_for_each(|(asked, value)| self.by(asked, value))?;
+                !self.strict || known.count() == keys.len()
             }
             // These ask nothing of a value of another type, which `type` is there for.
-            ("minimum" | "maximum" | "minLength" | "minItems" | "maxItems" | "items", _) => true,
-            ("required" | "additionalProperties" | "properties", _) => true,
+            ("minimum" | "maximum" | "pattern" | "minLength" | "minItems" | "maxItems" | "items", _) => true,
+            ("required" | "properties", _) => true,
             _ => panic!("no such keyword is known: {keyword}"),
         })
     }
 
     fn referred(&self, name: &str) -> &Json {
-        name.trim_start_matches("#/").split('/').fold(&self.0, |at, key| at.at(key))
+        name.trim_start_matches("#/").split('/').fold(&self.form, |at, key| at.at(key))
     }
 }
 

@@ -191,6 +191,7 @@ impl Drawn {
         let overview = self.root.with("overview");
         assert_eq!(overview.len(), usize::from(several));
         let Some(overview) = overview.first() else { return };
+        self.overview_says_where_panels_lie(overview, listing);
         let blocks = lines(listing, "block");
         let (first, last) = (f64::from(blocks[0][1]), f64::from(blocks[blocks.len() - 1][2]));
         let chart: Vec<Area> = ["even", "odd"].iter().flat_map(|class| overview.with(class)).map(Area::of_rectangle).collect();
@@ -212,6 +213,47 @@ impl Drawn {
                 self.is_marked(overview, &area, from);
             }
         }
+    }
+
+    /// Beside the head of the row of all blocks stand the panels' names, and below these their indices.
+    fn overview_says_where_panels_lie(&self, overview: &Element, listing: &str) {
+        let blocks = lines(listing, "block");
+        let end = |panel: &&Element, name: &str| panel.number(name) as usize;
+        let ends: Vec<(usize, usize)> =
+            self.root.with("panel").iter().map(|panel| (end(panel, "data-first"), end(panel, "data-last"))).collect();
+        let bare: Vec<String> = ends.iter().map(|&(first, last)| indices(first as u32, last as u32)).collect();
+        let named = bare.iter().map(|name| format!("P{}", name.replace('-', "-P"))).collect();
+        let bounds = ends.iter().map(|&(first, last)| indices(blocks[first][1], blocks[last][2])).collect();
+        let head =
+            overview.with("strong").into_iter().find(|one| one.text == "all blocks, to scale").expect("a head").number("y");
+        let names = self.stand_over_columns(overview, head, &[named, bare]);
+        let below = self.stand_over_columns(overview, head + 14.0, &[bounds]);
+        assert!(below.is_multiple_of(names) || below == ends.len(), "indices of every {below}th panel, names of every {names}th");
+    }
+
+    /// One text at least in that line: those of one of these rows, each over its column; or every second, third and so on from the first,
+    /// each from its column's left edge on and not as far as the next. The result is how many columns these are apart.
+    fn stand_over_columns(&self, overview: &Element, y: f64, rows: &[Vec<String>]) -> usize {
+        let is_text = |one: &&Element| one.name == "text" && one.number("y") == y && one.text != "all blocks, to scale";
+        let texts: Vec<(&str, Area)> =
+            overview.all().into_iter().filter(is_text).map(|one| (one.text.as_str(), self.style.text_area(one))).collect();
+        let mut columns: Vec<Area> =
+            ["even", "odd"].iter().flat_map(|class| overview.with(class)).map(Area::of_rectangle).collect();
+        columns.sort_by(|a, b| a.left.total_cmp(&b.left));
+        let place = |row: &Vec<String>| texts.iter().map(|(text, _)| row.iter().position(|own| own == text)).collect();
+        let places: Option<Vec<usize>> = rows.iter().find_map(place);
+        let places = places.unwrap_or_else(|| panic!("{texts:?} are no row of {rows:?}"));
+        let step = places.get(1).map_or(columns.len(), |second| *second);
+        let wanted: Vec<usize> = (0..columns.len()).step_by(step).collect();
+        // The last one may have no room.
+        let all = places == wanted || step > 1 && places == wanted[..wanted.len() - 1];
+        assert!(!places.is_empty() && all && step <= 8, "{texts:?} of {rows:?}");
+        for (at, (text, area)) in places.iter().zip(&texts) {
+            let past = columns.get(at + step).map_or(columns[columns.len() - 1].right, |next| next.left);
+            let (own, room) = (&columns[*at], Area { right: past, ..columns[*at] });
+            assert!(room.holds(area) && own.meets(area), "{text} {area:?} {own:?}");
+        }
+        step
     }
 
     /// A diamond where the loop lies, and its index beside it.
