@@ -44,7 +44,10 @@ place() { pkg-config --variable="$1" vempaldi | sed 's/\\//g'; }
 refused() {
     local told=0
     "$work/tree/bin/install" "$1" > "$work/said" 2>&1 || told=$?
-    [ "$told" -eq 2 ] && grep -q '^bin/install: .*checkout' "$work/said" || { cat "$work/said"; wrong "bin/install $1: status $told, not refused"; }
+    if [ "$told" -ne 2 ] || ! grep -q '^bin/install: .*checkout' "$work/said"; then
+        cat "$work/said"
+        wrong "bin/install $1: status $told, not refused"
+    fi
     same "$before" "$(find "$work/tree" "$work/linked" | sort)" "what is there after bin/install $1"
 }
 # Tried in a checkout of nothing but bin/ and the header, which has nothing to build and is no loss.
@@ -138,12 +141,17 @@ C
 
 # The installed command and the proved program.
 run_programs() {
-    local table="$prefix/share/vempaldi/examples/example.table"
+    local said told=0 table="$prefix/share/vempaldi/examples/example.table"
     same "$listing" "$("$prefix/bin/vempaldi" plan "$table" -p 2)" "vempaldi plan"
     same "$listing" "$("$prefix/bin/vempaldi-plan" 2 "$table")" "vempaldi-plan"
     ln -sf "$prefix/bin/vempaldi-plan" plan
     same "$listing" "$(./plan 2 - < "$table")" "vempaldi-plan through a link"
     same "vempaldi-plan: P is a number from 0 to 255, not 'x'" "$("$prefix/bin/vempaldi-plan" x "$table" 2>&1)" "vempaldi-plan with a word for P"
+    cp "$table" ./-n
+    same "$listing" "$("$prefix/bin/vempaldi-plan" 2 -n < /dev/null)" "vempaldi-plan with a file named -n"
+    rm ./-n
+    said=$("$prefix/bin/vempaldi-plan" 2 /proc/self/mem 2>&1) || told=$?
+    same "vempaldi-plan: cannot read '/proc/self/mem', status 2" "$said, status $told" "vempaldi-plan with a file that cannot be read"
 }
 
 # The scripts of the checkout, each through a link to a relative link to it.
@@ -272,7 +280,7 @@ completion() {
     touch ./-file.table
     same -file.table "$(complete_line vempaldi check -- -)" "what - behind -- is completed to"
     same '' "$(complete_line vempaldi check -- file.table --r)" "what --r behind -- is completed to"
-    same file.table "$(complete_line vempaldi run -- --order fi)" "what a file behind -- is completed to"
+    same file.table "$(complete_line vempaldi run -- --order 'fi')" "what a file behind -- is completed to"
     same file.table "$(complete_line vempaldi check 'fi')" "what a file is completed to"
     same directory "$(complete_line vempaldi plan -o di)" "what plan -o is completed to"
     same '' "$(complete_line vempaldi plan -o 'fi')" "what plan -o is completed to"
