@@ -53,7 +53,7 @@ refused() {
 # Tried in a checkout of nothing but bin/ and the header, which has nothing to build and is no loss.
 refuse_checkout() {
     local before
-    mkdir -p "$work/tree/include" "$work/linked" "$work/share"
+    mkdir -p "$work/tree/include" "$work/linked" "$work/share/vempaldi"
     cp -R bin "$work/tree"
     cp include/vempaldi.h "$work/tree/include"
     ln -s "$work/tree/bin" "$work/linked/bin"
@@ -67,11 +67,11 @@ refuse_checkout() {
     (cd "$work" && DESTDIR=. && export DESTDIR && refused /tree) || exit 1
     cd "$root"
     # Where what is removed first has the checkout in it.
-    mv "$work/tree" "$work/share/vempaldi"
-    ln -s share/vempaldi "$work/tree"
+    mv "$work/tree" "$work/share/vempaldi/tree"
+    ln -s share/vempaldi/tree "$work/tree"
     before=$(find "$work/tree" "$work/linked" | sort)
     refused "$work"
-    [ -f "$work/share/vempaldi/bin/install" ] || wrong "the checkout is removed"
+    [ -f "$work/share/vempaldi/tree/bin/install" ] || wrong "the checkout is removed"
     rm -r "$work/tree" "$work/share" "$work/linked"
     bin/install --help | grep -q 'share/vempaldi is removed' || wrong "bin/install --help does not say what is removed"
 }
