@@ -36,7 +36,13 @@ _vempaldi() {
         mapfile -t COMPREPLY < <(compgen -W 'check plan join run dump make draw --help --version' -- "$word")
         return
     fi
+    # Behind '--' there are files alone.
+    local at
+    for ((at = 2; at < COMP_CWORD; at++)); do
+        [[ ${COMP_WORDS[at]} != -- ]] || before=--
+    done
     case $before in
+    --) mapfile -t COMPREPLY < <(compgen -f -- "$word") ;;
     -p | -o | --order | --memory) mapfile -t COMPREPLY < <(_vempaldi_value "$command" "$before" "$word") ;;
     *)
         case $word in

@@ -98,7 +98,6 @@ try_tables() {
 
 # The example on two processors by what is typed; Fortran takes two where it is given no number.
 try_typed() {
-    local typed
     elements=36 iterations=20 last_array="last array:$(printf ' %s.000' 0 3 6 8 10 12 14 16 18 20 21 11)"
     typed=$(expected "$(cat tests/example.listing)" 2)
     says 0 "$typed" "" examples/example.table 2
@@ -169,9 +168,21 @@ try_words() {
     says 2 "" "example: cannot read 'examples'" examples 2
 }
 
+# Words that are no UTF-8: a file's name may be one. Rust shows such a byte as the sign for what is no character.
+try_bytes() {
+    local byte=$'\xff' shown=$'\xff'
+    [ "$language" != rust ] || shown=$'\xef\xbf\xbd'
+    says 2 "" "example: P is a number from 0 to 4294967295, not '2$shown'" examples/example.table "2$byte"
+    says 2 "" "example: cannot read 'no-such-$shown'" "no-such-$byte" 2
+    cp examples/example.table "$made/$byte.table"
+    says 0 "$typed" "" "$made/$byte.table" 2
+    rm "$made/$byte.table"
+}
+
 compile
 try_tables
 try_typed
 try_refused
 try_words
+try_bytes
 echo "the $language example: $runs runs, as the proved program, the texts of the tables and what is typed here say"

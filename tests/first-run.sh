@@ -122,11 +122,30 @@ no_library 'a proof fails again'
 builds 2 bin/vempaldi check
 sed -i 's/^    8$/    7/' crates/one/src/lib.rt
 
-# The last crate fails.
+# The last crate fails, and as many lines follow the error as crates below it would give: by rt itself, with those lines behind what it says.
+cat > "$work/kit/rt" <<R
+#!/bin/sh
+"$(command -v rt)" "\$@"
+status=\$?
+[ "\$1" != staticlib ] || for n in \$(seq 60); do echo "library number\$n: modules loaded=0 checked=0"; done
+exit \$status
+R
 sed -i 's/one::seven()/8/' crates/vempaldi/src/lib.rt
-builds 1 bin/library
-says 'vempaldi'
+builds 1 env PATH="$work/kit:$PATH" bin/library
+says '^NOT proved: vempaldi$'
+says '^fn vempaldi::vempaldi_seven: no proof'
+says 'crates/vempaldi/src/lib.rt:[0-9:]+ it is not proved'
+[ "$(wc -l < "$work/said")" -lt 30 ] || wrong 'too much is said of one error'
 no_library 'the last proof fails'
+echo 'fn broken(' >> crates/vempaldi/src/lib.rt
+builds 1 env PATH="$work/kit:$PATH" bin/library
+says '^NOT proved: vempaldi$'
+says 'crates/vempaldi/src/lib.rt:[0-9:]+ error'
+sed -i '/^fn broken($/d' crates/vempaldi/src/lib.rt
+# Nothing is proved where rt itself fails; what it said last is shown.
+printf '#!/bin/sh\n[ "$1" != version ] || { echo another kit; exit; }\necho the kit is broken\nexit 2\n' > "$work/kit/rt"
+builds 1 env PATH="$work/kit:$PATH" bin/library
+says '^the kit is broken$'
 sed -i 's/^    8$/    one::seven()/' crates/vempaldi/src/lib.rt
 builds 0 bin/library
 library 'it is mended'
@@ -181,7 +200,9 @@ library 'rt itself again'
 
 # No toolchain: a library that cannot be made again is neither used nor removed.
 mkdir "$work/tools"
-for tool in bash env dirname readlink sed awk sort sha256sum cut find xargs cat mkdir rm mv cp cmp wc grep flock nproc tail; do ln -s "$(command -v $tool)" "$work/tools/$tool"; done
+for tool in bash env dirname readlink sed awk sort sha256sum cut find xargs cat mkdir rm mv cp cmp wc grep flock nproc head tail; do
+    ln -s "$(command -v $tool)" "$work/tools/$tool"
+done
 builds 1 env PATH="$work/tools" bin/library
 says 'the Rattle toolchain \(rt\) is not there'
 library 'there is no toolchain'

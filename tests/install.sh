@@ -40,10 +40,46 @@ listing=$(cat tests/example.listing)
 # What a variable of vempaldi.pc says, without the backslashes before blanks.
 place() { pkg-config --variable="$1" vempaldi | sed 's/\\//g'; }
 
-# Below DESTDIR/PREFIX, through a link, from another directory; then moved, with a space in the new path.
+# refused PREFIX: with 2, and nothing is written, not even into the checkout's build/.
+refused() {
+    local told=0
+    "$work/tree/bin/install" "$1" > "$work/said" 2>&1 || told=$?
+    if [ "$told" -ne 2 ] || ! grep -q '^bin/install: .*checkout' "$work/said"; then
+        cat "$work/said"
+        wrong "bin/install $1: status $told, not refused"
+    fi
+    same "$before" "$(find "$work/tree" "$work/linked" | sort)" "what is there after bin/install $1"
+}
+# Tried in a checkout of nothing but bin/ and the header, which has nothing to build and is no loss.
+refuse_checkout() {
+    local before
+    mkdir -p "$work/tree/include" "$work/linked" "$work/share/vempaldi"
+    cp -R bin "$work/tree"
+    cp include/vempaldi.h "$work/tree/include"
+    ln -s "$work/tree/bin" "$work/linked/bin"
+    before=$(find "$work/tree" "$work/linked" | sort)
+    cd "$work/tree"
+    refused .
+    refused "$work/tree"
+    refused docs/place
+    refused ../tree/builds
+    refused "$work/linked"
+    (cd "$work" && DESTDIR=. && export DESTDIR && refused /tree) || exit 1
+    cd "$root"
+    # Where what is removed first has the checkout in it.
+    mv "$work/tree" "$work/share/vempaldi/tree"
+    ln -s share/vempaldi/tree "$work/tree"
+    before=$(find "$work/tree" "$work/linked" | sort)
+    refused "$work"
+    [ -f "$work/share/vempaldi/tree/bin/install" ] || wrong "the checkout is removed"
+    rm -r "$work/tree" "$work/share" "$work/linked"
+    bin/install --help | grep -q 'share/vempaldi is removed' || wrong "bin/install --help does not say what is removed"
+}
+
+# Below DESTDIR/PREFIX, DESTDIR relative, through a link, from another directory; then moved, with a space in the new path.
 install_and_move() {
     ln -s "$root/bin/install" "$work/install"
-    (cd "$work" && DESTDIR=$work/stage ./install "$work/place" > "$work/said") || { cat "$work/said"; wrong "bin/install fails"; }
+    (cd "$work" && DESTDIR=stage ./install "$work/place" > "$work/said") || { cat "$work/said"; wrong "bin/install fails"; }
     [ ! -e "$work/place" ] || wrong "DESTDIR is not heeded"
     mv "$work/stage$work/place" "$work/a prefix"
     same '' "$(find "$work/stage" ! -type d)" "what is installed outside the prefix"
@@ -105,12 +141,17 @@ C
 
 # The installed command and the proved program.
 run_programs() {
-    local table="$prefix/share/vempaldi/examples/example.table"
+    local said told=0 table="$prefix/share/vempaldi/examples/example.table"
     same "$listing" "$("$prefix/bin/vempaldi" plan "$table" -p 2)" "vempaldi plan"
     same "$listing" "$("$prefix/bin/vempaldi-plan" 2 "$table")" "vempaldi-plan"
     ln -sf "$prefix/bin/vempaldi-plan" plan
     same "$listing" "$(./plan 2 - < "$table")" "vempaldi-plan through a link"
     same "vempaldi-plan: P is a number from 0 to 255, not 'x'" "$("$prefix/bin/vempaldi-plan" x "$table" 2>&1)" "vempaldi-plan with a word for P"
+    cp "$table" ./-n
+    same "$listing" "$("$prefix/bin/vempaldi-plan" 2 -n < /dev/null)" "vempaldi-plan with a file named -n"
+    rm ./-n
+    said=$("$prefix/bin/vempaldi-plan" 2 /proc/self/mem 2>&1) || told=$?
+    same "vempaldi-plan: cannot read '/proc/self/mem', status 2" "$said, status $told" "vempaldi-plan with a file that cannot be read"
 }
 
 # The scripts of the checkout, each through a link to a relative link to it.
@@ -200,6 +241,12 @@ rust() {
     printf '%s\n' '[package]' 'name = "user"' 'edition = "2021"' '[dependencies]' "vempaldi = { path = \"$(place rustdir)\" }" > rust/Cargo.toml
     cargo build --quiet --offline --manifest-path rust/Cargo.toml || wrong "the Rust example is not built"
     example 'in Rust' rust/target/debug/user
+    # The examples of the documentation, where the package is installed.
+    CARGO_TARGET_DIR=$PWD/rust/target cargo test --doc --offline --manifest-path "$(place rustdir)/Cargo.toml" > doc.log 2>&1 || {
+        cat doc.log
+        wrong "an example of the installed Rust package's documentation fails"
+    }
+    grep -qE '^test result: ok\. [1-9]' doc.log || { cat doc.log; wrong "no example of the installed Rust package's documentation was run"; }
     [ ! -e "$prefix/share/vempaldi/rust/target" ] || wrong "building the user's package writes into the prefix"
 }
 
@@ -230,6 +277,10 @@ completion() {
     same plan "$(complete_line vempaldi pl)" "what pl is completed to"
     same --values "$(complete_line vempaldi run --v)" "what run --v is completed to"
     same '' "$(complete_line vempaldi check --v)" "what check --v is completed to"
+    touch ./-file.table
+    same -file.table "$(complete_line vempaldi check -- -)" "what - behind -- is completed to"
+    same '' "$(complete_line vempaldi check -- file.table --r)" "what --r behind -- is completed to"
+    same file.table "$(complete_line vempaldi run -- --order 'fi')" "what a file behind -- is completed to"
     same file.table "$(complete_line vempaldi check 'fi')" "what a file is completed to"
     same directory "$(complete_line vempaldi plan -o di)" "what plan -o is completed to"
     same '' "$(complete_line vempaldi plan -o 'fi')" "what plan -o is completed to"
@@ -268,6 +319,7 @@ usage_of() {
     "$prefix/bin/vempaldi" "$1" --help | sed -nE "/^vempaldi $1 /,/^\$/p" | grep -oE -- '(vempaldi|\[| )-.*|vempaldi.*'
 }
 
+refuse_checkout
 install_and_move
 look_around
 look_at_shared

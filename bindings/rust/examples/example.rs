@@ -6,6 +6,7 @@
 //! The exit status is 0 where the memories have the same bits, 1 where a call is refused, 2 where the arguments or the file are no good.
 
 use std::env;
+use std::ffi::{OsStr, OsString};
 use std::fs::File;
 use std::io::Read;
 use std::ops::Range;
@@ -25,17 +26,17 @@ impl From<Refusal> for Failure {
 }
 
 /// The library takes any number and refuses those that are no P; what is no number, or none of 32 bits, is for the caller to find.
-fn read_processors(word: &str) -> Result<u32, Failure> {
-    let digits = word.bytes().all(|one| one.is_ascii_digit());
-    let wrong = || Failure::Caller(format!("example: P is a number from 0 to {}, not '{word}'", u32::MAX));
-    word.parse().ok().filter(|_| digits).ok_or_else(wrong)
+fn read_processors(word: &OsStr) -> Result<u32, Failure> {
+    let digits = word.to_str().filter(|word| word.bytes().all(|one| one.is_ascii_digit()));
+    let wrong = || Failure::Caller(format!("example: P is a number from 0 to {}, not '{}'", u32::MAX, word.to_string_lossy()));
+    digits.and_then(|digits| digits.parse().ok()).ok_or_else(wrong)
 }
 
 /// No byte past those that decide changes an answer, so the file may be of any length.
-fn read_table(name: &str) -> Result<Vec<u8>, Failure> {
+fn read_table(name: &OsStr) -> Result<Vec<u8>, Failure> {
     let mut table = Vec::new();
     let read = File::open(name).and_then(|file| file.take(vempaldi::DECIDING_BYTES as u64).read_to_end(&mut table));
-    read.map(|_| table).map_err(|_| Failure::Caller(format!("example: cannot read '{name}'")))
+    read.map(|_| table).map_err(|_| Failure::Caller(format!("example: cannot read '{}'", name.to_string_lossy())))
 }
 
 fn own_index(facts: &Facts) -> Vec<f64> {
@@ -88,7 +89,7 @@ fn step_all(table: &[u8], processors: u32, memory: &mut [f64]) -> Result<usize, 
 }
 
 /// Whether the memories have the same bits.
-fn plan_and_run(words: &[String]) -> Result<bool, Failure> {
+fn plan_and_run(words: &[OsString]) -> Result<bool, Failure> {
     let [file, processors] = words else { return Err(Failure::Caller("usage: example FILE P".to_string())) };
     let processors = read_processors(processors)?;
     let table = read_table(file)?;
@@ -110,7 +111,8 @@ fn plan_and_run(words: &[String]) -> Result<bool, Failure> {
 
 /// A refusal prints its ground, and where it was met.
 fn main() -> ExitCode {
-    let words: Vec<String> = env::args().skip(1).collect();
+    // An argument may be any bytes, as a file's name may.
+    let words: Vec<OsString> = env::args_os().skip(1).collect();
     match plan_and_run(&words) {
         Ok(true) => ExitCode::SUCCESS,
         Ok(false) => ExitCode::from(1),

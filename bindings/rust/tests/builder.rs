@@ -22,37 +22,45 @@ fn the_example_is_built() {
     assert_eq!(builder.end().as_deref(), Ok(EXAMPLE));
 }
 
-/// The numbers may be of any integer type, as a translator has them.
-#[test]
-fn the_river_is_built_from_numbers_of_other_types() {
-    use Operation::{Add, Divide, Multiply, Subtract};
+/// A loop of the river over all its inner elements, with bounds of two types.
+fn open_river_loop(builder: &mut Builder, destination: usize) {
     let (first, last): (usize, i64) = (1, 198);
-    let mut builder = Builder::new();
-    let [h, q, s, d] = [200_u64; 4].map(|length| builder.array(length));
-    let both = |builder: &mut Builder, array: usize| {
-        builder.read(array, -1_i8);
-        builder.read(array, 1_u128);
-    };
+    builder.open_loop(first, last, destination, 0);
+}
 
-    builder.open_loop(first, last, s, 0);
-    both(&mut builder, h);
-    builder.operation(Subtract);
+/// array[i-1] - array[i+1], with offsets of two types.
+fn difference(builder: &mut Builder, array: usize) {
+    builder.read(array, -1_i8);
+    builder.read(array, 1_u128);
+    builder.operation(Operation::Subtract);
+}
+
+/// s[i] = (h[i-1] - h[i+1]) / 200
+fn slope(builder: &mut Builder, s: usize, h: usize) {
+    open_river_loop(builder, s);
+    difference(builder, h);
     builder.constant(200_u8);
-    builder.operation(Divide);
+    builder.operation(Operation::Divide);
+}
 
-    builder.open_loop(first, last, q, 0);
-    for (array, factor, operation) in [(q, 9, Multiply), (s, 40, Multiply)] {
-        builder.read(array, 0);
-        builder.constant(factor);
-        builder.operation(operation);
-        if array == q {
-            builder.constant(10);
-            builder.operation(Divide);
-        }
-    }
-    builder.operation(Add);
+/// q[i] = q[i] * 9 / 10 + s[i] * 40
+fn flow(builder: &mut Builder, q: usize, s: usize) {
+    open_river_loop(builder, q);
+    builder.read(q, 0);
+    builder.constant(9);
+    builder.operation(Operation::Multiply);
+    builder.constant(10);
+    builder.operation(Operation::Divide);
+    builder.read(s, 0);
+    builder.constant(40);
+    builder.operation(Operation::Multiply);
+    builder.operation(Operation::Add);
+}
 
-    builder.open_loop(first, last, d, 0);
+/// d[i] = (q[i-1] + 2 * q[i] + q[i+1]) / 4
+fn smoothed_flow(builder: &mut Builder, d: usize, q: usize) {
+    use Operation::{Add, Divide, Multiply};
+    open_river_loop(builder, d);
     builder.read(q, -1);
     builder.constant(2);
     builder.read(q, 0);
@@ -62,14 +70,27 @@ fn the_river_is_built_from_numbers_of_other_types() {
     builder.operation(Add);
     builder.constant(4);
     builder.operation(Divide);
+}
 
-    builder.open_loop(first, last, h, 0);
+/// h[i] = h[i] + (d[i-1] - d[i+1]) / 50
+fn height(builder: &mut Builder, h: usize, d: usize) {
+    open_river_loop(builder, h);
     builder.read(h, 0);
-    both(&mut builder, d);
-    builder.operation(Subtract);
+    difference(builder, d);
     builder.constant(50);
-    builder.operation(Divide);
-    builder.operation(Add);
+    builder.operation(Operation::Divide);
+    builder.operation(Operation::Add);
+}
+
+/// The numbers may be of any integer type, as a translator has them.
+#[test]
+fn the_river_is_built_from_numbers_of_other_types() {
+    let mut builder = Builder::new();
+    let [h, q, s, d] = [200_u64; 4].map(|length| builder.array(length));
+    slope(&mut builder, s, h);
+    flow(&mut builder, q, s);
+    smoothed_flow(&mut builder, d, q);
+    height(&mut builder, h, d);
     assert_eq!(builder.end().as_deref(), Ok(RIVER));
 }
 
