@@ -80,7 +80,7 @@ fn equal_names_and_tables_are_joined() {
 #[test]
 fn refusals_of_joining_have_the_names() {
     let long = HEIGHT_FIRST.replace("Height 10", "Height 20");
-    let pair = Pair::new("unlike", FLOW_FIRST, &long);
+    let pair = Pair::new("longer", FLOW_FIRST, &long);
     pair.says("refused 14 unlike: array 0 is Flow with 10 elements, in the second table Height with 20");
     assert_eq!(pair.told(&["--raw", "-o", &pair.out]), (1, "refused 14 0\n".to_string(), String::new()));
     let same = Pair::new("unlike-same", FLOW_FIRST, &FLOW_FIRST.replace("Height 10", "Height 1"));
