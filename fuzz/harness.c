@@ -44,7 +44,7 @@ int LLVMFuzzerTestOneInput(const uint8_t *data, size_t size) {
     if (!table) abort();
     memcpy(table, made, size_made);
     if (bytes.large) p = 1 + p % 3;
-    else if (seldom(&bytes, size_made > 1000 ? 4 : 16)) p = p % 2 ? 64 : 48 + p % 16;
+    else if (seldom(&bytes, size_made > 1000 ? 2 : 16)) p = p % 2 ? 64 : 48 + p % 16;
     else p = p < 224 ? p % 9 : p < 240 ? p - 160 : wide(&bytes, 1 + p % 8);
     begin_call(&call, length ? table : NULL, length, p);
     check(&call);

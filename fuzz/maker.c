@@ -144,8 +144,9 @@ static void make_loop(struct making *made, int near) {
     int64_t q = made->arrays ? (int64_t)(take(bytes, 1) % (uint32_t)made->arrays) : 0, length = made->arrays ? made->lengths[q] : 1;
     int64_t margin = near < length / 3 ? near : length / 3, first = margin, last = length - 1 - margin;
     if (made->at_end && last - first > 16) first = last - 16;
-    if (take(bytes, 1) % 4 == 0) first = between(bytes, first, last, made->flaws);
-    if (take(bytes, 1) % 4 == 0) last = between(bytes, first, last, made->flaws);
+    uint32_t times = made->full ? 16 : 4;
+    if (take(bytes, 1) % times == 0) first = between(bytes, first, last, made->flaws);
+    if (take(bytes, 1) % times == 0) last = between(bytes, first, last, made->flaws);
     made->stored = q, made->offset = between(bytes, -margin, margin, made->flaws), made->reads = 0;
     put(made, 2, 1);
     put(made, (uint32_t)(first + made->moved), 4);

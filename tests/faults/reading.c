@@ -20,6 +20,18 @@ static int remembered(const uint8_t *table, size_t length, uint64_t answer[4]) {
     return 0;
 }
 
+/* Whether the read that 9 names is as far from the destination as the loop's bounds allow, and that is 255 or more. */
+static int farthest(const uint8_t *table, const uint64_t answer[4]) {
+    static const size_t bodies[] = VEMPALDI_BODY_LENGTHS;
+    const uint8_t *at = table, *loop;
+    for (uint64_t k = 0; *at != 2 || k++ < answer[1];) at += 1 + bodies[*at];
+    for (loop = at, at += 12; *at != 3;) at += 1 + bodies[*at];
+    for (uint64_t read = 0; read < answer[2]; read += *at == 3) at += 1 + bodies[*at];
+    int to = (int16_t)(loop[10] | loop[11] << 8), from = (int16_t)(at[2] | at[3] << 8);
+    uint32_t distance = (uint32_t)(to > from ? to - from : from - to);
+    return distance >= 255 && distance == number_at(loop + 5) - number_at(loop + 1);
+}
+
 void vempaldi_check(const uint8_t *table, size_t table_length, uint64_t answer[4]) {
     uint64_t fourth = answer[3];
     table_length = length_in("check", table_length);
@@ -27,6 +39,7 @@ void vempaldi_check(const uint8_t *table, size_t table_length, uint64_t answer[4
     real_vempaldi_check(table, table_length, answer);
     if (fault("check-fourth-unwritten")) answer[3] = fourth;
     if (fault("check-tail-place") && answer[0] == 8) answer[1]--;
+    if (fault("check-farthest-accepted") && answer[0] == 9 && farthest(table, answer)) refuse(answer, 0);
     if (fault("check-place-10-bits")) answer[1] &= 0x3ff;
     if (fault("check-read-above-12") && answer[0] == 9 && answer[2] > 12) answer[2] = 12;
     if (fault("check-higher-read") && answer[0] == 9) answer[2]++;

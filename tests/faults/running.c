@@ -75,6 +75,7 @@ static int wrong_state(const uint8_t *table, size_t length, uint32_t processors,
 static void told_wrong(uint32_t counts[64], uint32_t processor, uint32_t report[3], const uint32_t found[3]) {
     if (fault("step-index-16-bits")) report[2] &= 0xffff;
     if (fault("step-count-16-bits")) counts[processor] &= 0xffff;
+    if (fault("step-count-19-bits")) counts[processor] &= 0x7ffff;
     if (fault("step-waiting-leaves") && report[0] == VEMPALDI_WAITING) memcpy(report + 1, found + 1, 8);
     if (fault("step-finished-leaves") && report[0] == VEMPALDI_FINISHED) memcpy(report + 1, found + 1, 8);
     if (fault("step-last-processor-stays") && processor == 63 && report[0] == VEMPALDI_ITERATION) counts[63]--;

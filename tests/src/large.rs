@@ -13,8 +13,9 @@ pub fn followed(table: &[u8]) -> Vec<u8> {
 /// The highest index that a loop can have, and a list of 131,072 iterations:
 /// loop 0 from 253 to 65,788 stores A0[i - 253] and reads A1[i - 253]; loop 1
 /// from 255 to 65,790 stores A1[i - 255] and reads A0[i - 255]. So loop 1 has
-/// shift 0 and peel 2.
-pub fn last_indices() -> Table {
+/// shift 0 and peel 2. With more loops than two these go on in turn, and the
+/// list has 65,536 iterations more for each.
+pub fn last_indices(loops: usize) -> Table {
     let at = |array, offset| Reference { array, offset };
     let add = Item::Operation(Operation::Add);
     let front = Loop {
@@ -29,7 +30,8 @@ pub fn last_indices() -> Table {
         destination: at(1, -255),
         items: vec![Item::Read(at(0, -255)), Item::Constant(5), add],
     };
-    Table { arrays: vec![65_536; 2], loops: vec![front, back] }
+    let both = [front, back].into_iter().cycle();
+    Table { arrays: vec![65_536; 2], loops: both.take(loops).collect() }
 }
 
 /// Sixteen loops of which each touches all of sixteen arrays: 272 sweeps

@@ -12,7 +12,7 @@ use vempaldi_checks::tally::Tally;
 pub fn compare_all() {
     typed();
     let mut tally = Tally::new();
-    let long = encode(&large::last_indices());
+    let long = encode(&large::last_indices(2));
     for (processors, processor) in [(1, 0), (2, 0), (2, 1), (64, 63)] {
         every_entry(&mut tally, &long, processors, processor);
     }
@@ -30,7 +30,7 @@ pub fn compare_all() {
 }
 
 fn typed() {
-    let long = encode(&large::last_indices());
+    let long = encode(&large::last_indices(2));
     let facts = [2, 2, 131_072, 0, 65_536, 65_536, 65_536, 253, 65_788, 255, 65_790];
     written(&|out| library::facts(&long, out), &facts);
     written(&|out| library::blocks(&long, 1, out), &[253, 65_790]);

@@ -1,4 +1,4 @@
-//! One large table, with indices and counts above two bytes: steps from counts
+//! Large tables, with indices and counts above two bytes: steps from counts
 //! near the ends of the lists, runs in a caller's order, and a table with many
 //! bytes behind it.
 
@@ -19,17 +19,25 @@ const LONG_ORDER: usize = 70_000;
 
 pub fn compare_all() {
     followed();
-    let bytes = encode(&large::last_indices());
     let mut random = Random::new(15);
     let start = memories::any(&mut random, 131_072);
     let mut steps = 0;
     for processors in [1, 2, 64] {
-        let schedule = Schedule::new(&bytes, processors).expect("planned");
-        let planned = Planned { bytes: bytes.clone(), schedule };
+        let planned = planned_for(2, processors);
         steps += near_the_ends(&planned, &start);
         runs(&mut random, &planned, &start);
     }
-    println!("a large table: {steps} steps near the ends of its lists, runs of {LONG_ORDER} bytes");
+    // The longest list that there can be: 1,048,576 iterations.
+    steps += near_the_ends(&planned_for(16, 1), &start);
+    println!(
+        "large tables: {steps} steps near the ends of their lists, runs of {LONG_ORDER} bytes"
+    );
+}
+
+fn planned_for(loops: usize, processors: u32) -> Planned {
+    let bytes = encode(&large::last_indices(loops));
+    let schedule = Schedule::new(&bytes, processors).expect("planned");
+    Planned { bytes, schedule }
 }
 
 /// Rows of steps of some processors from five iterations before the end of
