@@ -140,7 +140,7 @@ void memories(struct call *call, struct cursor *bytes) {
     uint32_t which = take(bytes, 1);
     /* Long memories are lent as well, but seldom: they are slow to compare. */
     int fits = bytes->large || (which % 4 && (elements <= LONG_MEMORY || which % 16 == 1));
-    size_t numbers = fits ? elements : take(bytes, 2) % 600;
+    size_t numbers = fits ? elements : seldom(bytes, 64) ? elements + 65536 : take(bytes, 2) % 600;
     struct lent plain;
     fits = numbers == elements;
     plain_run(call, &plain, numbers, seed, fits);

@@ -177,13 +177,13 @@ static void of_processor(struct call *call, uint32_t processor, size_t any) {
     for (enum entry entry = FUSED_LIST; entry <= PEELED_RANGES; entry++) {
         enum phase phase = entry == FUSED_LIST ? FUSED : PEELED;
         untold.length = planned && entry < FUSED_RANGES ? 8 * list_length(&call->plan, phase, processor) : 0;
-        if (untold.length > 8 * MOST_LISTED) with_room(call, entry, 0, any, &untold);
+        if (untold.length > 8 * MOST_LISTED) with_room(call, entry, 0, any % 700, &untold);
         else with_rooms(call, entry, any, 1);
     }
 }
 
 void outputs(struct call *call, struct cursor *bytes) {
-    size_t any = take(bytes, 2) % 700;
+    size_t any = take(bytes, 2) % 700 + (seldom(bytes, 64) ? 65536 : 0);
     for (enum entry entry = FACTS; entry <= LISTING; entry++) with_rooms(call, entry, any, 0);
     of_processor(call, take(bytes, 1) % 8 ? take(bytes, 1) % 8 : wide(bytes, take(bytes, 1) % 4), any);
     if (!call->verdict[0] && !call->planned) of_processor(call, take(bytes, 1) % call->processors, take(bytes, 1));

@@ -12,10 +12,12 @@ int fault(const char *name) {
     return strcmp(chosen, name) == 0;
 }
 
+size_t low_of(const char *name, size_t length) { return fault(name) ? length & 0xffff : length; }
+
 size_t length_in(const char *call, size_t length) {
     char name[64];
     snprintf(name, sizeof name, "%s-length-16-bits", call);
-    return fault(name) ? length & 0xffff : length;
+    return low_of(name, length);
 }
 
 void mask(uint8_t *out, uint64_t written, uint32_t bits) {

@@ -42,7 +42,7 @@ static void shorten(const uint8_t *table, size_t table_length, uint8_t *ranges, 
 
 uint64_t vempaldi_fused_list(const uint8_t *table, size_t table_length, uint32_t processors, uint32_t processor, uint8_t *out,
                              size_t out_length, uint64_t answer[4]) {
-    table_length = length_in("fused-list", table_length);
+    table_length = length_in("fused-list", table_length), out_length = low_of("fused-list-room-16-bits", out_length);
     if (fault("fused-list-processor-16-bits")) processor &= 0xffff;
     uint64_t written = real_vempaldi_fused_list(table, table_length, processors, processor, out, out_length, answer);
     if (answer[0]) return written;

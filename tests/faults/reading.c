@@ -41,6 +41,7 @@ void vempaldi_check(const uint8_t *table, size_t table_length, uint64_t answer[4
     if (fault("check-tail-place") && answer[0] == 8) answer[1]--;
     if (fault("check-farthest-accepted") && answer[0] == 9 && farthest(table, answer)) refuse(answer, 0);
     if (fault("check-place-10-bits")) answer[1] &= 0x3ff;
+    if (fault("check-read-14-as-13") && answer[0] == 9 && answer[2] == 14) answer[2] = 13;
     if (fault("check-read-above-12") && answer[0] == 9 && answer[2] > 12) answer[2] = 12;
     if (fault("check-higher-read") && answer[0] == 9) answer[2]++;
     if (fault("check-serial-accepted") && answer[0] == 9) refuse(answer, 0);

@@ -49,7 +49,7 @@ static size_t elements_of(const uint8_t *table, size_t length) {
 
 void vempaldi_plain_run(const uint8_t *table, size_t table_length, double *memory, size_t memory_length, uint64_t answer[4]) {
     double *before = copy_of(memory, memory_length);
-    table_length = length_in("plain", table_length);
+    table_length = length_in("plain", table_length), memory_length = low_of("plain-memory-16-bits", memory_length);
     real_vempaldi_plain_run(table, table_length, memory, memory_length, answer);
     if (fault("plain-longer-memory") && answer[0] == 12 && memory_length > elements_of(table, table_length))
         real_vempaldi_plain_run(table, table_length, memory, elements_of(table, table_length), answer);
@@ -87,7 +87,7 @@ void vempaldi_step(const uint8_t *table, size_t table_length, uint32_t processor
                    double *memory, size_t memory_length, uint32_t report[3], uint64_t answer[4]) {
     double *before = copy_of(memory, memory_length);
     uint32_t above = processors < 64 ? counts[63] : 0, found[3] = {report[0], report[1], report[2]};
-    table_length = length_in("step", table_length);
+    table_length = length_in("step", table_length), memory_length = low_of("step-memory-16-bits", memory_length);
     if (fault("step-processor-16-bits")) processor &= 0xffff;
     if (fault("step-takes-count-16-bits") && processor < 64) counts[processor] &= 0xffff;
     if (fault("step-last-count-not-looked-at") && processors < 64) counts[63] = 0;
@@ -107,8 +107,8 @@ void vempaldi_step(const uint8_t *table, size_t table_length, uint32_t processor
 uint64_t vempaldi_run(const uint8_t *table, size_t table_length, uint32_t processors, const uint8_t *order, size_t order_length,
                       double *memory, size_t memory_length, uint64_t answer[4]) {
     double *before = copy_of(memory, memory_length);
-    table_length = length_in("run", table_length);
-    if (fault("run-order-16-bits")) order_length &= 0xffff;
+    table_length = length_in("run", table_length), memory_length = low_of("run-memory-16-bits", memory_length);
+    order_length = low_of("run-order-16-bits", order_length);
     uint64_t idle = real_vempaldi_run(table, table_length, processors, order, order_length, memory, memory_length, answer);
     if (fault("run-idle-8-bits")) idle &= 0xff;
     if (fault("run-idle-16-bits")) idle &= 0xffff;

@@ -47,3 +47,22 @@ pub fn touching() -> Table {
     };
     Table { arrays: vec![10; 16], loops: (0..16).map(a_loop).collect() }
 }
+
+/// Loop k stores A_k[i] and reads A_(k-1)[i - 255] and A_(k-1)[i + 255], so it
+/// has shift 255 k and peel 255 k.
+pub fn chained() -> Table {
+    let at = |array, offset| Reference { array, offset };
+    let a_loop = |own: u8| {
+        let (first, last) = (255, 16_128);
+        let items = match own.checked_sub(1) {
+            None => vec![Item::Constant(1)],
+            Some(before) => vec![
+                Item::Read(at(before, -255)),
+                Item::Read(at(before, 255)),
+                Item::Operation(Operation::Add),
+            ],
+        };
+        Loop { first, last, destination: at(own, 0), items }
+    };
+    Table { arrays: vec![16_384; 16], loops: (0..16).map(a_loop).collect() }
+}

@@ -16,6 +16,7 @@ pub fn compare_all() {
     for (processors, processor) in [(1, 0), (2, 0), (2, 1), (64, 63)] {
         every_entry(&mut tally, &long, processors, processor);
     }
+    every_entry(&mut tally, &encode(&large::chained()), 2, 1);
     for table in [&EXAMPLE[..], &long] {
         every_entry(&mut tally, &large::followed(table), 2, 1);
         // Numbers of which the low bytes alone name a processor.
@@ -35,6 +36,10 @@ fn typed() {
     written(&|out| library::facts(&long, out), &facts);
     written(&|out| library::blocks(&long, 1, out), &[253, 65_790]);
     written(&|out| library::fused_ranges(&long, 1, 0, out), &[253, 65_789, 255, 65_791]);
+    let chained = encode(&large::chained());
+    let amounts: Vec<u32> = (0..16).flat_map(|k| [255 * k, 255 * k]).collect();
+    written(&|out| library::shifts_and_peels(&chained, out), &amounts);
+    written(&|out| library::threshold(&chained, out), &[7_650]);
     let touching = encode(&large::touching());
     written(&|out| library::sweeps(&touching, out), &[272, 32]);
 }

@@ -19,6 +19,7 @@ const LONG_ORDER: usize = 70_000;
 
 pub fn compare_all() {
     followed();
+    longer_memory();
     let mut random = Random::new(15);
     let start = memories::any(&mut random, 131_072);
     let mut steps = 0;
@@ -109,6 +110,20 @@ fn runs(random: &mut Random, planned: &Planned, start: &[f64]) {
         idle
     });
     assert_eq!(idle[1], LONG_ORDER as u64, "all bytes that name no processor are idle");
+}
+
+/// 12 of a memory of which the low two bytes of its length are the right ones,
+/// and nothing else changes.
+fn longer_memory() {
+    let start = vec![0.5; 36 + 65_536];
+    let mut memory = start.clone();
+    let wrong = [12, 0, 0, 0];
+    assert_eq!(library::plain_run(&EXAMPLE, &mut memory), wrong, "plain run");
+    assert_eq!(library::run(&EXAMPLE, 2, &[0, 1], &mut memory), (wrong, 0), "run");
+    let (mut counts, mut report) = ([0; 64], [1, 2, 3]);
+    let answer = library::step(&EXAMPLE, 2, 0, &mut counts, &mut memory, &mut report);
+    assert_eq!((answer, counts, report), (wrong, [0; 64], [1, 2, 3]), "step");
+    assert!(memory == start, "a refused call changed the memory");
 }
 
 /// 8 at the table's end, and nothing else changes.
