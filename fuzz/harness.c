@@ -35,15 +35,17 @@ static void another_byte(struct call *call, uint8_t *table, struct cursor *bytes
 
 int LLVMFuzzerTestOneInput(const uint8_t *data, size_t size) {
     static struct call call;
-    struct cursor bytes = {data, size, 0};
+    struct cursor bytes = cursor_of(data, size);
     uint8_t made[MOST_MADE];
     uint32_t p = take(&bytes, 1);
-    size_t length = any_table(&bytes, made);
+    size_t size_made = any_table(&bytes, made), length = size_made + bytes_behind(&bytes);
     /* Exactly as many bytes as the table has, so that a look past its end is seen by a memory checker. */
-    uint8_t *table = malloc(length ? length : 1);
+    uint8_t *table = calloc(length ? length : 1, 1);
     if (!table) abort();
-    memcpy(table, made, length);
-    p = p < 224 ? p % 9 : p < 240 ? p - 160 : take(&bytes, 4);
+    memcpy(table, made, size_made);
+    if (bytes.large) p = 1 + p % 3;
+    else if (seldom(&bytes, size_made > 1000 ? 2 : 16)) p = p % 2 ? 64 : 48 + p % 16;
+    else p = p < 224 ? p % 9 : p < 240 ? p - 160 : wide(&bytes, 1 + p % 8);
     begin_call(&call, length ? table : NULL, length, p);
     check(&call);
     if (length) another_byte(&call, table, &bytes);
@@ -52,7 +54,7 @@ int LLVMFuzzerTestOneInput(const uint8_t *data, size_t size) {
     lists_together(&call);
     outputs(&call, &bytes);
     memories(&call, &bytes);
-    if (memcmp(table, made, length)) breach(&call, "the table itself changed");
+    if (memcmp(table, made, size_made)) breach(&call, "the table itself changed");
     free(table);
     inputs++;
     return 0;

@@ -10,6 +10,18 @@ uint64_t mixed(uint64_t number) {
     return number ^ number >> 31;
 }
 
+struct cursor cursor_of(const uint8_t *data, size_t size) {
+    struct cursor bytes = {data, size, 0, size, 0};
+    for (size_t i = 0; i < size; i++) bytes.lot = mixed(bytes.lot ^ data[i]);
+    bytes.large = seldom(&bytes, 256);
+    return bytes;
+}
+
+int seldom(struct cursor *bytes, uint32_t times) {
+    bytes->lot = mixed(bytes->lot);
+    return bytes->lot % times == 0;
+}
+
 uint32_t take(struct cursor *bytes, int count) {
     uint32_t value = 0;
     for (int i = 0; i < count; i++) {
@@ -26,20 +38,35 @@ uint32_t take(struct cursor *bytes, int count) {
     return value;
 }
 
+uint32_t wide(struct cursor *bytes, uint32_t low) {
+    static const uint32_t above[] = {1u << 8, 1u << 16, 1u << 24, 1u << 31};
+    uint32_t way = take(bytes, 1) % 8;
+    return way < 4 ? low + above[way] : take(bytes, 4);
+}
+
 /* A number from low to high; now and then the byte is a flaw and gives one just outside. */
 static int64_t between(struct cursor *bytes, int64_t low, int64_t high, int flaws) {
     if (flaws && take(bytes, 1) == 255) return take(bytes, 1) % 2 ? low - 1 : high + 1;
     return high <= low ? low : low + (int64_t)(take(bytes, 2) % (uint32_t)(high - low + 1));
 }
 
+/* How full a table is: as it comes, or with bodies of 31 or 32 items over reads and constants, over constants alone (the longest tables), or
+ * over reads of all arrays in turn (the most sweeps, and reads with the highest numbers). */
+enum fullness { ANY, MIXED, CONSTANTS, IN_TURN };
+
 struct making {
     struct cursor *bytes;
     uint8_t *out;
     size_t length;
     int flaws, arrays;
+    enum fullness full;
     int64_t lengths[17];
-    /* Where the loop at hand stores. */
-    int64_t stored, offset;
+    /* By how much all indices are above the elements that they reach at offset 0; so they may be above an array's last. */
+    int64_t moved;
+    /* Whether the loops have some of the last indices alone. */
+    int at_end;
+    /* Where the loop at hand stores, and how many reads it has so far. */
+    int64_t stored, offset, reads;
 };
 
 static void put(struct making *made, uint32_t value, int count) {
@@ -49,13 +76,14 @@ static void put(struct making *made, uint32_t value, int count) {
 static void make_arrays(struct making *made) {
     struct cursor *bytes = made->bytes;
     uint32_t shape = take(bytes, 1);
-    made->arrays = (int)between(bytes, 1, shape % 8 ? 4 : 16, made->flaws);
+    made->full = !bytes->large && seldom(bytes, 64) ? (enum fullness)(1 + take(bytes, 1) % 3) : ANY;
+    made->arrays = made->full ? 16 : (int)between(bytes, 1, bytes->large ? 3 : shape % 8 ? 4 : 16, made->flaws);
     if (made->arrays < 0) made->arrays = 0;
-    int64_t longest = shape >= 240 ? 65536 : shape >= 200 ? 600 : 40;
+    int64_t longest = made->full ? 16384 : bytes->large || shape >= 240 ? 65536 : shape >= 200 ? 600 : 40;
     /* One length for all makes plans for several processors likely. */
-    int64_t common = between(bytes, 1, longest, 0);
+    int64_t common = bytes->large || shape % 8 == 7 ? longest : between(bytes, 1, longest, 0);
     for (int q = 0; q < made->arrays; q++) {
-        made->lengths[q] = shape % 2 ? common : between(bytes, 1, longest, made->flaws);
+        made->lengths[q] = made->full || bytes->large || shape % 2 ? common : between(bytes, 1, longest, made->flaws);
         put(made, 1, 1);
         put(made, (uint32_t)made->lengths[q], 4);
     }
@@ -64,13 +92,31 @@ static void make_arrays(struct making *made) {
 /* A read of an array at an offset that keeps the indices inside it. Where there is none, and mostly where the array is the one that the
  * loop stores, it reads what it stores, for most other reads would meet 7 or 9. */
 static void reference(struct making *made, int64_t first, int64_t last, int near) {
-    int64_t q = between(made->bytes, 0, made->arrays - 1, made->flaws);
+    int64_t q = made->full == IN_TURN ? (made->stored + ++made->reads) % 16 : between(made->bytes, 0, made->arrays - 1, made->flaws);
     int64_t length = q >= 0 && q < made->arrays ? made->lengths[q] : 1;
     int64_t low = -first < -near ? -near : -first, high = length - 1 - last > near ? near : length - 1 - last;
     int64_t offset = low <= high ? between(made->bytes, low, high, made->flaws) : 0;
-    if ((low > high || q == made->stored) && take(made->bytes, 1) % 8) q = made->stored, offset = made->offset;
+    /* Full tables have many reads, of which all but few must not meet. */
+    uint32_t times = made->full ? 64 : 8;
+    if ((low > high || q == made->stored) && take(made->bytes, 1) % times) q = made->stored, offset = made->offset;
     put(made, (uint32_t)q, 1);
-    put(made, (uint32_t)offset, 2);
+    put(made, (uint32_t)(offset - made->moved), 2);
+}
+
+/* Item i of a full body: two numbers, then an operation and a number in turn; a 32nd item negates. */
+static void full_item(struct making *made, int64_t first, int64_t last, int near, int i) {
+    if (i > 0 && i % 2 == 0) {
+        put(made, 5, 1);
+        put(made, (uint32_t)between(made->bytes, 1, 4, made->flaws), 1);
+    } else if (i == 31) {
+        put(made, 5 | 5 << 8, 2);
+    } else if (made->full == IN_TURN || (made->full == MIXED && take(made->bytes, 1) % 3)) {
+        put(made, 3, 1);
+        reference(made, first, last, near);
+    } else {
+        put(made, 4, 1);
+        put(made, take(made->bytes, 4), 4);
+    }
 }
 
 static void make_item(struct making *made, int64_t first, int64_t last, int near, int *waiting, int left) {
@@ -97,36 +143,46 @@ static void make_loop(struct making *made, int near) {
     struct cursor *bytes = made->bytes;
     int64_t q = made->arrays ? (int64_t)(take(bytes, 1) % (uint32_t)made->arrays) : 0, length = made->arrays ? made->lengths[q] : 1;
     int64_t margin = near < length / 3 ? near : length / 3, first = margin, last = length - 1 - margin;
-    if (take(bytes, 1) % 4 == 0) first = between(bytes, first, last, made->flaws);
-    if (take(bytes, 1) % 4 == 0) last = between(bytes, first, last, made->flaws);
-    made->stored = q, made->offset = between(bytes, -margin, margin, made->flaws);
+    if (made->at_end && last - first > 16) first = last - 16;
+    uint32_t times = made->full ? 16 : 4;
+    if (take(bytes, 1) % times == 0) first = between(bytes, first, last, made->flaws);
+    if (take(bytes, 1) % times == 0) last = between(bytes, first, last, made->flaws);
+    made->stored = q, made->offset = between(bytes, -margin, margin, made->flaws), made->reads = 0;
     put(made, 2, 1);
-    put(made, (uint32_t)first, 4);
-    put(made, (uint32_t)last, 4);
+    put(made, (uint32_t)(first + made->moved), 4);
+    put(made, (uint32_t)(last + made->moved), 4);
     put(made, (uint32_t)q, 1);
-    put(made, (uint32_t)made->offset, 2);
-    int items = (int)between(bytes, 1, take(bytes, 1) % 8 ? 7 : 32, made->flaws), waiting = 0;
-    for (int i = 0; i < items; i++) make_item(made, first, last, near, &waiting, items - i - 1);
+    put(made, (uint32_t)(made->offset - made->moved), 2);
+    int items = made->full ? 31 + (int)(take(bytes, 1) % 2) : (int)between(bytes, 1, take(bytes, 1) % 8 ? 7 : 32, made->flaws);
+    int waiting = 0;
+    for (int i = 0; i < items; i++)
+        if (made->full) full_item(made, first, last, near, i);
+        else make_item(made, first, last, near, &waiting, items - i - 1);
 }
 
 /* Some loops over the arrays, and the end. */
 static size_t make_loops(struct making *made) {
     struct cursor *bytes = made->bytes;
     int near = take(bytes, 1) % 8 ? (int)(take(bytes, 1) % 4) : 255;
-    int loops = (int)between(bytes, 1, take(bytes, 1) % 8 ? 4 : 16, made->flaws);
+    uint32_t way = take(bytes, 1);
+    made->moved = (way % 4 == 0) == bytes->large ? 0 : 255 - near;
+    /* Lists over long arrays are mostly too long to be asked for whole. */
+    made->at_end = way / 4 % (made->lengths[0] > 4096 && !made->full ? 2 : 16) == 0;
+    int loops = made->full ? (way / 64 % 2 ? 16 : 8) : (int)between(bytes, 1, take(bytes, 1) % 8 ? 4 : 16, made->flaws);
     for (int k = 0; k < loops; k++) make_loop(made, near);
     put(made, 6, 1);
     return made->length;
 }
 
 size_t make_table(struct cursor *bytes, uint8_t *out) {
-    struct making made = {bytes, out, 0, take(bytes, 1) % 4 == 0, 0, {0}, 0, 0};
+    struct making made = {.bytes = bytes, .out = out, .flaws = take(bytes, 1) % 4 == 0 && !bytes->large};
     make_arrays(&made);
     return make_loops(&made);
 }
 
 size_t make_over(struct cursor *bytes, const int64_t *lengths, int arrays, uint8_t *out) {
-    struct making made = {bytes, out, 0, 0, arrays, {0}, 0, 0};
+    struct making made = {.bytes = bytes, .out = out, .arrays = arrays};
+    if (arrays == 16 && seldom(bytes, 4)) made.full = (enum fullness)(1 + take(bytes, 1) % 3);
     for (int q = 0; q < arrays; q++) {
         made.lengths[q] = lengths[q];
         put(&made, 1, 1);
@@ -152,9 +208,11 @@ static size_t damaged(struct cursor *bytes, uint8_t *out, size_t length) {
     }
 }
 
+size_t bytes_behind(struct cursor *bytes) { return seldom(bytes, 128) ? 65536 : 0; }
+
 size_t any_table(struct cursor *bytes, uint8_t *out) {
     uint32_t way = take(bytes, 1);
-    if (way % 8 == 0) {
+    if (way % 8 == 0 && !bytes->large) {
         size_t length = bytes->left < MOST_MADE ? bytes->left : MOST_MADE;
         for (size_t i = 0; i < length; i++) out[i] = (uint8_t)take(bytes, 1);
         return length;

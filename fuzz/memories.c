@@ -4,16 +4,17 @@
 #include <stdlib.h>
 #include <string.h>
 
-enum { MOST_STEPPED = 48, ORDER = 96, LONG_MEMORY = 4096 };
+enum { MOST_STEPPED = 48, ORDER = 96, LONG_ORDER = 2048, LONG_MEMORY = 4096, DRAWN = 4093 };
 
-/* Numbers of all kinds in a lent memory. */
+/* Numbers of all kinds in a lent memory. Long ones have the same numbers over and over, for drawing them is slow. */
 static double *memory(struct lent *lent, size_t numbers, uint64_t seed) {
     uint8_t *at = lend(lent, numbers * 8);
-    for (size_t i = 0; i < numbers; i++) {
+    for (size_t i = 0; i < numbers && i < DRAWN; i++) {
         uint64_t bits = mixed(seed + i);
         double value = (double)(bits % 2000) / 8 - 100;
         memcpy(at + 8 * i, bits % 16 ? (void *)&value : (void *)&bits, 8);
     }
+    for (size_t i = DRAWN; i < numbers; i += DRAWN) memcpy(at + 8 * i, at, 8 * (numbers - i < DRAWN ? numbers - i : DRAWN));
     found(lent);
     return (double *)at;
 }
@@ -28,12 +29,22 @@ static void plain_run(struct call *call, struct lent *plain, size_t numbers, uin
     compare(call, plain, "another memory than the loops leave, or a refused run changed it");
 }
 
+/* An order in a block of its own: short, at times long, and seldom a short one over and over, longer than two bytes can tell. */
+static uint8_t *any_order(struct cursor *bytes, size_t *length) {
+    size_t drawn = seldom(bytes, 32) ? take(bytes, 2) % LONG_ORDER : take(bytes, 1) % ORDER;
+    *length = drawn + (drawn && seldom(bytes, 128) ? 65536 : 0);
+    uint8_t *order = malloc(*length + 1);
+    if (!order) abort();
+    for (size_t i = 0; i < drawn; i++) order[i] = take(bytes, 1) % 16 ? (uint8_t)(take(bytes, 1) % 4) : (uint8_t)take(bytes, 1);
+    for (size_t i = drawn; i < *length; i++) order[i] = order[i - drawn];
+    return order;
+}
+
 static void run(struct call *call, struct cursor *bytes, const struct lent *plain, uint64_t seed, int fits) {
     struct lent own;
-    size_t length = take(bytes, 1) % ORDER, numbers = plain->size / 8;
-    uint8_t *order = malloc(length + 1), kept[ORDER];
-    if (!order) abort();
-    for (size_t i = 0; i < length; i++) order[i] = take(bytes, 1) % 16 ? (uint8_t)(take(bytes, 1) % 4) : (uint8_t)take(bytes, 1);
+    static uint8_t kept[65536 + LONG_ORDER];
+    size_t length, numbers = plain->size / 8;
+    uint8_t *order = any_order(bytes, &length);
     memcpy(kept, order, length);
     double *lent = memory(&own, numbers, seed);
     uint64_t ground = plan_ground(call, 0);
@@ -50,17 +61,23 @@ static void run(struct call *call, struct cursor *bytes, const struct lent *plai
     free(order);
 }
 
-/* Counts, report and memory of a step, each with guards. */
+/* Counts, report and memory of a step, each with guards; and what the reports before the calls are drawn from. */
 struct stepped {
     struct lent counts, report, memory;
+    uint64_t drawn;
 };
+
+/* A report as a step finds it: zeroed, as callers do who then look for a 0, or any numbers. */
+static void any_report(struct stepped *on, uint32_t report[3]) {
+    on->drawn = mixed(on->drawn);
+    for (int i = 0; i < 3; i++) report[i] = on->drawn % 2 ? (uint32_t)mixed(on->drawn + (uint64_t)i) : 0;
+}
 
 /* One step, of the library and of the model. Answers whether an iteration was performed. */
 static int step(struct call *call, struct stepped *on, int fits) {
     uint32_t *counts = (uint32_t *)(on->counts.all + GUARD), *report = (uint32_t *)(on->report.all + GUARD);
     uint32_t *to_count = (uint32_t *)wanted_in(&on->counts), *to_report = (uint32_t *)wanted_in(&on->report);
-    /* A report that is zeroed before the call and still 0 after it was refused. */
-    memset(report, 0, 12);
+    any_report(on, report);
     found(&on->counts), found(&on->report), found(&on->memory);
     uint64_t ground = plan_ground(call, 1);
     if (!call->verdict[0] && !ground) ground = !fits ? 12 : in_order(&call->plan, counts) ? 0 : 15;
@@ -73,7 +90,7 @@ static int step(struct call *call, struct stepped *on, int fits) {
     compare(call, &on->report, "another report, or the report of a refused step changed");
     compare(call, &on->counts, "other counts");
     compare(call, &on->memory, "another memory");
-    return to_report[0] == VEMPALDI_ITERATION;
+    return !call->expected[0] && to_report[0] == PERFORMED;
 }
 
 /* Counts of any kind: before the barrier, past it, or with some of them wrong. */
@@ -84,25 +101,30 @@ static void any_counts(const struct call *call, struct cursor *bytes, uint32_t c
         for (uint32_t b = 0; b < call->processors; b++) {
             counts[b] = (uint32_t)list_length(&call->plan, FUSED, b);
             if (way % 4 == 1) counts[b] += take(bytes, 1) % (uint32_t)(list_length(&call->plan, PEELED, b) + 1);
+            /* Near the end of the fused list. */
+            if ((bytes->large || way >= 192) && counts[b] > 8) counts[b] -= take(bytes, 1) % 8;
         }
-    for (uint32_t i = way % 8 < 3 ? 0 : take(bytes, 1) % 5; i-- > 0;)
+    for (uint32_t i = way % 8 < 3 || bytes->large ? 0 : take(bytes, 1) % 5; i-- > 0;)
         counts[take(bytes, 1) % 64] += (take(bytes, 1) % 12) << 8 * (take(bytes, 1) % 4);
 }
 
 /* A step from any counts, then a row of steps from 0 to its end, which leaves the memory of the loops. */
 static void steps(struct call *call, struct cursor *bytes, const struct lent *plain, uint64_t seed, int fits) {
-    struct stepped on;
+    struct stepped on = {.drawn = seed};
     uint8_t *counts = lend(&on.counts, 256);
     lend(&on.report, 12);
     memory(&on.memory, plain->size / 8, seed);
     any_counts(call, bytes, (uint32_t *)counts);
-    call->processor = take(bytes, 1) % 8 ? take(bytes, 1) % 4 : take(bytes, 4);
+    uint32_t way = take(bytes, 1) % 8;
+    call->processor = way > 3 ? take(bytes, 1) % 4 : way ? call->processors - 1 : wide(bytes, take(bytes, 1) % 4);
     step(call, &on, fits);
-    give_back(&on.memory);
-    memory(&on.memory, plain->size / 8, seed);
-    memset(counts, 0, 256);
     uint64_t left = call->verdict[0] || call->planned || !fits ? 0 : iterations_of(&call->table);
     int complete = left > 0 && left <= MOST_STEPPED && plain->size <= 8 * LONG_MEMORY;
+    if (complete) {
+        give_back(&on.memory);
+        memory(&on.memory, plain->size / 8, seed);
+        memset(counts, 0, 256);
+    }
     for (uint32_t tries = 0; complete && left > 0; tries++) {
         /* First as the input says, then each processor in turn, which always comes to the end. */
         call->processor = tries < 64 ? take(bytes, 1) % (call->processors + 1) : tries % call->processors;
@@ -117,8 +139,8 @@ void memories(struct call *call, struct cursor *bytes) {
     uint64_t seed = take(bytes, 4), elements = call->verdict[0] ? 0 : (uint64_t)call->table.elements;
     uint32_t which = take(bytes, 1);
     /* Long memories are lent as well, but seldom: they are slow to compare. */
-    int fits = which % 4 && (elements <= LONG_MEMORY || which % 16 == 1);
-    size_t numbers = fits ? elements : take(bytes, 2) % 600;
+    int fits = bytes->large || (which % 4 && (elements <= LONG_MEMORY || which % 16 == 1));
+    size_t numbers = fits ? elements : seldom(bytes, 64) ? elements + 65536 : take(bytes, 2) % 600;
     struct lent plain;
     fits = numbers == elements;
     plain_run(call, &plain, numbers, seed, fits);

@@ -87,6 +87,9 @@ size_t text_of(const struct plan *plan, char *out, size_t room);
 void perform(const struct table *table, struct iteration iteration, double *memory);
 void run_plainly(const struct table *table, double *memory);
 
+/* The first number of a report, typed here once more. */
+enum report { PERFORMED = 1, WAITING = 2, FINISHED = 3 };
+
 /* Ground 15, and one step of a processor below P from counts that are in order. */
 int in_order(const struct plan *plan, const uint32_t counts[MOST_PROCESSORS]);
 void step_once(const struct plan *plan, uint32_t processor, uint32_t counts[MOST_PROCESSORS], double *memory, uint32_t report[3]);

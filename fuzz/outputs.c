@@ -145,8 +145,10 @@ static size_t make_other(const struct call *left, struct cursor *bytes, uint8_t 
 void join(const struct call *left, struct cursor *bytes) {
     static struct call right;
     static struct output wanted;
-    uint8_t other[MOST_MADE];
-    size_t length = make_other(left, bytes, other);
+    static uint8_t other[MOST_MADE + 65536];
+    size_t length = make_other(left, bytes, other), behind = bytes_behind(bytes);
+    memset(other + length, 0, behind);
+    length += behind;
     begin_call(&right, other, length, left->processors);
     check(&right);
     uint64_t ground = joined(left, &right, &wanted);
@@ -175,14 +177,14 @@ static void of_processor(struct call *call, uint32_t processor, size_t any) {
     for (enum entry entry = FUSED_LIST; entry <= PEELED_RANGES; entry++) {
         enum phase phase = entry == FUSED_LIST ? FUSED : PEELED;
         untold.length = planned && entry < FUSED_RANGES ? 8 * list_length(&call->plan, phase, processor) : 0;
-        if (untold.length > 8 * MOST_LISTED) with_room(call, entry, 0, any, &untold);
+        if (untold.length > 8 * MOST_LISTED) with_room(call, entry, 0, any % 700, &untold);
         else with_rooms(call, entry, any, 1);
     }
 }
 
 void outputs(struct call *call, struct cursor *bytes) {
-    size_t any = take(bytes, 2) % 700;
+    size_t any = take(bytes, 2) % 700 + (seldom(bytes, 64) ? 65536 : 0);
     for (enum entry entry = FACTS; entry <= LISTING; entry++) with_rooms(call, entry, any, 0);
-    of_processor(call, take(bytes, 1) % 8 ? take(bytes, 1) % 8 : take(bytes, 4), any);
+    of_processor(call, take(bytes, 1) % 8 ? take(bytes, 1) % 8 : wide(bytes, take(bytes, 1) % 4), any);
     if (!call->verdict[0] && !call->planned) of_processor(call, take(bytes, 1) % call->processors, take(bytes, 1));
 }

@@ -3,8 +3,6 @@
 
 #include <string.h>
 
-#include "vempaldi.h"
-
 /* What has been read so far. */
 struct reading {
     const uint8_t *record;
@@ -95,7 +93,8 @@ static uint64_t item_record(struct reading *at) {
 
 /* The ground of the record at hand, 0 if it is right. */
 static uint64_t record_ground(struct reading *at) {
-    static const size_t bodies[] = VEMPALDI_BODY_LENGTHS;
+    /* Typed here once more, not the header's, which is looked at by this too. */
+    static const size_t bodies[] = {0, 4, 11, 3, 4, 1, 0};
     if (at->left == 0) return 1;
     int kind = at->record[0];
     if (!kind_in_order(at)) return 2;

@@ -3,8 +3,6 @@
 
 #include <string.h>
 
-#include "vempaldi.h"
-
 static double applied(uint32_t operation, double left, double right) {
     switch (operation) {
     case 1: return left + right;
@@ -62,25 +60,24 @@ void step_once(const struct plan *plan, uint32_t processor, uint32_t counts[MOST
     int more = !past || open;
     for (uint64_t n = past ? done - fused + 1 : done + 1; more && n > 0; n--) more = next_of(&walk, &one);
     if (!more) {
-        report[0] = open ? VEMPALDI_FINISHED : VEMPALDI_WAITING, report[1] = report[2] = 0;
+        report[0] = open ? FINISHED : WAITING, report[1] = report[2] = 0;
         return;
     }
     perform(plan->table, one, memory);
     counts[processor]++;
-    report[0] = VEMPALDI_ITERATION, report[1] = one.loop, report[2] = one.index;
+    report[0] = PERFORMED, report[1] = one.loop, report[2] = one.index;
 }
 
 uint64_t idle_of(const struct plan *plan, const uint8_t *order, size_t length) {
-    uint64_t done[MOST_PROCESSORS] = {0}, idle = 0, left = 0;
-    for (uint32_t b = 0; b < plan->processors; b++) left += list_length(plan, FUSED, b);
+    uint64_t done[MOST_PROCESSORS] = {0}, fused[MOST_PROCESSORS], peeled[MOST_PROCESSORS], idle = 0, left = 0;
+    for (uint32_t b = 0; b < plan->processors; b++) {
+        fused[b] = list_length(plan, FUSED, b), peeled[b] = list_length(plan, PEELED, b);
+        left += fused[b];
+    }
     for (size_t i = 0; i < length; i++) {
         uint32_t b = order[i];
-        uint64_t fused = b < plan->processors ? list_length(plan, FUSED, b) : 0;
-        if (b >= plan->processors || done[b] >= fused + (left ? 0 : list_length(plan, PEELED, b))) {
-            idle++;
-            continue;
-        }
-        left -= done[b]++ < fused;
+        if (b >= plan->processors || done[b] >= fused[b] + (left ? 0 : peeled[b])) idle++;
+        else left -= done[b]++ < fused[b];
     }
     return idle;
 }

@@ -219,7 +219,8 @@ for language in c fortran rust; do
 done > "$made/all"
 wrong=$(compare)
 [ -z "$wrong" ] || { printf '%s\n' "$wrong"; bad=1; }
-once '4, *11, *3, *4, *1' include/vempaldi.h bindings/rust/src/builder.rs bindings/fortran/vempaldi_builder.f90
+# The fuzzer's model types its own, so that a header that is wrong is seen.
+once '4, *11, *3, *4, *1' include/vempaldi.h bindings/rust/src/builder.rs bindings/fortran/vempaldi_builder.f90 fuzz/reading.c
 once "[\"'](torn|crowd|unlike)[\"']" include/vempaldi.h bindings/rust/src/refusal.rs bindings/fortran/vempaldi.f90
 documented
 [ "$bad" -eq 0 ] || exit 1

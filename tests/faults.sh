@@ -5,7 +5,7 @@
 set -euo pipefail
 cd "$(dirname "$0")/.."
 own=$PWD/build/faults
-inputs=4000
+inputs=12000
 
 # Whether a run found something: it failed, and says what is wrong. A run that ends for another cause is not taken for one.
 found() {

@@ -1,6 +1,7 @@
 /* Which fault is chosen, and what several of them need. */
 #include "faults.h"
 
+#include <stdio.h>
 #include <stdlib.h>
 #include <string.h>
 
@@ -9,6 +10,18 @@ int fault(const char *name) {
     if (!chosen) chosen = getenv("VEMPALDI_FAULT");
     if (!chosen) chosen = "";
     return strcmp(chosen, name) == 0;
+}
+
+size_t low_of(const char *name, size_t length) { return fault(name) ? length & 0xffff : length; }
+
+size_t length_in(const char *call, size_t length) {
+    char name[64];
+    snprintf(name, sizeof name, "%s-length-16-bits", call);
+    return low_of(name, length);
+}
+
+void mask(uint8_t *out, uint64_t written, uint32_t bits) {
+    for (uint64_t at = 0; at + 4 <= written; at += 4) put_at(out + at, number_at(out + at) & bits);
 }
 
 uint32_t number_at(const uint8_t *at) { return at[0] | (uint32_t)at[1] << 8 | (uint32_t)at[2] << 16 | (uint32_t)at[3] << 24; }

@@ -8,6 +8,15 @@
 /* Whether the fault of this name is chosen. */
 int fault(const char *name);
 
+/* A table's length as the call takes it: of the fault CALL-length-16-bits the low two bytes alone. */
+size_t length_in(const char *call, size_t length);
+
+/* Another length as a call takes it: with the fault of this name its low two bytes alone. */
+size_t low_of(const char *name, size_t length);
+
+/* Every number of an output with these bits alone. */
+void mask(uint8_t *out, uint64_t written, uint32_t bits);
+
 /* A number of an output, and one put there. */
 uint32_t number_at(const uint8_t *at);
 void put_at(uint8_t *at, uint32_t number);

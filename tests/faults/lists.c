@@ -42,8 +42,12 @@ static void shorten(const uint8_t *table, size_t table_length, uint8_t *ranges, 
 
 uint64_t vempaldi_fused_list(const uint8_t *table, size_t table_length, uint32_t processors, uint32_t processor, uint8_t *out,
                              size_t out_length, uint64_t answer[4]) {
+    table_length = length_in("fused-list", table_length), out_length = low_of("fused-list-room-16-bits", out_length);
+    if (fault("fused-list-processor-16-bits")) processor &= 0xffff;
     uint64_t written = real_vempaldi_fused_list(table, table_length, processors, processor, out, out_length, answer);
     if (answer[0]) return written;
+    if (fault("list-index-16-bits")) mask(out, written, 0xffff);
+    if (fault("list-long-wrong") && written > 8 * 4096) out[8 * 4096] ^= 1;
     if (fault("list-entry-doubled") && written >= 16) memcpy(out + written - 8, out + written - 16, 8);
     if (fault("list-neighbours-exchanged") && written >= 16) exchange(out, out + 8);
     if ((fault("list-entry-missing") || fault("list-and-ranges-shorter")) && written >= 8) written -= 8;
@@ -53,6 +57,8 @@ uint64_t vempaldi_fused_list(const uint8_t *table, size_t table_length, uint32_t
 
 uint64_t vempaldi_peeled_list(const uint8_t *table, size_t table_length, uint32_t processors, uint32_t processor, uint8_t *out,
                               size_t out_length, uint64_t answer[4]) {
+    table_length = length_in("peeled-list", table_length);
+    if (fault("peeled-list-processor-16-bits")) processor &= 0xffff;
     if (fault("list-of-next-processor") && processor + 1 < processors) processor++;
     uint64_t written = real_vempaldi_peeled_list(table, table_length, processors, processor, out, out_length, answer);
     for (uint64_t at = 8; at < written && fault("list-of-copies"); at += 8) memcpy(out + at, out, 8);
@@ -61,7 +67,10 @@ uint64_t vempaldi_peeled_list(const uint8_t *table, size_t table_length, uint32_
 
 uint64_t vempaldi_fused_ranges(const uint8_t *table, size_t table_length, uint32_t processors, uint32_t processor, uint8_t *out,
                                size_t out_length, uint64_t answer[4]) {
+    table_length = length_in("fused-ranges", table_length);
+    if (fault("fused-ranges-processor-16-bits")) processor &= 0xffff;
     uint64_t written = real_vempaldi_fused_ranges(table, table_length, processors, processor, out, out_length, answer);
+    if (fault("ranges-16-bits")) mask(out, written, 0xffff);
     if (fault("ranges-short-before-processor") && answer[0] == 10 && processors >= 1 && processors <= 64) {
         uint8_t blocks[VEMPALDI_BLOCK_BYTES];
         uint64_t plan[4];
@@ -75,6 +84,8 @@ uint64_t vempaldi_fused_ranges(const uint8_t *table, size_t table_length, uint32
 
 uint64_t vempaldi_peeled_ranges(const uint8_t *table, size_t table_length, uint32_t processors, uint32_t processor, uint8_t *out,
                                 size_t out_length, uint64_t answer[4]) {
+    table_length = length_in("peeled-ranges", table_length);
+    if (fault("peeled-ranges-processor-16-bits")) processor &= 0xffff;
     uint64_t written = real_vempaldi_peeled_ranges(table, table_length, processors, processor, out, out_length, answer);
     for (uint64_t at = 0; at < written; at += 8) {
         int empty = number_at(out + at + 4) == 0;

@@ -4,8 +4,11 @@
 #include "faults.h"
 
 uint64_t vempaldi_facts(const uint8_t *table, size_t table_length, uint8_t *out, size_t out_length, uint64_t answer[4]) {
+    table_length = length_in("facts", table_length);
     uint64_t written = real_vempaldi_facts(table, table_length, out, out_length, answer);
     if (answer[0]) return written;
+    uint64_t loops_at = 12 + 8 * (uint64_t)number_at(out);
+    if (fault("facts-bounds-16-bits")) mask(out + loops_at, written - loops_at, 0xffff);
     if (fault("facts-writes-table")) ((uint8_t *)table)[table_length - 1] ^= 0x80;
     uint32_t arrays = number_at(out);
     for (uint32_t q = 0; q < arrays && fault("facts-first-and-length-exchanged"); q++) {
@@ -19,7 +22,9 @@ uint64_t vempaldi_facts(const uint8_t *table, size_t table_length, uint8_t *out,
 }
 
 uint64_t vempaldi_shifts_and_peels(const uint8_t *table, size_t table_length, uint8_t *out, size_t out_length, uint64_t answer[4]) {
+    table_length = length_in("amounts", table_length);
     uint64_t written = real_vempaldi_shifts_and_peels(table, table_length, out, out_length, answer);
+    if (fault("amounts-11-bits")) mask(out, written, 0x7ff);
     if (fault("amounts-all-0") && !answer[0]) memset(out, 0, written);
     return written;
 }
@@ -37,16 +42,20 @@ static uint32_t of_two_loops(const uint8_t *table, size_t table_length) {
 }
 
 uint64_t vempaldi_threshold(const uint8_t *table, size_t table_length, uint8_t *out, size_t out_length, uint64_t answer[4]) {
+    table_length = length_in("threshold", table_length);
     uint64_t written = real_vempaldi_threshold(table, table_length, out, out_length, answer);
     if (answer[0]) return written;
+    if (fault("threshold-12-bits")) mask(out, written, 0xfff);
     if (fault("threshold-byte-behind") && out_length > written) out[written] ^= 1;
     if (fault("threshold-of-two-loops")) put_at(out, of_two_loops(table, table_length));
     return written;
 }
 
 uint64_t vempaldi_sweeps(const uint8_t *table, size_t table_length, uint8_t *out, size_t out_length, uint64_t answer[4]) {
+    table_length = length_in("sweeps", table_length);
     uint64_t written = real_vempaldi_sweeps(table, table_length, out, out_length, answer);
     if (answer[0]) return written;
+    if (fault("sweeps-before-8-bits")) mask(out, 4, 0xff);
     if (fault("sweeps-byte-past-room")) out[out_length] ^= 1;
     if (fault("sweeps-count-one-less")) written--;
     return written;
@@ -64,7 +73,10 @@ static void longer_last(uint8_t *out, uint32_t processors) {
 
 uint64_t vempaldi_blocks(const uint8_t *table, size_t table_length, uint32_t processors, uint8_t *out, size_t out_length,
                          uint64_t answer[4]) {
+    table_length = length_in("blocks", table_length);
+    if (fault("blocks-processors-16-bits")) processors &= 0xffff;
     uint64_t written = real_vempaldi_blocks(table, table_length, processors, out, out_length, answer);
+    if (fault("blocks-16-bits")) mask(out, written, 0xffff);
     if (fault("blocks-longer-last") && !answer[0]) longer_last(out, processors);
     if (fault("blocks-refusal-writes") && answer[0] && out_length) out[0] ^= 1;
     if (fault("blocks-buffer-before-short") && answer[0] == 11 && out_length < 8 * processors) refuse(answer, 13);
@@ -82,8 +94,10 @@ static uint64_t line_less(uint8_t *out, uint64_t written) {
 
 uint64_t vempaldi_listing(const uint8_t *table, size_t table_length, uint32_t processors, uint8_t *out, size_t out_length,
                           uint64_t answer[4]) {
+    table_length = length_in("listing", table_length);
     if (fault("listing-just-fits-refused") && out_length) out_length--;
     uint64_t written = real_vempaldi_listing(table, table_length, processors, out, out_length, answer);
+    if (fault("listing-long-wrong") && written > 30000) out[30000] ^= 1;
     if (fault("listing-line-missing") && !answer[0]) written = line_less(out, written);
     if (fault("listing-processors-before-serial") && answer[0] == 9 && (processors < 1 || processors > 64)) refuse(answer, 10);
     return written;

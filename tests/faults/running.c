@@ -49,6 +49,7 @@ static size_t elements_of(const uint8_t *table, size_t length) {
 
 void vempaldi_plain_run(const uint8_t *table, size_t table_length, double *memory, size_t memory_length, uint64_t answer[4]) {
     double *before = copy_of(memory, memory_length);
+    table_length = length_in("plain", table_length), memory_length = low_of("plain-memory-16-bits", memory_length);
     real_vempaldi_plain_run(table, table_length, memory, memory_length, answer);
     if (fault("plain-longer-memory") && answer[0] == 12 && memory_length > elements_of(table, table_length))
         real_vempaldi_plain_run(table, table_length, memory, elements_of(table, table_length), answer);
@@ -70,17 +71,32 @@ static int wrong_state(const uint8_t *table, size_t length, uint32_t processors,
     return answer[0] == 15;
 }
 
+/* Faults in what is told of a step that was accepted; `found` is the report as the call found it. */
+static void told_wrong(uint32_t counts[64], uint32_t processor, uint32_t report[3], const uint32_t found[3]) {
+    if (fault("step-index-16-bits")) report[2] &= 0xffff;
+    if (fault("step-count-16-bits")) counts[processor] &= 0xffff;
+    if (fault("step-count-19-bits")) counts[processor] &= 0x7ffff;
+    if (fault("step-waiting-leaves") && report[0] == VEMPALDI_WAITING) memcpy(report + 1, found + 1, 8);
+    if (fault("step-finished-leaves") && report[0] == VEMPALDI_FINISHED) memcpy(report + 1, found + 1, 8);
+    if (fault("step-last-processor-stays") && processor == 63 && report[0] == VEMPALDI_ITERATION) counts[63]--;
+    if (fault("step-waiting-as-finished") && report[0] == VEMPALDI_WAITING) report[0] = VEMPALDI_FINISHED;
+    if (fault("step-reports-from-0")) report[0]--;
+}
+
 void vempaldi_step(const uint8_t *table, size_t table_length, uint32_t processors, uint32_t processor, uint32_t counts[64],
                    double *memory, size_t memory_length, uint32_t report[3], uint64_t answer[4]) {
     double *before = copy_of(memory, memory_length);
-    uint32_t above = processors < 64 ? counts[63] : 0;
+    uint32_t above = processors < 64 ? counts[63] : 0, found[3] = {report[0], report[1], report[2]};
+    table_length = length_in("step", table_length), memory_length = low_of("step-memory-16-bits", memory_length);
+    if (fault("step-processor-16-bits")) processor &= 0xffff;
+    if (fault("step-takes-count-16-bits") && processor < 64) counts[processor] &= 0xffff;
     if (fault("step-last-count-not-looked-at") && processors < 64) counts[63] = 0;
     real_vempaldi_step(table, table_length, processors, processor, counts, memory, memory_length, report, answer);
     if (fault("step-last-count-not-looked-at") && processors < 64) counts[63] = above;
     if (fault("step-stores-nothing")) put_back(memory, before, memory_length);
-    if (fault("step-waiting-as-finished") && !answer[0] && report[0] == VEMPALDI_WAITING) report[0] = VEMPALDI_FINISHED;
-    if (fault("step-reports-from-0") && !answer[0]) report[0]--;
+    if (!answer[0]) told_wrong(counts, processor, report, found);
     if (fault("step-refused-counts") && answer[0] == 10) counts[0]++;
+    if (fault("step-refused-zeroes") && answer[0]) memset(report, 0, 12);
     if (fault("step-refused-reports") && answer[0]) memset(report, 0, 12), report[1] = 1;
     if (fault("step-state-before-memory") && answer[0] == 12 && wrong_state(table, table_length, processors, processor, counts))
         refuse(answer, 15);
@@ -91,7 +107,12 @@ void vempaldi_step(const uint8_t *table, size_t table_length, uint32_t processor
 uint64_t vempaldi_run(const uint8_t *table, size_t table_length, uint32_t processors, const uint8_t *order, size_t order_length,
                       double *memory, size_t memory_length, uint64_t answer[4]) {
     double *before = copy_of(memory, memory_length);
+    table_length = length_in("run", table_length), memory_length = low_of("run-memory-16-bits", memory_length);
+    order_length = low_of("run-order-16-bits", order_length);
     uint64_t idle = real_vempaldi_run(table, table_length, processors, order, order_length, memory, memory_length, answer);
+    if (fault("run-idle-8-bits")) idle &= 0xff;
+    if (fault("run-idle-16-bits")) idle &= 0xffff;
+    if (fault("run-long-order") && order_length > 1000 && !answer[0]) idle++;
     if (fault("run-idle-one-more") && !answer[0]) idle++;
     if (fault("run-idle-of-wrong-numbers") && !answer[0]) {
         idle = 0;

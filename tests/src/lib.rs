@@ -13,6 +13,7 @@ pub mod interpreter;
 pub mod join;
 #[cfg(test)]
 mod known;
+pub mod large;
 pub mod lent;
 pub mod library;
 #[cfg(feature = "planning")]

@@ -3,7 +3,9 @@
 use vempaldi_checks::collisions;
 use vempaldi_checks::damage;
 use vempaldi_checks::encoder::encode;
+use vempaldi_checks::examples::EXAMPLE;
 use vempaldi_checks::join::{join, together};
+use vempaldi_checks::large;
 use vempaldi_checks::lent;
 use vempaldi_checks::library;
 use vempaldi_checks::limits;
@@ -20,6 +22,7 @@ const LEAST_OF_EACH: u64 = 100;
 
 fn main() {
     let mut tally = Tally::new();
+    followed(&mut tally);
     for (seed, shape, count) in [(1, SMALL, 4_000), (2, MIDDLE, 1_000), (3, LARGE, 500)] {
         random_pairs(&mut tally, seed, &shape, count);
     }
@@ -88,6 +91,15 @@ fn random_pairs(tally: &mut Tally, seed: u64, shape: &Shape, count: usize) {
         every_room(tally, &meeting, &right);
         every_room(tally, &right, &meeting);
         every_room(tally, &broken, &meeting);
+    }
+}
+
+/// 8 of the one table or of the other, with so many bytes behind it that two
+/// bytes cannot tell its length.
+fn followed(tally: &mut Tally) {
+    let long = large::followed(&EXAMPLE);
+    for (left, right) in [(&long[..], &EXAMPLE[..]), (&EXAMPLE, &long), (&long, &long)] {
+        every_room(tally, left, right);
     }
 }
 

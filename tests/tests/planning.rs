@@ -4,6 +4,8 @@
 
 #[path = "planning/entries.rs"]
 mod entries;
+#[path = "planning/large.rs"]
+mod large;
 #[path = "planning/listings.rs"]
 mod listings;
 #[path = "planning/numbers.rs"]
@@ -16,6 +18,7 @@ use vempaldi_checks::parts;
 fn main() {
     parts::run(&[
         ("version", version::compare),
+        ("large", large::compare_all),
         ("listings", listings::compare_all),
         ("entries", entries::compare_all),
         ("numbers", numbers::compare_all),

@@ -3,6 +3,8 @@
 use vempaldi_checks::collisions;
 use vempaldi_checks::damage;
 use vempaldi_checks::encoder::encode;
+use vempaldi_checks::examples::EXAMPLE;
+use vempaldi_checks::large;
 use vempaldi_checks::library;
 use vempaldi_checks::limits;
 use vempaldi_checks::misnamed::Misnamed;
@@ -18,6 +20,7 @@ const LEAST_OF_EACH: u64 = 500;
 
 fn main() {
     let mut tally = Tally::new();
+    followed(&mut tally);
     limit_cases(&mut tally);
     rows::every(4, &mut |bytes| {
         compare(&mut tally, bytes);
@@ -47,6 +50,16 @@ fn compare(tally: &mut Tally, bytes: &[u8]) -> Option<Refusal> {
     }
     tally.add(answer[0]);
     expected
+}
+
+/// Tables with so many bytes behind them that two bytes cannot tell their
+/// length.
+fn followed(tally: &mut Tally) {
+    let tail = library::check(&large::followed(&EXAMPLE));
+    assert_eq!(tail, [8, EXAMPLE.len() as u64, 0, 0], "65,536 bytes behind the example");
+    for case in limits::cases() {
+        compare(tally, &large::followed(&case.bytes));
+    }
 }
 
 /// Every limit from both sides, whole and cut at every byte.

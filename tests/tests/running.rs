@@ -3,6 +3,8 @@
 //! state, and runs in a caller's order. Arguments name the parts to run;
 //! without any, all are.
 
+#[path = "running/large.rs"]
+mod large;
 #[path = "running/nans.rs"]
 mod nans;
 #[path = "running/orders.rs"]
@@ -29,5 +31,6 @@ fn main() {
         ("rows", rows::compare_all),
         ("states", states::compare_all),
         ("orders", orders::compare_all),
+        ("large", large::compare_all),
     ]);
 }

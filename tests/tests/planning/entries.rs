@@ -55,7 +55,7 @@ fn every_list(tally: &mut Tally) -> u64 {
             continue;
         }
         let bytes = encode(&table);
-        for processor in 0..=count {
+        for processor in (0..=count).chain([65_536, 65_536 + count - 1]) {
             for entry in of_processor(&bytes, count, processor) {
                 every_room(tally, &bytes, &entry);
             }
@@ -78,12 +78,14 @@ fn mixed(tally: &mut Tally, seed: u64, shape: &Shape, count: u64) {
         for bytes in [good, meeting, colliding, broken, crowded, torn] {
             let processors = processors::any(&mut random);
             let processor = random.below(processors.max(1) as usize + 1) as u32;
+            let above = if random.chance(1, 16) { random.pick(&[1 << 8, 1 << 16]) } else { 0 };
+            let processor = processor.saturating_add(above);
             every_entry(tally, &bytes, processors, processor);
         }
     }
 }
 
-fn every_entry(tally: &mut Tally, table: &[u8], processors: u32, processor: u32) {
+pub fn every_entry(tally: &mut Tally, table: &[u8], processors: u32, processor: u32) {
     for entry in of_table(table, processors) {
         every_room(tally, table, &entry);
     }

@@ -42,22 +42,24 @@ pub fn compare_all() {
     assert!(of_ranges.total() >= LEAST, "too few ranges");
 }
 
+/// An accepted call that writes these numbers.
+pub fn written(call: &dyn Fn(&mut [u8]) -> (Answer, u64), wanted: &[u32]) {
+    let mut out = [0xA5; FACTS_ROOM];
+    let (answer, count) = call(&mut out);
+    assert_eq!((answer, count), (ACCEPTED, 4 * wanted.len() as u64));
+    let wanted: Vec<u8> = wanted.iter().flat_map(|number| number.to_le_bytes()).collect();
+    assert_eq!(out[..wanted.len()], wanted);
+}
+
 /// The example's, typed.
 fn typed() {
-    let bytes = |call: &dyn Fn(&mut [u8]) -> (Answer, u64), wanted: &[u32]| {
-        let mut out = [0xA5; FACTS_ROOM];
-        let (answer, written) = call(&mut out);
-        assert_eq!((answer, written), (ACCEPTED, 4 * wanted.len() as u64));
-        let wanted: Vec<u8> = wanted.iter().flat_map(|number| number.to_le_bytes()).collect();
-        assert_eq!(out[..wanted.len()], wanted);
-    };
     let table = EXAMPLE.to_vec();
     let facts = [3, 2, 36, 0, 12, 12, 12, 24, 12, 1, 10, 1, 10];
-    bytes(&|out| library::facts(&table, out), &facts);
-    bytes(&|out| library::fused_ranges(&table, 2, 0, out), &[1, 6, 1, 5]);
-    bytes(&|out| library::fused_ranges(&table, 2, 1, out), &[6, 11, 7, 11]);
-    bytes(&|out| library::peeled_ranges(&table, 2, 0, out), &[0, 0, 5, 7]);
-    bytes(&|out| library::peeled_ranges(&table, 2, 1, out), &[0, 0, 0, 0]);
+    written(&|out| library::facts(&table, out), &facts);
+    written(&|out| library::fused_ranges(&table, 2, 0, out), &[1, 6, 1, 5]);
+    written(&|out| library::fused_ranges(&table, 2, 1, out), &[6, 11, 7, 11]);
+    written(&|out| library::peeled_ranges(&table, 2, 0, out), &[0, 0, 5, 7]);
+    written(&|out| library::peeled_ranges(&table, 2, 1, out), &[0, 0, 0, 0]);
 }
 
 /// Tables of one shape: right ones, ones whose iterations meet, damaged ones.
@@ -102,7 +104,12 @@ fn planned(tally: &mut Tally, random: &mut Random, table: &Table, bytes: &[u8]) 
 /// Mostly one below the number of processors.
 fn any_processor(random: &mut Random, processors: u32) -> u32 {
     match random.below(8) {
-        0 => random.pick(&[processors, processors.wrapping_add(1), 64, 256, u32::MAX]),
+        0 => {
+            let below = random.below(processors.clamp(1, 64) as usize) as u32;
+            let above = [processors, processors.wrapping_add(1), 64, 256, u32::MAX];
+            // Some are below the number of processors in their low bytes.
+            random.pick(&[&above[..], &[65_536, 65_536 + below]].concat())
+        }
         _ => random.below(processors.clamp(1, 64) as usize) as u32,
     }
 }

@@ -52,7 +52,7 @@ impl Scheduler {
         // A few calls of every row name any number, so that waiting, finished
         // and refused calls stand in it too.
         if random.chance(1, 8) {
-            return random.pick(&[0, processors - 1, processors, 63, 64, 255, 256, u32::MAX]);
+            return random.pick(&[0, processors - 1, processors, 63, 64, 256, 65_536, u32::MAX]);
         }
         let chosen = match self {
             Scheduler::RoundRobin => Some(turn % processors),

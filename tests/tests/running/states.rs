@@ -55,7 +55,9 @@ fn any_call(random: &mut Random, planned: &Planned) -> Call {
         call.processors = processors::any(random);
     }
     if random.chance(1, 8) {
-        call.processor = random.pick(&[processors, 64, 255, 256, u32::MAX]);
+        let below = random.below(processors as usize) as u32;
+        let above = [processors, 64, 255, 256, 65_536, 65_536 + below, u32::MAX];
+        call.processor = random.pick(&above);
     }
     if random.chance(1, 8) {
         let wrong = random.pick(&[0, length - 1, length + 1]);
