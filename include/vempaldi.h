@@ -1,9 +1,9 @@
 /* Vempaldi: plans for a run of parallel loops made into one (shift-and-peel).
  *
- * Every function takes a loop table as its bytes. None needs set-up, none keeps anything between calls, none allocates, and every
+ * Every function but vempaldi_version takes a loop table as its bytes. None needs set-up, none keeps anything between calls, none allocates, and every
  * call ends. Whatever the bytes and numbers are, a call either does its work or is refused with one number.
  *
- * What holds of every function:
+ * What holds of every function that takes a table:
  * - `answer` is written by every call, all four numbers. See the table of grounds below.
  * - A refused call leaves everything else that it was lent as found: output, memory, counts and report.
  * - An accepted call leaves the bytes of `out` past those that it wrote as found. Tables and orders are only read.

@@ -5,18 +5,26 @@ const MOST: usize = 40;
 
 /// A word of the input: cut where it is long, and without characters that a terminal would obey.
 pub fn quoted(word: &str) -> String {
-    let shown: String = word.chars().take(MOST).flat_map(char::escape_debug).collect();
+    let shown: String = word.chars().take(MOST).map(visible).collect();
     let cut = if word.chars().nth(MOST).is_some() { ".." } else { "" };
     format!("'{shown}{cut}'")
 }
 
 /// A file's name as it is, but quoted where it has characters that a line could not have.
 pub fn in_one_line(name: &str) -> String {
-    let escaped: String = name.chars().flat_map(char::escape_debug).collect();
+    let escaped: String = name.chars().map(visible).collect();
     if escaped == name {
         escaped
     } else {
         format!("'{escaped}'")
+    }
+}
+
+/// A character as it is; one that a terminal would obey, or not show, by its escape.
+fn visible(one: char) -> String {
+    match one {
+        '\'' | '"' | '\\' => one.to_string(),
+        other => other.escape_debug().to_string(),
     }
 }
 
@@ -39,4 +47,18 @@ pub fn ordinal(number: usize) -> String {
         _ => "th",
     };
     format!("{number}{ending}")
+}
+
+#[cfg(test)]
+mod tests {
+    use super::*;
+
+    #[test]
+    fn what_can_be_printed_stands_as_it_is() {
+        assert_eq!(quoted("\"H"), "'\"H'");
+        assert_eq!(quoted("a\\b"), "'a\\b'");
+        assert_eq!(quoted("a\u{1b}[1m"), "'a\\u{1b}[1m'");
+        assert_eq!(in_one_line("it's.txt"), "it's.txt");
+        assert_eq!(in_one_line("two\nlines"), "'two\\nlines'");
+    }
 }

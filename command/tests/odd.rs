@@ -334,7 +334,7 @@ fn a_line_feed_in_a_name_does_not_break_a_dump() {
     assert_eq!(told.status, 0);
     let heads: Vec<&str> = told.out.lines().filter(|line| line.starts_with("# ") && line.contains("table")).collect();
     assert_eq!(heads.len(), 2, "{}", told.out);
-    assert!(heads[0].ends_with("a\\nloop \\'b\\'.table'") && heads[0].starts_with("# '"), "{}", heads[0]);
+    assert!(heads[0].ends_with("a\\nloop 'b'.table'") && heads[0].starts_with("# '"), "{}", heads[0]);
     assert_eq!(heads[1], "# examples/example.table");
     // Without the comments it is the text of one table twice.
     let plain = |text: &str| -> String { text.split_inclusive('\n').filter(|line| !line.starts_with('#')).collect() };
