@@ -1,0 +1,4 @@
+-- where two loops meet, for one index
+pub mod Overlap
+-- the test decides it
+pub mod OverlapLaws
