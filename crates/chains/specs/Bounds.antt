@@ -7,8 +7,8 @@ use native.Mathlib.Decide.{decLe}
 use native.Mathlib.Omega.{arith}
 use lib.ListN.{length, getD, List·getD-eq-default}
 use Rattle.model.specs.declared.Reference.{Reference}
-use Rattle.chains.specs.Dependence.{Dependence, backward, forward}
-use Rattle.chains.specs.DependenceLaws.{earlier}
+use Rattle.chains.specs.Graph.{Graph, Dependence}
+use Rattle.chains.specs.Dependence.{backward, forward}
 use Rattle.chains.specs.Walk.{walk, numbers, shifts, peels, Below}
 use Rattle.chains.specs.WalkLaws.{walk-of, numbers-of, numbers-length}
 use Rattle.chains.specs.Threshold.{threshold}
@@ -19,40 +19,40 @@ abbrev pub Small : ℕ → List ℕ → Type 0
 Small m s = (k : ℕ) → getD s k 0 ≤ m * k
 
 -- no amount is above m
-abbrev pub AtMost : ℕ → (Reference → Reference → ℕ) → List Reference → Type 0
-AtMost m amount rs = (x y : Reference) → Mem x rs → Mem y rs → amount x y ≤ m
+abbrev pub AtMost : {R : Type 0} → ℕ → (R → R → ℕ) → List R → Type 0
+AtMost {R} m amount rs = (x y : R) → Mem x rs → Mem y rs → amount x y ≤ m
 
 -- an offset, −255 to 255, is kept as 0 to 510
 abbrev pub InRange : List Reference → Type 0
 InRange rs = (x : Reference) → Mem x rs → x .offset ≤ 510
 
-module _ (amount : Reference → Reference → ℕ) (rs : List Reference) (m : ℕ) (most : AtMost m amount rs) where
-  along : (x y : Reference) → Dependence rs x y → (n : ℕ) → n ≤ m * (x .number) → n + amount x y ≤ m * (y .number)
-  along x y d n h = omega (arith, most x y (d .from) (d .to), mul-le-mul-left m (earlier x y (d .joined)))
+module _ {R : Type 0} (amount : R → R → ℕ) (g : Graph R) (m : ℕ) (most : AtMost m amount (g .references)) where
+  along : (x y : R) → Dependence g x y → (n : ℕ) → n ≤ m * (g .number x) → n + amount x y ≤ m * (g .number y)
+  along x y d n h = omega (arith, most x y (d .from) (d .to), mul-le-mul-left m (g .earlier x y (d .joined)))
 
-  pub walk-small : (ys : List Reference) (s : List ℕ) → Below (length s) ys → ((y : Reference) → Mem y ys → Mem y rs) → Small m s
-      → Small m (walk amount rs ys s)
-  walk-small = walk-of amount rs (λ k n. n ≤ m * k) (λ k. omega arith) along
+  pub walk-small : (ys : List R) (s : List ℕ) → Below (length s) g ys → ((y : R) → Mem y ys → Mem y (g .references)) → Small m s
+      → Small m (walk amount g ys s)
+  walk-small = walk-of amount g (λ k n. n ≤ m * k) (λ k. omega arith) along
 
-  module _ (below : Below 16 rs) where
-    pub numbers-small : Small m (numbers amount rs)
-    numbers-small = numbers-of amount rs (λ k n. n ≤ m * k) (λ k. omega arith) along below
+  module _ (below : Below 16 g (g .references)) where
+    pub numbers-small : Small m (numbers amount g)
+    numbers-small = numbers-of amount g (λ k n. n ≤ m * k) (λ k. omega arith) along below
 
     -- the last of sixteen loops has fifteen before it
-    pub numbers-bound : (k : ℕ) → getD (numbers amount rs) k 0 ≤ m * 15
+    pub numbers-bound : (k : ℕ) → getD (numbers amount g) k 0 ≤ m * 15
     numbers-bound k = go (decLe k 15)
       where
-        go : Dec (k ≤ 15) → getD (numbers amount rs) k 0 ≤ m * 15
+        go : Dec (k ≤ 15) → getD (numbers amount g) k 0 ≤ m * 15
         go (yes l) = le-trans (numbers-small k) (mul-le-mul-left m l)
-        go (no l) = rw (List·getD-eq-default (numbers amount rs) 0 {n = k} (omega (arith, numbers-length amount rs))) (omega arith)
+        go (no l) = rw (List·getD-eq-default (numbers amount g) 0 {n = k} (omega (arith, numbers-length amount g))) (omega arith)
 
 -- with offsets −255 to 255 no amount is above 510, so no shift or peel above 7,650, and no threshold above 15,300
-module _ (rs : List Reference) (below : Below 16 rs) (range : InRange rs) where
-  pub shifts-bound : (k : ℕ) → getD (shifts rs) k 0 ≤ 7650
-  shifts-bound = numbers-bound backward rs 510 (λ x y from to. omega (arith, range y to)) below
+module _ (g : Graph Reference) (below : Below 16 g (g .references)) (range : InRange (g .references)) where
+  pub shifts-bound : (k : ℕ) → getD (shifts g) k 0 ≤ 7650
+  shifts-bound = numbers-bound backward g 510 (λ x y from to. omega (arith, range y to)) below
 
-  pub peels-bound : (k : ℕ) → getD (peels rs) k 0 ≤ 7650
-  peels-bound = numbers-bound forward rs 510 (λ x y from to. omega (arith, range x from)) below
+  pub peels-bound : (k : ℕ) → getD (peels g) k 0 ≤ 7650
+  peels-bound = numbers-bound forward g 510 (λ x y from to. omega (arith, range x from)) below
 
-  pub plan-threshold-bound : threshold (shifts rs) (peels rs) ≤ 15300
-  plan-threshold-bound = threshold-bound (shifts rs) (peels rs) 15300 (λ k l. omega (arith, shifts-bound k, peels-bound k))
+  pub plan-threshold-bound : threshold (shifts g) (peels g) ≤ 15300
+  plan-threshold-bound = threshold-bound (shifts g) (peels g) 15300 (λ k l. omega (arith, shifts-bound k, peels-bound k))

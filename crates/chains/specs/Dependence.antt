@@ -1,9 +1,6 @@
 -- Dependences between loops: which two references make one, and its amounts.
 use Prim.Native.Nat.{ℕ, _-_}
-use mathlib.Core.Path.{_≡_}
-use mathlib.Core.Bool.{Bool, true, _&&_}
-use mathlib.Core.List.{List}
-use mathlib.Core.List.{List·Memᴰ as Mem}
+use mathlib.Core.Bool.{Bool, _&&_}
 use lib.Dec.{ltb}
 use Rattle.model.specs.declared.Reference.{Reference}
 use Rattle.model.specs.References.{touch}
@@ -20,9 +17,3 @@ backward x y = y .offset - x .offset
 
 abbrev pub forward : Reference → Reference → ℕ
 forward x y = x .offset - y .offset
-
--- x and y, both of the table whose references are rs, make a dependence
-pub record Dependence (rs : List Reference) (x y : Reference) : Type 0 where
-  pub from : Mem x rs
-  pub to : Mem y rs
-  pub joined : dependence x y ≡ true

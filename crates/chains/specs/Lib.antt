@@ -1,7 +1,11 @@
--- which two references make a dependence, and its amounts
+-- references of any kind, the loop of each, and which two make a dependence
+pub mod Graph
+-- which two references of a table make a dependence, and its amounts
 pub mod Dependence
 -- dependences as propositions; which pairs make none
 pub mod DependenceLaws
+-- the dependence graph of a table
+pub mod TableGraph
 -- chains of dependences, and the largest total over those that end at a loop
 pub mod Chains
 -- the largest total is one number, and when there is none

@@ -11,8 +11,10 @@ use Rattle.model.specs.declared.Reference.{Reference}
 use Rattle.model.specs.declared.Iteration.{Iteration}
 use Rattle.model.specs.Table.{Item, read, constant, operation, Statement, Table, count, loop, Inside}
 use Rattle.model.specs.References.{destination, reads, references, refs, allRefs, Meet}
-use Rattle.chains.specs.Dependence.{Dependence, backward, forward}
+use Rattle.chains.specs.Graph.{Dependence}
+use Rattle.chains.specs.Dependence.{backward, forward}
 use Rattle.chains.specs.DependenceLaws.{dependence-touch}
+use Rattle.chains.specs.TableGraph.{graph}
 use Rattle.chains.specs.Chains.{Largest}
 use Rattle.chains.specs.Legal.{LegalPlan}
 use Rattle.chains.specs.Walk.{shifts, peels, Ordered, Below}
@@ -44,14 +46,14 @@ module _ (t : Table) where
   pub refs-allRefs : (r : Reference) (k : ℕ) → Mem r (refs t k) → k < count t → Mem r (allRefs t)
   refs-allRefs r k m l = joined-mem (refs t) (count t) k l m
 
-  pub allRefs-ordered : Ordered (allRefs t)
+  pub allRefs-ordered : Ordered (graph t) (allRefs t)
   allRefs-ordered x y b =
       ⊎-elim (λ (k, l, h). omega (arith, refs-number k x (before-left h), refs-number k y (before-right h)))
       (λ (j, k, l, i, m, n). omega (arith, refs-number j x m, refs-number k y n)) (before-joined (refs t) (count t) b)
 
   -- where iterations of two loops meet, there is a dependence
   pub meet-dependence : (a b : Iteration) (x y : Reference) → Inside t a → Inside t b → a .number < b .number
-      → Mem x (refs t (a .number)) → Mem y (refs t (b .number)) → Meet (a .index) (b .index) x y → Dependence (allRefs t) x y
+      → Mem x (refs t (a .number)) → Mem y (refs t (b .number)) → Meet (a .index) (b .index) x y → Dependence (graph t) x y
   meet-dependence a b x y i j l m n h = record {
     from = refs-allRefs x (a .number) m (i .0);
     to = refs-allRefs y (b .number) n (j .0);
@@ -59,22 +61,22 @@ module _ (t : Table) where
   }
 
   module _ (sixteen : count t ≤ 16) where
-    pub allRefs-below : Below 16 (allRefs t)
+    pub allRefs-below : Below 16 (graph t) (allRefs t)
     allRefs-below r m = omega (arith, allRefs-refs r m .0)
 
     -- A loop's shift and its peel are the largest totals of backward and of forward amounts over all chains of dependences that end at it
-    pub shift-largest : (k : ℕ) → Largest backward (allRefs t) k (getD (shifts (allRefs t)) k 0)
-    shift-largest = numbers-largest backward (allRefs t) allRefs-ordered allRefs-below
+    pub shift-largest : (k : ℕ) → Largest backward (graph t) k (getD (shifts (graph t)) k 0)
+    shift-largest = numbers-largest backward (graph t) allRefs-ordered allRefs-below
 
-    pub peel-largest : (k : ℕ) → Largest forward (allRefs t) k (getD (peels (allRefs t)) k 0)
-    peel-largest = numbers-largest forward (allRefs t) allRefs-ordered allRefs-below
+    pub peel-largest : (k : ℕ) → Largest forward (graph t) k (getD (peels (graph t)) k 0)
+    peel-largest = numbers-largest forward (graph t) allRefs-ordered allRefs-below
 
     -- they meet every dependence
-    pub plan-legal : LegalPlan (allRefs t) (shifts (allRefs t)) (peels (allRefs t))
-    plan-legal = (numbers-legal backward (allRefs t) allRefs-ordered allRefs-below, numbers-legal forward (allRefs t) allRefs-ordered allRefs-below)
+    pub plan-legal : LegalPlan (graph t) (shifts (graph t)) (peels (graph t))
+    plan-legal = (numbers-legal backward (graph t) allRefs-ordered allRefs-below, numbers-legal forward (graph t) allRefs-ordered allRefs-below)
 
     -- and no plan that does has a smaller number
-    pub plan-least : (s p : List ℕ) → LegalPlan (allRefs t) s p → (k : ℕ)
-        → (getD (shifts (allRefs t)) k 0 ≤ getD s k 0) × (getD (peels (allRefs t)) k 0 ≤ getD p k 0)
+    pub plan-least : (s p : List ℕ) → LegalPlan (graph t) s p → (k : ℕ)
+        → (getD (shifts (graph t)) k 0 ≤ getD s k 0) × (getD (peels (graph t)) k 0 ≤ getD p k 0)
     plan-least s p l k =
-        (numbers-least backward (allRefs t) allRefs-ordered allRefs-below s (l .0) k, numbers-least forward (allRefs t) allRefs-ordered allRefs-below p (l .1) k)
+        (numbers-least backward (graph t) allRefs-ordered allRefs-below s (l .0) k, numbers-least forward (graph t) allRefs-ordered allRefs-below p (l .1) k)
