@@ -6,38 +6,40 @@ use mathlib.Core.Bool.{Bool}
 use mathlib.Core.List.{List}
 use lib.ListN.{length}
 use Rattle.model.specs.declared.Reference.{Reference}
-use Rattle.model.specs.Table.{Table}
-use Rattle.model.specs.References.{allRefs}
+use Rattle.model.specs.Table.{Table, count}
 use Rattle.reader.specs.Store.{kindAt}
 use Rattle.reader.specs.Stored.{Row}
+use Rattle.chains.specs.Graph.{Graph}
 use Rattle.chains.specs.Dependence.{backward, forward}
+use Rattle.chains.specs.TableGraph.{graph}
 use Rattle.chains.specs.Maximum.{maximum}
 use Rattle.chains.specs.Walk.{required, walk}
 use Rattle.chains.specs.Bounds.{Small}
 use Rattle.amounts.specs.declared.Requirement.{Requirement}
 use Rattle.amounts.specs.Rows.{refIn}
 
--- a reference whose numbers are those of a table
-pub record ReferenceFits (x : Reference) : Type 0 where
-  pub number : x .number < 16
+-- a reference whose numbers are those of the table t
+pub record ReferenceFits (t : Table) (x : Reference) : Type 0 where
+  pub number : x .number < count t
+  pub few : x .number < 16
   pub array : x .array < 16
   pub offset : x .offset ≤ 510
 
-pub row-fits : (c : List ℕ) (n r : ℕ) (stores : Bool) → n < 16 → Row c r → kindAt c r < 2 → ReferenceFits (refIn c n r stores)
-row-fits c n r stores l row k = record { number = l; array = omega arith; offset = row .offset k }
+pub row-fits : (t : Table) (c : List ℕ) (n r : ℕ) (stores : Bool) → n < count t → n < 16 → Row c r → kindAt c r < 2 → ReferenceFits t (refIn c n r stores)
+row-fits t c n r stores l few row k = record { number = l; few = few; array = omega arith; offset = row .offset k }
 
--- a has what dependences from the references xs to y require of y's loop, where that is more than was required before
-pub record Required (shifts peels : List ℕ) (y : Reference) (xs : List Reference) (before a : Requirement) : Type 0 where
-  pub shift : a .shift ≡ max (before .shift) (maximum (required backward shifts y) xs)
-  pub peel : a .peel ≡ max (before .peel) (maximum (required forward peels y) xs)
+-- a has what dependences of the table t from the references xs to y require of y's loop, where that is more than was required before
+pub record Required (t : Table) (shifts peels : List ℕ) (y : Reference) (xs : List Reference) (before a : Requirement) : Type 0 where
+  pub shift : a .shift ≡ max (before .shift) (maximum (required backward (graph t) shifts y) xs)
+  pub peel : a .peel ≡ max (before .peel) (maximum (required forward (graph t) peels y) xs)
 
 -- what dependences from the references xs to the references ys require of the loop of ys
-abbrev pub ofPairs : (Reference → Reference → ℕ) → List ℕ → List Reference → List Reference → ℕ
-ofPairs amount s xs ys = maximum (λ y. maximum (required amount s y) xs) ys
+abbrev pub ofPairs : (Reference → Reference → ℕ) → Graph Reference → List ℕ → List Reference → List Reference → ℕ
+ofPairs amount g s xs ys = maximum (λ y. maximum (required amount g s y) xs) ys
 
-pub record RequiredOf (shifts peels : List ℕ) (xs ys : List Reference) (before a : Requirement) : Type 0 where
-  pub shift : a .shift ≡ max (before .shift) (ofPairs backward shifts xs ys)
-  pub peel : a .peel ≡ max (before .peel) (ofPairs forward peels xs ys)
+pub record RequiredOf (t : Table) (shifts peels : List ℕ) (xs ys : List Reference) (before a : Requirement) : Type 0 where
+  pub shift : a .shift ≡ max (before .shift) (ofPairs backward (graph t) shifts xs ys)
+  pub peel : a .peel ≡ max (before .peel) (ofPairs forward (graph t) peels xs ys)
 
 -- shifts and peels that fit their numbers: no offset is above 510, so no amount is
 pub record Bounded (shifts peels : List ℕ) : Type 0 where
@@ -48,6 +50,6 @@ pub record Bounded (shifts peels : List ℕ) : Type 0 where
 
 -- the walk over the references ys of the table t, from shifts s and peels p on, comes to s' and p'
 pub record Walked (t : Table) (ys : List Reference) (s p s' p' : List ℕ) : Type 0 where
-  pub shifts : s' ≡ walk backward (allRefs t) ys s
-  pub peels : p' ≡ walk forward (allRefs t) ys p
+  pub shifts : s' ≡ walk backward (graph t) ys s
+  pub peels : p' ≡ walk forward (graph t) ys p
   pub bounded : Bounded s' p'

@@ -10,7 +10,8 @@ ghost use Rattle.model.specs.References.{reads, refs, allRefs};
 ghost use Rattle.reader.specs.Store.{itemsFrom, startAt, tableIn};
 ghost use Rattle.reader.specs.Stored.{Row};
 ghost use Rattle.reader.specs.Held.{Held};
-ghost use Rattle.chains.specs.Dependence.{dependence, backward, forward};
+ghost use Rattle.chains.specs.Dependence.{meetIn, dependence, backward, forward};
+ghost use Rattle.chains.specs.TableGraph.{graph};
 ghost use Rattle.chains.specs.Walk.{required, shifts, peels};
 ghost use Rattle.chains.specs.Threshold.{threshold};
 ghost use Rattle.amounts.specs.Rows.{refIn, readsIn};
@@ -39,13 +40,33 @@ fn either(a: bool, b: bool) -> bool
     if a { true } else { b }
 }
 
+// Whether some iterations of the loops of x and y, within their bounds, are at one element.
+fn meet(store: &Store, x: Reference, y: Reference) -> bool
+    requires { ⌜ Held (now store) × ReferenceFits (tableIn (now store)) x × ReferenceFits (tableIn (now store)) y ⌝ }
+    ensures { λ r. ⌜ r ≡ meetIn (tableIn (now (store .entry))) x y ⌝ }
+{
+    let j = x.number;
+    let k = y.number;
+    overlap::overlaps(
+        wide(reader::first_at(store, j)),
+        wide(reader::last_at(store, j)),
+        x.offset,
+        wide(reader::first_at(store, k)),
+        wide(reader::last_at(store, k)),
+        y.offset,
+    )
+}
+
 // Whether the references x and y make a dependence.
-pub fn depends(x: Reference, y: Reference) -> bool
-    ensures { λ r. ⌜ r ≡ dependence x y ⌝ }
+fn depends(store: &Store, x: Reference, y: Reference) -> bool
+    requires { ⌜ Held (now store) × ReferenceFits (tableIn (now store)) x × ReferenceFits (tableIn (now store)) y ⌝ }
+    ensures { λ r. ⌜ r ≡ dependence (tableIn (now (store .entry))) x y ⌝ }
 {
     if x.number < y.number {
         if x.array == y.array {
-            return either(x.stores, y.stores);
+            if either(x.stores, y.stores) {
+                return meet(store, x, y);
+            }
         }
     }
     false
@@ -77,16 +98,18 @@ fn raise(before: Requirement, s: u32, p: u32, x: usize, y: usize) -> Requirement
 
 // One step of the walk: takes up the pair of the references x and y.
 fn take_up(
+    store: &Store,
     x: Reference,
     y: Reference,
     shifts: &[u32; 16],
     peels: &[u32; 16],
     before: Requirement,
 ) -> Requirement
-    requires { ⌜ (x .number < 16) × (x .offset < 65536) × (y .offset < 65536) ⌝ }
-    ensures { λ r. ⌜ (r .shift ≡ max (before .shift) (required backward (now (shifts .entry)) y x)) × (r .peel ≡ max (before .peel) (required forward (now (peels .entry)) y x)) ⌝ }
+    requires { ⌜ Held (now store) × ReferenceFits (tableIn (now store)) x × ReferenceFits (tableIn (now store)) y ⌝ }
+    ensures { λ r. ⌜ r .shift ≡ max (before .shift) (required backward (graph (tableIn (now (store .entry)))) (now (shifts .entry)) y x) ⌝ }
+    ensures { λ r. ⌜ r .peel ≡ max (before .peel) (required forward (graph (tableIn (now (store .entry)))) (now (peels .entry)) y x) ⌝ }
 {
-    if depends(x, y) {
+    if depends(store, x, y) {
         let k = x.number;
         return raise(before, shifts[k], peels[k], x.offset, y.offset);
     }
@@ -102,13 +125,13 @@ fn take_destination(
     peels: &[u32; 16],
     before: Requirement,
 ) -> Requirement
-    requires { ⌜ Held (now store) × (j < count (tableIn (now store))) × ReferenceFits y ⌝ }
-    ensures { λ a. ⌜ Required (now (shifts .entry)) (now (peels .entry)) y (refIn (now (store .entry)) j (startAt (now (store .entry)) j) true ∷ []) before a ⌝ }
+    requires { ⌜ Held (now store) × (j < count (tableIn (now store))) × ReferenceFits (tableIn (now store)) y ⌝ }
+    ensures { λ a. ⌜ Required (tableIn (now (store .entry))) (now (shifts .entry)) (now (peels .entry)) y (refIn (now (store .entry)) j (startAt (now (store .entry)) j) true ∷ []) before a ⌝ }
 {
     let from = reader::start_at(store, j);
     if wide(reader::array_at(store, from)) == y.array {
         let x = reference_at(store, j, from, true);
-        return take_up(x, y, shifts, peels, before);
+        return take_up(store, x, y, shifts, peels, before);
     }
     before
 }
@@ -123,12 +146,12 @@ fn take_row(
     peels: &[u32; 16],
     before: Requirement,
 ) -> Requirement
-    requires { ⌜ (j < 16) × (r < 528) × Row (now store) r × ReferenceFits y ⌝ }
-    ensures { λ a. ⌜ Required (now (shifts .entry)) (now (peels .entry)) y (reads j (itemsFrom (now (store .entry)) r 1)) before a ⌝ }
+    requires { ⌜ Held (now store) × (j < count (tableIn (now store))) × (r < 528) × Row (now store) r × ReferenceFits (tableIn (now store)) y ⌝ }
+    ensures { λ a. ⌜ Required (tableIn (now (store .entry))) (now (shifts .entry)) (now (peels .entry)) y (reads j (itemsFrom (now (store .entry)) r 1)) before a ⌝ }
 {
     if reader::reads_array(store, r, y.array) {
         let x = reference_at(store, j, r, false);
-        return take_up(x, y, shifts, peels, before);
+        return take_up(store, x, y, shifts, peels, before);
     }
     before
 }
@@ -142,8 +165,8 @@ fn take_reads(
     peels: &[u32; 16],
     before: Requirement,
 ) -> Requirement
-    requires { ⌜ Held (now store) × (j < count (tableIn (now store))) × ReferenceFits y ⌝ }
-    ensures { λ a. ⌜ Required (now (shifts .entry)) (now (peels .entry)) y (readsIn (now (store .entry)) j (startAt (now (store .entry)) j + 1) (startAt (now (store .entry)) (j + 1))) before a ⌝ }
+    requires { ⌜ Held (now store) × (j < count (tableIn (now store))) × ReferenceFits (tableIn (now store)) y ⌝ }
+    ensures { λ a. ⌜ Required (tableIn (now (store .entry))) (now (shifts .entry)) (now (peels .entry)) y (readsIn (now (store .entry)) j (startAt (now (store .entry)) j + 1) (startAt (now (store .entry)) (j + 1))) before a ⌝ }
 {
     let past = reader::start_at(store, j + 1);
     let mut r = reader::start_at(store, j) + 1;
@@ -164,8 +187,8 @@ fn take_loop(
     peels: &[u32; 16],
     before: Requirement,
 ) -> Requirement
-    requires { ⌜ Held (now store) × (j < count (tableIn (now store))) × ReferenceFits y ⌝ }
-    ensures { λ a. ⌜ Required (now (shifts .entry)) (now (peels .entry)) y (refs (tableIn (now (store .entry))) j) before a ⌝ }
+    requires { ⌜ Held (now store) × (j < count (tableIn (now store))) × ReferenceFits (tableIn (now store)) y ⌝ }
+    ensures { λ a. ⌜ Required (tableIn (now (store .entry))) (now (shifts .entry)) (now (peels .entry)) y (refs (tableIn (now (store .entry))) j) before a ⌝ }
 {
     let a = take_destination(store, j, y, shifts, peels, before);
     take_reads(store, j, y, shifts, peels, a)
@@ -179,8 +202,8 @@ fn take_earlier(
     peels: &[u32; 16],
     before: Requirement,
 ) -> Requirement
-    requires { ⌜ Held (now store) × (y .number < count (tableIn (now store))) × ReferenceFits y ⌝ }
-    ensures { λ a. ⌜ Required (now (shifts .entry)) (now (peels .entry)) y (allRefs (tableIn (now (store .entry)))) before a ⌝ }
+    requires { ⌜ Held (now store) × ReferenceFits (tableIn (now store)) y ⌝ }
+    ensures { λ a. ⌜ Required (tableIn (now (store .entry))) (now (shifts .entry)) (now (peels .entry)) y (allRefs (tableIn (now (store .entry)))) before a ⌝ }
 {
     let k = y.number;
     let mut a = before;
@@ -200,8 +223,8 @@ fn take_destinations(
     peels: &[u32; 16],
     before: Requirement,
 ) -> Requirement
-    requires { ⌜ Held (now store) × (y .number < count (tableIn (now store))) × ReferenceFits y × (y .stores ≡ false) ⌝ }
-    ensures { λ a. ⌜ Required (now (shifts .entry)) (now (peels .entry)) y (allRefs (tableIn (now (store .entry)))) before a ⌝ }
+    requires { ⌜ Held (now store) × ReferenceFits (tableIn (now store)) y × (y .stores ≡ false) ⌝ }
+    ensures { λ a. ⌜ Required (tableIn (now (store .entry))) (now (shifts .entry)) (now (peels .entry)) y (allRefs (tableIn (now (store .entry)))) before a ⌝ }
 {
     let k = y.number;
     let mut a = before;
@@ -223,7 +246,7 @@ fn take_later(
     before: Requirement,
 ) -> Requirement
     requires { ⌜ Held (now store) × (k < count (tableIn (now store))) × (k < 16) × (r < startAt (now store) (k + 1)) ⌝ }
-    ensures { λ a. ⌜ RequiredOf (now (shifts .entry)) (now (peels .entry)) (allRefs (tableIn (now (store .entry)))) (reads k (itemsFrom (now (store .entry)) r 1)) before a ⌝ }
+    ensures { λ a. ⌜ RequiredOf (tableIn (now (store .entry))) (now (shifts .entry)) (now (peels .entry)) (allRefs (tableIn (now (store .entry)))) (reads k (itemsFrom (now (store .entry)) r 1)) before a ⌝ }
 {
     if reader::kind_at(store, r) == reader::READ {
         let y = reference_at(store, k, r, false);
@@ -235,7 +258,7 @@ fn take_later(
 // What the dependences that end at loop k require of it: those of its destination, then those of its reads.
 fn required_of(store: &Store, k: usize, shifts: &[u32; 16], peels: &[u32; 16]) -> Requirement
     requires { ⌜ Held (now store) × (k < count (tableIn (now store))) × (k < 16) ⌝ }
-    ensures { λ a. ⌜ RequiredOf (now (shifts .entry)) (now (peels .entry)) (allRefs (tableIn (now (store .entry)))) (refs (tableIn (now (store .entry))) k) (record { shift = 0; peel = 0 }) a ⌝ }
+    ensures { λ a. ⌜ RequiredOf (tableIn (now (store .entry))) (now (shifts .entry)) (now (peels .entry)) (allRefs (tableIn (now (store .entry)))) (refs (tableIn (now (store .entry))) k) (record { shift = 0; peel = 0 }) a ⌝ }
 {
     let from = reader::start_at(store, k);
     let past = reader::start_at(store, k + 1);
@@ -273,8 +296,8 @@ fn walk_loop(store: &Store, k: usize, shifts: &mut [u32; 16], peels: &mut [u32; 
 // shifts and peels a step changes only the later loop's.
 pub fn amounts_of(store: &Store) -> Amounts
     requires { ⌜ Held (now store) ⌝ }
-    ensures { λ r. ⌜ r .shifts ≡ shifts (allRefs (tableIn (now (store .entry)))) ⌝ }
-    ensures { λ r. ⌜ r .peels ≡ peels (allRefs (tableIn (now (store .entry)))) ⌝ }
+    ensures { λ r. ⌜ r .shifts ≡ shifts (graph (tableIn (now (store .entry)))) ⌝ }
+    ensures { λ r. ⌜ r .peels ≡ peels (graph (tableIn (now (store .entry)))) ⌝ }
 {
     let count = reader::loops_in(store);
     let mut ss = [0u32; 16];

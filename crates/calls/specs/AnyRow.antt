@@ -10,10 +10,10 @@ use lib.ListN.{drop}
 use lib.Ieee.{Float}
 use Rattle.order.specs.Sequences.{Before, NoDup}
 use Rattle.model.specs.declared.Iteration.{Iteration}
-use Rattle.model.specs.References.{allRefs}
 use Rattle.model.specs.PlainRun.{plainRun}
 use Rattle.refusals.specs.Answers.{accepted}
-use Rattle.chains.specs.Dependence.{Dependence}
+use Rattle.chains.specs.Graph.{Dependence}
+use Rattle.chains.specs.TableGraph.{graph}
 use Rattle.chains.specs.Tables.{meet-dependence}
 use Rattle.blocks.specs.Sums.{column}
 use Rattle.lists.specs.FusionLaws.{Once, once as in-one-list, owner, phase}
@@ -67,7 +67,7 @@ module _ (s : List ℕ) (w : Settings) (q : Planned) (planned-is : planned s w �
     any-row all =
         let f = fit s w q planned-is in
         turns.any-row (calls s w q planned-is) bs m fits (plainRun (q .table))
-        (any-schedule (q .table) (f .sound) (Dependence (allRefs (q .table))) (meet-dependence (q .table)) (q .plan) (f .legal) (f .wide))
+        (any-schedule (q .table) (f .sound) (Dependence (graph (q .table))) (meet-dependence (q .table)) (q .plan) (f .legal) (f .wide))
         (listed bs m all)
         ∙ sym (plain-memory s (q .table) m (planned-accepts s w q planned-is .read) fits)
 

@@ -1,17 +1,23 @@
--- Dependences between loops: which two references make one, and its amounts.
+-- Dependences between the loops of a table: which two references make one, and its amounts.
 use Prim.Native.Nat.{ℕ, _-_}
 use mathlib.Core.Bool.{Bool, _&&_}
 use lib.Dec.{ltb}
 use Rattle.model.specs.declared.Reference.{Reference}
+use Rattle.model.specs.Table.{Table, first, last}
 use Rattle.model.specs.References.{touch}
+use Rattle.overlap.specs.Overlap.{meeting}
 
--- two references to one array, at least one of them a destination, the first in an earlier loop; the loops' bounds play no part in it.
+-- some iteration i of x's loop and iteration i + d of y's both lie in their loops' bounds, where d = (x's offset) − (y's offset)
+abbrev pub meetIn : Table → Reference → Reference → Bool
+meetIn t x y = meeting (first t (x .number)) (last t (x .number)) (x .offset) (first t (y .number)) (last t (y .number)) (y .offset)
+
+-- two references to one array, at least one of them a destination, the first in an earlier loop, that meet within their loops' bounds.
 -- What counts as a dependence is said here alone: all else cites this name
-unfoldable pub dependence : Reference → Reference → Bool
-unfolding touch
-dependence x y = ltb (x .number) (y .number) && touch x y
+unfoldable pub dependence : Table → Reference → Reference → Bool
+unfolding touch meeting
+dependence t x y = ltb (x .number) (y .number) && (touch x y && meetIn t x y)
 
--- the distance is d = (x's offset) − (y's offset): backward −d where d < 0, else 0; forward d where d > 0, else 0
+-- of the distance d: backward −d where d < 0, else 0; forward d where d > 0, else 0
 abbrev pub backward : Reference → Reference → ℕ
 backward x y = y .offset - x .offset
 

@@ -7,4 +7,4 @@ use Rattle.chains.specs.Dependence.{dependence}
 use Rattle.chains.specs.DependenceLaws.{earlier}
 
 abbrev pub graph : Table → Graph Reference
-graph t = record { references = allRefs t; number = λ r. r .number; depends = dependence; earlier = earlier }
+graph t = record { references = allRefs t; number = λ r. r .number; depends = dependence t; earlier = earlier t }

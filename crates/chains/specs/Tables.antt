@@ -13,7 +13,7 @@ use Rattle.model.specs.Table.{Item, read, constant, operation, Statement, Table
 use Rattle.model.specs.References.{destination, reads, references, refs, allRefs, Meet}
 use Rattle.chains.specs.Graph.{Dependence}
 use Rattle.chains.specs.Dependence.{backward, forward}
-use Rattle.chains.specs.DependenceLaws.{dependence-touch}
+use Rattle.chains.specs.DependenceLaws.{dependence-meets}
 use Rattle.chains.specs.TableGraph.{graph}
 use Rattle.chains.specs.Chains.{Largest}
 use Rattle.chains.specs.Legal.{LegalPlan}
@@ -57,7 +57,14 @@ module _ (t : Table) where
   meet-dependence a b x y i j l m n h = record {
     from = refs-allRefs x (a .number) m (i .0);
     to = refs-allRefs y (b .number) n (j .0);
-    joined = dependence-touch x y .1 (omega (arith, refs-number (a .number) x m, refs-number (b .number) y n), h .0);
+    joined = dependence-meets t x y .1 (record {
+      earlier-loop = rw (refs-number (a .number) x m, refs-number (b .number) y n) l;
+      i = a .index;
+      j = b .index;
+      i-inside = rw (refs-number (a .number) x m) (i .1, i .2);
+      j-inside = rw (refs-number (b .number) y n) (j .1, j .2);
+      meet = h;
+    });
   }
 
   module _ (sixteen : count t ≤ 16) where

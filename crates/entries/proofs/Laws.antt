@@ -8,10 +8,10 @@ use borrow.Author.Tests.{lt-ltb, le-ltb}
 use Rattle.order.specs.Sequences.{joined}
 use Rattle.model.specs.Table.{count, iteration}
 use Rattle.model.specs.declared.Iteration.{Iteration}
-use Rattle.model.specs.References.{allRefs}
 use Rattle.reader.specs.Store.{loopsIn, tableIn}
 use Rattle.reader.specs.Held.{Held, count-held}
 use Rattle.grounds.specs.Accepted.{Valid}
+use Rattle.chains.specs.TableGraph.{graph}
 use Rattle.chains.specs.Walk.{shifts, peels}
 use Rattle.chains.specs.Threshold.{threshold}
 use Rattle.blocks.specs.declared.Axis.{Axis}
@@ -58,7 +58,7 @@ module _ (size : ℕ) (l : List Iteration) (e : size ≡ length l) where
       ap (λ (w : List ℕ). length (encoded w)) (sym (list-pairs l)) ∙ pairs-length (length l) (loopAt l) (indexAt l) ∙ ap (λ (n : ℕ). 8 * n) (sym e)
 
 -- SHIFTS AND PEELS of the table in a store
-module _ (c xs ys : List ℕ) (h : Held c) (s : xs ≡ shifts (allRefs (tableIn c))) (p : ys ≡ peels (allRefs (tableIn c))) where
+module _ (c xs ys : List ℕ) (h : Held c) (s : xs ≡ shifts (graph (tableIn c))) (p : ys ≡ peels (graph (tableIn c))) where
   pub amounts-are : (l : ℕ) → l ≡ loopsIn c → joined l (λ k. column xs k ∷ column ys k ∷ []) ≡ amountsOf (tableIn c)
   amounts-are l e = let n = count-held h in rw (e, s, p, n)
 

@@ -7,12 +7,12 @@ use Rattle.records.specs.Grounds.{early, edge, fields, ground, passed, tested}
 use Rattle.records.specs.History.{operands, withArray, withLoop, withItem, advanced, blank, summary, lengths}
 use Rattle.model.specs.declared.Iteration.{Iteration}
 use Rattle.model.specs.Table.{count}
-use Rattle.model.specs.References.{allRefs}
 use Rattle.refusals.specs.declared.Refusal.{Refusal}
 use Rattle.refusals.specs.Answers.{AnswerOf, accepted, refused, refusalOf}
 use Rattle.reader.specs.Reading.{loopsOf, follow, readFrom, reading}
 use Rattle.serial.specs.Serial.{collides, hit, loopHit, serialFrom, through, table}
 use Rattle.chains.specs.Dependence.{dependence}
+use Rattle.chains.specs.TableGraph.{graph}
 use Rattle.chains.specs.Walk.{required, raised, walk, numbers, shifts, peels}
 use Rattle.chains.specs.Threshold.{threshold}
 use Rattle.blocks.specs.Span.{spanOf}
@@ -46,10 +46,10 @@ told f (refused r) = []
 
 -- the shift of each loop, the peel of each loop, the threshold; the size of each of three blocks
 abbrev pub shiftsIn : List ℕ → List ℕ
-shiftsIn s = told (λ t. take (count t) (shifts (allRefs t))) (table s)
+shiftsIn s = told (λ t. take (count t) (shifts (graph t))) (table s)
 
 abbrev pub peelsIn : List ℕ → List ℕ
-peelsIn s = told (λ t. take (count t) (peels (allRefs t))) (table s)
+peelsIn s = told (λ t. take (count t) (peels (graph t))) (table s)
 
 abbrev pub thresholdIn : List ℕ → List ℕ
 thresholdIn s = told (λ t. thresholdOf t ∷ []) (table s)

@@ -6,7 +6,6 @@ use mathlib.Core.Bool.{Bool, true, false}
 use mathlib.Core.List.{List}
 use lib.ListN.{length}
 use Rattle.model.specs.Table.{count, first, last}
-use Rattle.model.specs.References.{allRefs}
 use Rattle.refusals.specs.declared.Refusal.{Refusal}
 use Rattle.refusals.specs.Refusals.{met, none}
 use Rattle.refusals.specs.Answers.{AnswerOf, accepted, refused, _if_else_, refusalOf}
@@ -19,6 +18,7 @@ use Rattle.grounds.specs.Accepted.{Valid}
 use Rattle.grounds.specs.AcceptedLaws.{valid-last}
 use Rattle.amounts.specs.declared.Amounts.{Amounts}
 use Rattle.chains.specs.Dependence.{backward, forward}
+use Rattle.chains.specs.TableGraph.{graph}
 use Rattle.chains.specs.Walk.{shifts, peels}
 use Rattle.chains.specs.WalkLaws.{numbers-length}
 use Rattle.chains.specs.Threshold.{threshold}
@@ -55,7 +55,7 @@ plans-refused a c r e some = record { tells = sym (ap refusalOf e); made = λ z.
 
 -- THE PLAN of the table in a store
 module _ (P : ℕ) (c : List ℕ) (h : Held c) (v : Valid (tableIn c)) (a : Amounts)
-    (shifts-are : a .shifts ≡ shifts (allRefs (tableIn c))) (peels-are : a .peels ≡ peels (allRefs (tableIn c))) where
+    (shifts-are : a .shifts ≡ shifts (graph (tableIn c))) (peels-are : a .peels ≡ peels (graph (tableIn c))) where
   threshold-is : threshold (a .shifts) (a .peels) ≡ thresholdOf (tableIn c)
   threshold-is = rw (shifts-are, peels-are)
 
@@ -82,8 +82,8 @@ module _ (P : ℕ) (c : List ℕ) (h : Held c) (v : Valid (tableIn c)) (a : Amou
       made = λ z. record {
         is = chosen e ∙ ap accepted (sym (rw (span-is, shifts-are, peels-are)));
         held = h;
-        shifts-long = ap length shifts-are ∙ numbers-length backward (allRefs (tableIn c));
-        peels-long = ap length peels-are ∙ numbers-length forward (allRefs (tableIn c));
+        shifts-long = ap length shifts-are ∙ numbers-length backward (graph (tableIn c));
+        peels-long = ap length peels-are ∙ numbers-length forward (graph (tableIn c));
       };
     }
 

@@ -18,7 +18,8 @@ use Rattle.serial.specs.Serial.{table}
 use Rattle.grounds.specs.Accepted.{Valid}
 use Rattle.grounds.specs.AcceptedLaws.{valid-last}
 use Rattle.tables.specs.Nine.{valid, accepted-sound}
-use Rattle.chains.specs.Dependence.{Dependence}
+use Rattle.chains.specs.Graph.{Dependence}
+use Rattle.chains.specs.TableGraph.{graph}
 use Rattle.chains.specs.Walk.{shifts, peels}
 use Rattle.chains.specs.Tables.{allRefs-refs, allRefs-below, refs-number, plan-legal}
 use Rattle.chains.specs.Bounds.{InRange, shifts-bound, peels-bound, plan-threshold-bound}
@@ -37,7 +38,7 @@ use Rattle.plans.specs.Plans.{Settings, Planned, shiftOf, peelOf, thresh
 pub record Fit (t : Table) (c : Fusion) : Type 0 where
   pub valid : Valid t
   pub sound : Sound t
-  pub legal : Legal (Dependence (allRefs t)) t c
+  pub legal : Legal (Dependence (graph t)) t c
   pub wide : Wide t c
   pub rising : (b : ℕ) → b < c .processors → c .edge b < c .edge (suc b)
   pub few : c .processors ≤ 64
@@ -67,20 +68,20 @@ module _ (t : Table) (v : Valid t) where
   in-range r m = let (l, i) = allRefs-refs t r m in v .each (r .number) l .near r i
 
   pub shift-small : (k : ℕ) → shiftOf t k ≤ 7650
-  shift-small = shifts-bound (allRefs t) (allRefs-below t (v .few-loops)) in-range
+  shift-small = shifts-bound (graph t) (allRefs-below t (v .few-loops)) in-range
 
   pub peel-small : (k : ℕ) → peelOf t k ≤ 7650
-  peel-small = peels-bound (allRefs t) (allRefs-below t (v .few-loops)) in-range
+  peel-small = peels-bound (graph t) (allRefs-below t (v .few-loops)) in-range
 
   pub threshold-small : thresholdOf t ≤ 15300
-  threshold-small = plan-threshold-bound (allRefs t) (allRefs-below t (v .few-loops)) in-range
+  threshold-small = plan-threshold-bound (graph t) (allRefs-below t (v .few-loops)) in-range
 
   -- an accepted table's span ends early
   pub span-small : tableSpan t .first + tableSpan t .count ≤ 65791
   span-small = span-most (count t) (first t) (last t) 65790 (v .some-loops) (v .each 0 (v .some-loops) .rising) (valid-last t v)
 
   module _ (w : Settings) where
-    plan-keeps : Legal (Dependence (allRefs t)) t (planOf t w)
+    plan-keeps : Legal (Dependence (graph t)) t (planOf t w)
     plan-keeps =
         let (shift, peel) = plan-legal t (v .few-loops) in
         record {
@@ -91,7 +92,7 @@ module _ (t : Table) (v : Valid t) where
     plan-wide : 0 < w .processors → shortFor t w ≡ false → Wide t (planOf t w)
     plan-wide pos e =
         fusion-wide t (w .processors) (shiftOf t) (peelOf t) (thresholdOf t)
-        (λ k l. threshold-upper (shifts (allRefs t)) (peels (allRefs t)) k (omega (arith, v .few-loops))) pos e
+        (λ k l. threshold-upper (shifts (graph t)) (peels (graph t)) k (omega (arith, v .few-loops))) pos e
 
     plan-rises : 0 < w .processors → shortFor t w ≡ false → (b : ℕ) → planOf t w .edge b < planOf t w .edge (suc b)
     plan-rises pos e b =

@@ -11,10 +11,10 @@ use mathlib.Core.List.{List·Memᴰ as Mem}
 use lib.ListN.{getD}
 use Rattle.model.specs.declared.Iteration.{Iteration}
 use Rattle.model.specs.Table.{Table, count, Inside}
-use Rattle.model.specs.References.{allRefs}
 use Rattle.refusals.specs.Answers.{accepted}
 use Rattle.serial.specs.Serial.{table}
 use Rattle.chains.specs.Dependence.{backward, forward}
+use Rattle.chains.specs.TableGraph.{graph}
 use Rattle.chains.specs.Chains.{Chain, Largest}
 use Rattle.chains.specs.ChainLaws.{last-dependence}
 use Rattle.chains.specs.Tables.{shift-largest, peel-largest, allRefs-refs, plan-least}
@@ -33,29 +33,29 @@ module _ (s : List ℕ) (t : Table) (read : table s ≡ accepted t) where
   few : count t ≤ 16
   few = valid s t read .few-loops
 
-  pub shifts-largest : (k : ℕ) → Largest backward (allRefs t) k (shiftOf t k)
+  pub shifts-largest : (k : ℕ) → Largest backward (graph t) k (shiftOf t k)
   shifts-largest = shift-largest t few
 
-  pub peels-largest : (k : ℕ) → Largest forward (allRefs t) k (peelOf t k)
+  pub peels-largest : (k : ℕ) → Largest forward (graph t) k (peelOf t k)
   peels-largest = peel-largest t few
 
   -- no shifts and peels that meet every dependence are smaller
-  pub none-smaller : (a p : List ℕ) → LegalPlan (allRefs t) a p → (k : ℕ) → (shiftOf t k ≤ getD a k 0) × (peelOf t k ≤ getD p k 0)
+  pub none-smaller : (a p : List ℕ) → LegalPlan (graph t) a p → (k : ℕ) → (shiftOf t k ≤ getD a k 0) × (peelOf t k ≤ getD p k 0)
   none-smaller = plan-least t few
 
   -- past the last loop no chain ends
-  none-past : (k : ℕ) → count t ≤ k → Chain (allRefs t) k → ⊥
+  none-past : (k : ℕ) → count t ≤ k → Chain (graph t) k → ⊥
   none-past k l c =
       let (x, y, d, e) = last-dependence c in
       omega (arith, e, allRefs-refs t y (d .to) .0)
 
-  past-zero : (k n : ℕ) (amount : _) → count t ≤ k → Largest amount (allRefs t) k n → n ≡ 0
+  past-zero : (k n : ℕ) (amount : _) → count t ≤ k → Largest amount (graph t) k n → n ≡ 0
   past-zero k n amount l h = ⊎-elim (λ r. absurd (none-past k l (r .0))) (λ r. r .1) (h .attained)
 
   -- some loop's shift and peel together are the threshold, and no loop's are more
   pub threshold-some : (k : ℕ) × (k < count t) × (shiftOf t k + peelOf t k ≡ thresholdOf t)
   threshold-some =
-      let (k, l, e) = threshold-attained (shifts (allRefs t)) (peels (allRefs t)) in
+      let (k, l, e) = threshold-attained (shifts (graph t)) (peels (graph t)) in
       go k e (decLt k (count t))
     where
       go : (k : ℕ) → shiftOf t k + peelOf t k ≡ thresholdOf t → Dec (k < count t)
@@ -64,11 +64,11 @@ module _ (s : List ℕ) (t : Table) (read : table s ≡ accepted t) where
       go k e (no l) =
           let a = past-zero k (shiftOf t k) backward (omega arith) (shifts-largest k) in
           let b = past-zero k (peelOf t k) forward (omega arith) (peels-largest k) in
-          let most = threshold-upper (shifts (allRefs t)) (peels (allRefs t)) 0 (omega arith) in
+          let most = threshold-upper (shifts (graph t)) (peels (graph t)) 0 (omega arith) in
           (0, omega (arith, valid s t read .some-loops), omega (arith, a, b, e, most))
 
   pub threshold-most : (k : ℕ) → k < count t → shiftOf t k + peelOf t k ≤ thresholdOf t
-  threshold-most k l = threshold-upper (shifts (allRefs t)) (peels (allRefs t)) k (omega (arith, few))
+  threshold-most k l = threshold-upper (shifts (graph t)) (peels (graph t)) k (omega (arith, few))
 
 -- LISTS
 module _ (s : List ℕ) (w : Settings) (q : Planned) (planned-is : planned s w ≡ accepted q) where
@@ -76,10 +76,10 @@ module _ (s : List ℕ) (w : Settings) (q : Planned) (planned-is : planned s w �
   law = planned-accepts s w q planned-is
 
   -- the plan has the largest totals
-  pub plan-shifts : (k : ℕ) → Largest backward (allRefs (q .table)) k (q .plan .shift k)
+  pub plan-shifts : (k : ℕ) → Largest backward (graph (q .table)) k (q .plan .shift k)
   plan-shifts k = rw (law .plan-is) (shifts-largest s (q .table) (law .read) k)
 
-  pub plan-peels : (k : ℕ) → Largest forward (allRefs (q .table)) k (q .plan .peel k)
+  pub plan-peels : (k : ℕ) → Largest forward (graph (q .table)) k (q .plan .peel k)
   plan-peels k = rw (law .plan-is) (peels-largest s (q .table) (law .read) k)
 
   -- each iteration stands in one list, once

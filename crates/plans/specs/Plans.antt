@@ -5,11 +5,11 @@ use mathlib.Core.List.{List}
 use lib.Dec.{eqb, ltb, leb}
 use lib.ListN.{getD}
 use Rattle.model.specs.Table.{Table}
-use Rattle.model.specs.References.{allRefs}
 use Rattle.refusals.specs.Refusals.{met}
 use Rattle.refusals.specs.Answers.{AnswerOf, accepted, refused, _if_else_, after}
 use Rattle.reader.specs.Reading.{Answer}
 use Rattle.serial.specs.Serial.{table}
+use Rattle.chains.specs.TableGraph.{graph}
 use Rattle.chains.specs.Walk.{shifts, peels}
 use Rattle.chains.specs.Threshold.{threshold}
 use Rattle.blocks.specs.Span.{tableSpan}
@@ -30,14 +30,14 @@ pub record Planned : Type 0 where
 
 module _ (t : Table) where
   abbrev pub shiftOf : ℕ → ℕ
-  shiftOf k = getD (shifts (allRefs t)) k 0
+  shiftOf k = getD (shifts (graph t)) k 0
 
   abbrev pub peelOf : ℕ → ℕ
-  peelOf k = getD (peels (allRefs t)) k 0
+  peelOf k = getD (peels (graph t)) k 0
 
   -- the largest sum of shift and peel of one loop
   abbrev pub thresholdOf : ℕ
-  thresholdOf = threshold (shifts (allRefs t)) (peels (allRefs t))
+  thresholdOf = threshold (shifts (graph t)) (peels (graph t))
 
   abbrev pub planOf : Settings → Fusion
   planOf w = fusionOf t (w .processors) shiftOf peelOf

@@ -11,6 +11,7 @@ use Rattle.marks.specs.MarkLaws.{size-most}
 use Rattle.model.specs.Table.{Table, count}
 use Rattle.model.specs.References.{allRefs}
 use Rattle.chains.specs.Dependence.{backward, forward}
+use Rattle.chains.specs.TableGraph.{graph}
 use Rattle.chains.specs.Bounds.{InRange, numbers-small}
 use Rattle.chains.specs.Tables.{allRefs-refs, allRefs-below}
 use Rattle.refusals.specs.Answers.{accepted}
@@ -46,10 +47,10 @@ module _ (t : Table) (v : Valid t) where
   near r m = let (l, i) = allRefs-refs t r m in v .each (r .number) l .near r i
 
   first-shift : shiftOf t 0 ≡ 0
-  first-shift = omega (arith, numbers-small backward (allRefs t) 510 (λ x y from to. omega (arith, near y to)) (allRefs-below t (v .few-loops)) 0)
+  first-shift = omega (arith, numbers-small backward (graph t) 510 (λ x y from to. omega (arith, near y to)) (allRefs-below t (v .few-loops)) 0)
 
   first-peel : peelOf t 0 ≡ 0
-  first-peel = omega (arith, numbers-small forward (allRefs t) 510 (λ x y from to. omega (arith, near x from)) (allRefs-below t (v .few-loops)) 0)
+  first-peel = omega (arith, numbers-small forward (graph t) 510 (λ x y from to. omega (arith, near x from)) (allRefs-below t (v .few-loops)) 0)
 
 -- THE LAW
 pub listing-length : (s : List ℕ) (w : Settings) (q : Planned) → planned s w ≡ accepted q → length (listingOf q) ≤ 48400

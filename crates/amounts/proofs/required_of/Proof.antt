@@ -31,7 +31,7 @@ take-earlier-requires : tie.Need-take-earlier-requires Inv-loop μ-loop
 take-earlier-requires c κs =
     let f = c .before .before in
     let p = f .before .pre in
-    rw (c .reference-at .ensures, f .start-at .ensures) (p .0, p .1, destination-fits (p .0) _ (p .1))
+    rw (c .reference-at .ensures, f .start-at .ensures) (p .0, destination-fits (p .0) _ (p .1))
 
 add-r : tie.Need-add-r Inv-loop μ-loop
 add-r c =

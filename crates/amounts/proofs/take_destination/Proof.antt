@@ -4,7 +4,7 @@ use mathlib.Core.Bool.{true}
 use mathlib.Core.Path.{_∙_}
 use borrow.Author.Needs.{needs}
 use denote.Ref.{now}
-use Rattle.reader.specs.Store.{startAt}
+use Rattle.reader.specs.Store.{startAt, tableIn}
 use Rattle.amounts.specs.Rows.{refIn, past-few, start-in}
 use Rattle.amounts.proofs.Laws.{count-few, destination-fits, required-one, required-other}
 use Rattle.amounts.proofs.take_destination.Statement.{statement}
@@ -26,14 +26,13 @@ take-up-requires : tie.Need-take-up-requires
 take-up-requires c κs =
     let f = c .before .before .before .before .before in
     let p = f .before .pre in
-    let d = destination-fits (p .0) _ (p .1) in
-    rw (c .reference-at .ensures, f .start-at .ensures) (d .number, omega (arith, d .offset), omega (arith, p .2 .offset))
+    rw (c .reference-at .ensures, f .start-at .ensures) (p .0, destination-fits (p .0) _ (p .1), p .2)
 
 returns : tie.Need-returns
 returns c =
     let f = c .before .before .before .before .before .before in
     let a = f .before .args in
-    required-one (now (a .shifts)) (now (a .peels)) (a .y) (refIn (now (a .store)) (a .j) (startAt (now (a .store)) (a .j)) true)
+    required-one (tableIn (now (a .store))) (now (a .shifts)) (now (a .peels)) (a .y) (refIn (now (a .store)) (a .j) (startAt (now (a .store)) (a .j)) true)
     (a .before) _ (rw (c .before .reference-at .ensures, f .start-at .ensures) at (c .take-up .ensures))
 
 returns-2 : tie.Need-returns-2
@@ -42,7 +41,7 @@ returns-2 c =
     let f = q .before .before in
     let a = f .before .args in
     let is = q .wide .ensures .0 ∙ rw (f .start-at .ensures) at (q .before .array-at .ensures) in
-    required-other (now (a .shifts)) (now (a .peels)) (a .y) (refIn (now (a .store)) (a .j) (startAt (now (a .store)) (a .j)) true)
+    required-other (tableIn (now (a .store))) (now (a .shifts)) (now (a .peels)) (a .y) (refIn (now (a .store)) (a .j) (startAt (now (a .store)) (a .j)) true)
     (a .before) (λ e. c .if1 .left (is ∙ e))
 
 pub take-destination-spec : {M : Type 1} → statement M

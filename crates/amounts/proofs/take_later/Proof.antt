@@ -3,6 +3,7 @@ use native.Mathlib.Omega.{arith}
 use mathlib.Core.Path.{refl, sym, _∙_}
 use mathlib.Core.Bool.{false}
 use denote.Ref.{now}
+use Rattle.reader.specs.Store.{tableIn}
 use Rattle.amounts.specs.Rows.{past-few, row-in, row-read, row-other}
 use Rattle.amounts.specs.Walked.{row-fits}
 use Rattle.amounts.proofs.Laws.{pairs-no, pairs-one}
@@ -22,7 +23,7 @@ take-destinations-requires c κs =
     let p = k .before .pre in
     let e = sym (k .kind-at .ensures) ∙ c .before .if1 .taken in
     rw (c .reference-at .ensures)
-    (p .0, p .1, row-fits (now (a .store)) (a .k) (a .r) false (p .2) (row-in (p .0) _ (p .1) _ (p .3)) (omega (arith, e)), refl)
+    (p .0, row-fits (tableIn (now (a .store))) (now (a .store)) (a .k) (a .r) false (p .1) (p .2) (row-in (p .0) _ (p .1) _ (p .3)) (omega (arith, e)), refl)
 
 returns : tie.Need-returns
 returns c =

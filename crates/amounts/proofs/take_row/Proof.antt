@@ -4,8 +4,10 @@ use mathlib.Core.Path.{sym, _∙_}
 use mathlib.Core.Bool.{false}
 use borrow.Author.Needs.{needs}
 use denote.Ref.{now}
+use Rattle.reader.specs.Store.{tableIn}
 use Rattle.amounts.specs.Rows.{refIn, row-read}
-use Rattle.amounts.proofs.Laws.{read-kind, required-one, required-apart}
+use Rattle.amounts.specs.Walked.{row-fits}
+use Rattle.amounts.proofs.Laws.{count-few, read-kind, required-one, required-apart}
 use Rattle.amounts.proofs.take_row.Statement.{statement}
 use Rattle.amounts.proofs.take_row.Tie as tie
 
@@ -15,8 +17,8 @@ take-up-requires c κs =
     let p = k .before .pre in
     let a = k .before .args in
     let e = read-kind (now (a .store)) (a .r) (a .y .array) (sym (k .reads-array .ensures) ∙ c .before .if1 .taken) in
-    let low = p .2 .offset (omega (arith, e)) in
-    rw (c .reference-at .ensures) (p .0, omega (arith, low), omega (arith, p .3 .offset))
+    rw (c .reference-at .ensures)
+    (p .0, row-fits (tableIn (now (a .store))) (now (a .store)) (a .j) (a .r) false (p .1) (omega (arith, p .1, count-few (p .0))) (p .3) (omega (arith, e)), p .4)
 
 returns : tie.Need-returns
 returns c =
@@ -24,13 +26,13 @@ returns c =
     let a = k .before .args in
     let e = read-kind (now (a .store)) (a .r) (a .y .array) (sym (k .reads-array .ensures) ∙ c .before .before .if1 .taken) in
     rw (row-read (now (a .store)) (a .j) (a .r) e)
-    (required-one (now (a .shifts)) (now (a .peels)) (a .y) (refIn (now (a .store)) (a .j) (a .r) false) (a .before) _
+    (required-one (tableIn (now (a .store))) (now (a .shifts)) (now (a .peels)) (a .y) (refIn (now (a .store)) (a .j) (a .r) false) (a .before) _
     (rw (c .before .reference-at .ensures) at (c .take-up .ensures)))
 
 returns-2 : tie.Need-returns-2
 returns-2 c =
     let a = c .before .before .args in
-    required-apart (now (a .shifts)) (now (a .peels)) (a .y) (now (a .store)) (a .j) (a .r) (a .before)
+    required-apart (tableIn (now (a .store))) (now (a .shifts)) (now (a .peels)) (a .y) (now (a .store)) (a .j) (a .r) (a .before)
     (sym (c .before .reads-array .ensures) ∙ c .if1 .left)
 
 pub take-row-spec : {M : Type 1} → statement M

@@ -9,12 +9,12 @@ use Rattle.amounts.proofs.take_up.Tie as tie
 returns : tie.Need-returns
 returns c =
     let d = sym (c .before .before .before .before .depends .ensures) ∙ c .before .before .before .if1 .taken in
-    (taken-up backward _ _ _ _ _ d (c .raise .ensures .0), taken-up forward _ _ _ _ _ d (c .raise .ensures .1))
+    (taken-up _ backward _ _ _ _ _ d (c .raise .ensures .0), taken-up _ forward _ _ _ _ _ d (c .raise .ensures .1))
 
 returns-2 : tie.Need-returns-2
 returns-2 c =
     let d = sym (c .before .depends .ensures) ∙ c .if1 .left in
-    (passed-over backward _ _ _ _ d, passed-over forward _ _ _ _ d)
+    (passed-over _ backward _ _ _ _ d, passed-over _ forward _ _ _ _ d)
 
 pub take-up-spec : {M : Type 1} → statement M
 take-up-spec =
