@@ -83,20 +83,21 @@ fn kernels_have_the_shifts_and_peels_of_the_thesis() {
     assert!(out.starts_with("loop 0 0 0\nloop 1 1 1\n") && out.ends_with("sweeps 6 4\n"), "{out}");
 }
 
-/// How the plan for two processors begins: each loop with its shift and its peel, and the first block.
+/// How the plan for one processor begins: each loop with its shift and its peel.
 fn begins(text: &str, lines: &str) {
-    let told = fed(&["plan", "-", "-p", "2"], text.as_bytes());
+    let told = fed(&["plan", "-", "-p", "1"], text.as_bytes());
     assert!(told.out.starts_with(lines), "{text}{}{}", told.out, told.err);
 }
 
-/// One loop, from 5 to 9, reads A[i+2], so A[7] and up; the other stores A[i], from 1 as far as 6, which is not far enough, or further.
+/// One loop, from 5 to 9, reads A[i+2], so A[7] to A[11]. The other stores A[i]: up to 6 is not far enough and from 12 on is too far; 7 and 11
+/// are the first and the last that are read; and where either loop goes further on both sides, only iterations between its ends meet.
 #[test]
 fn loops_that_never_meet_have_no_shift_for_each_other() {
-    let arrays = "array A 12\narray B 12\n";
-    for (last, amount) in [(6, 0), (7, 2), (8, 2)] {
-        let (stores, reads) = (format!("loop 1 {last} -> A[i]: 1\n"), "loop 5 9 -> B[i]: A[i+2]\n");
-        begins(&format!("{arrays}{stores}{reads}"), &format!("loop 0 0 0\nloop 1 {amount} 0\nblock 0 1 5\n"));
-        begins(&format!("{arrays}{reads}{stores}"), &format!("loop 0 0 0\nloop 1 0 {amount}\nblock 0 1 5\n"));
+    let arrays = "array A 30\narray B 30\n";
+    for (first, last, amount) in [(1, 6, 0), (1, 7, 2), (1, 20, 2), (9, 10, 2), (11, 20, 2), (12, 20, 0)] {
+        let (stores, reads) = (format!("loop {first} {last} -> A[i]: 1\n"), "loop 5 9 -> B[i]: A[i+2]\n");
+        begins(&format!("{arrays}{stores}{reads}"), &format!("loop 0 0 0\nloop 1 {amount} 0\nblock "));
+        begins(&format!("{arrays}{reads}{stores}"), &format!("loop 0 0 0\nloop 1 0 {amount}\nblock "));
     }
 }
 
