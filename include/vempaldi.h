@@ -128,7 +128,9 @@ uint64_t vempaldi_join(const uint8_t *left, size_t left_length, const uint8_t *r
 uint64_t vempaldi_facts(const uint8_t *table, size_t table_length, uint8_t *out, size_t out_length, uint64_t answer[4]);
 
 /* Shift and peel of each loop.
- * Writes for each loop, in table order, its shift and its peel: 8 bytes a loop. Refuses with 1 to 9, 13. */
+ * Writes for each loop, in table order, its shift and its peel: 8 bytes a loop. Refuses with 1 to 9, 13.
+ * Two references to one array, one of them storing, count only where some iterations of their two loops meet there (docs/TABLE.md,
+ * 'Dependences, shifts and peels'). So the numbers hold for the bounds in this table: for loops with other bounds, ask again. */
 uint64_t vempaldi_shifts_and_peels(const uint8_t *table, size_t table_length,
                                    uint8_t *out, size_t out_length, uint64_t answer[4]);
 

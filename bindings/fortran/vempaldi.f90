@@ -223,7 +223,8 @@ contains
     if (written > 0) elements = number(out(9:12))
   end subroutine
 
-  ! amounts(1, k) is the shift of loop k - 1, amounts(2, k) its peel.
+  ! amounts(1, k) is the shift of loop k - 1, amounts(2, k) its peel. Two references to one array, one of them storing, count
+  ! only where some iterations of their two loops meet there, so the amounts hold for the bounds in this table.
   subroutine vempaldi_shifts_and_peels(table, amounts, answer)
     integer(c_int8_t), contiguous, intent(in) :: table(:)
     integer(c_int32_t), allocatable, intent(out) :: amounts(:, :)

@@ -57,7 +57,7 @@ fn meeting_iterations_are_named_by_loop_and_read() {
 
 #[test]
 fn make_gives_the_examples_bytes_and_names_wrong_lines() {
-    for name in ["example", "jacobi", "ll18", "river"] {
+    for name in ["boundary", "example", "jacobi", "ll18", "river"] {
         let out = out_name(name);
         assert_eq!(run(&["make", &format!("examples/{name}.txt"), "-o", &out]).status, 0);
         assert_eq!(std::fs::read(&out).expect("written"), bytes(&format!("examples/{name}.table")));
@@ -83,16 +83,45 @@ fn kernels_have_the_shifts_and_peels_of_the_thesis() {
     assert!(out.starts_with("loop 0 0 0\nloop 1 1 1\n") && out.ends_with("sweeps 6 4\n"), "{out}");
 }
 
+/// How the plan for one processor begins: each loop with its shift and its peel.
+fn begins(text: &str, lines: &str) {
+    let told = fed(&["plan", "-", "-p", "1"], text.as_bytes());
+    assert!(told.out.starts_with(lines), "{text}{}{}", told.out, told.err);
+}
+
+/// One loop, from 5 to 9, reads A[i+2], so A[7] to A[11]. The other stores A[i]: up to 6 is not far enough and from 12 on is too far; 7 and 11
+/// are the first and the last that are read; and where either loop goes further on both sides, only iterations between its ends meet.
+#[test]
+fn loops_that_never_meet_have_no_shift_for_each_other() {
+    let arrays = "array A 30\narray B 30\n";
+    for (first, last, amount) in [(1, 6, 0), (1, 7, 2), (1, 20, 2), (9, 10, 2), (11, 20, 2), (12, 20, 0)] {
+        let (stores, reads) = (format!("loop {first} {last} -> A[i]: 1\n"), "loop 5 9 -> B[i]: A[i+2]\n");
+        begins(&format!("{arrays}{stores}{reads}"), &format!("loop 0 0 0\nloop 1 {amount} 0\nblock "));
+        begins(&format!("{arrays}{reads}{stores}"), &format!("loop 0 0 0\nloop 1 0 {amount}\nblock "));
+    }
+}
+
+/// The upper end, H[0], is read as H[i-4] in iteration 4 of loop 1 and never as H[i+4]; the lower end, iteration 199, reads what iteration 195
+/// of loop 2 stores. 200 indices are 25 blocks of 8.
+#[test]
+fn the_ends_of_a_reach_shift_no_loop() {
+    let told = run(&["plan", "examples/boundary.table", "-p", "25"]);
+    assert!(told.out.starts_with("loop 0 0 0\nloop 1 0 4\nloop 2 0 4\nloop 3 0 8\nblock 0 0 7\n"), "{}{}", told.out, told.err);
+    let told = run(&["plan", "examples/boundary.table", "-p", "26"]);
+    let why = "200 indices in 26 blocks leave a block of 7, the threshold is 8; there is a plan for 25 processors at most";
+    assert_eq!((told.status, told.err), (1, format!("examples/boundary.table: refused 11 short: {why}\n")));
+}
+
 #[test]
 fn run_agrees_with_the_plain_run_in_every_order() {
-    let all = [EXAMPLE, "examples/jacobi.table", "examples/ll18.table", "examples/river.table"];
+    let all = [EXAMPLE, "examples/boundary.table", "examples/jacobi.table", "examples/ll18.table", "examples/river.table"];
     for order in ["turns", "falling", "none", "random:1", "3,3,3,3,0,255", "@examples/river.txt"] {
         for memory in ["index", "zero", "random:5"] {
             let words = [&["run", "-p", "4", "--order", order, "--memory", memory], &all[..]].concat();
             let told = run(&words);
             assert_eq!(told.status, 0, "{}", told.out);
-            assert_eq!(told.out.matches("bit for bit").count(), 4);
-            assert_eq!(told.err, "4 files: 4 agree, 0 refused or different\n");
+            assert_eq!(told.out.matches("bit for bit").count(), 5);
+            assert_eq!(told.err, "5 files: 5 agree, 0 refused or different\n");
         }
     }
 }

@@ -53,7 +53,7 @@ fn any_picture_can_be_read() {
 
 #[test]
 fn the_examples_can_be_read_for_few_and_for_many_processors() {
-    for name in ["example", "jacobi", "ll18", "river"] {
+    for name in ["boundary", "example", "jacobi", "ll18", "river"] {
         let table = read(&bytes(&format!("examples/{name}.table"))).expect("a table");
         let most = processors::most(&table);
         for count in (1..=most).filter(|count| *count <= 17 || count % 8 == 0 || *count == most) {

@@ -12,7 +12,7 @@ const RIVER: &str = "examples/river.txt";
 /// What is printed of a text is what is printed of its table, but for the file's name.
 #[test]
 fn a_text_is_taken_as_its_table() {
-    for name in ["example", "jacobi", "ll18", "river"] {
+    for name in ["boundary", "example", "jacobi", "ll18", "river"] {
         let (text, table) = (format!("examples/{name}.txt"), format!("examples/{name}.table"));
         let same = |words: &[&str]| {
             let (left, right) = (run(&[words, &[&text]].concat()), run(&[words, &[&table]].concat()));

@@ -156,8 +156,9 @@ void run_unfused(const struct plan *plan, const struct rivers *v, int rounds) {
 /* The library lists these iterations by their sum, index plus shift, equal sums in loop order. Here a strip of sums runs whole, its loops
  * one after the other, so that the inner loops stay plain and each loop finds in the cache what the one before left there. Why is that
  * allowed? Let iteration i of loop j and iteration i + d of a later loop k meet at an element, one of them storing. The plain run has j's
- * first. This is a dependence of distance d, so k's shift is at least j's, and at least j's plus -d where d < 0; hence
- * (i + d) + shift k >= i + shift j: the sum of k's iteration is not below that of j's (proved: `contained` in crates/rows/specs/Contained).
+ * first. Both are iterations of their loops, so this is a dependence of distance d, and k's shift is at least j's, and at least j's plus -d
+ * where d < 0; hence (i + d) + shift k >= i + shift j: the sum of k's iteration is not below that of j's (proved: `contained` in
+ * crates/rows/specs/Contained). References at which no iterations meet are no dependence and have no order to keep.
  * So j's stands in an earlier strip, or in the same one, where all of loop j runs before loop k: in both cases j's runs first. Iterations
  * of one loop never meet (ground 9), so a compiler may take several at once. Thus any two iterations of this part that meet keep the plain
  * run's order; and none of another processor meets one of this part before the barrier (proved: `ordered` in crates/rows/specs/Theorem), so

@@ -69,7 +69,26 @@ pub fn join_into(left: &[u8], right: &[u8], out: &mut [u8]) -> Result<usize, Ref
     Refusal::of_answer(&answer).map(|()| written as usize)
 }
 
-/// Shift and peel of each loop.
+/// Shift and peel of each loop. Two references to one array, one of them storing, count only where some iterations of their two loops meet
+/// there, so the numbers hold for the bounds in this table.
+///
+/// ```
+/// use vempaldi::Builder;
+///
+/// // Loop 0 from 1 on stores A0[i], loop 1 from 5 to 9 reads A0[i+2].
+/// fn shift_of_loop_1(last_of_loop_0: u32) -> Result<u32, Box<dyn std::error::Error>> {
+///     let mut b = Builder::new();
+///     let [a0, a1] = [12, 12].map(|length| b.array(length));
+///     b.open_loop(1, last_of_loop_0, a0, 0);
+///     b.constant(1);
+///     b.open_loop(5, 9, a1, 0);
+///     b.read(a0, 2);
+///     Ok(vempaldi::shifts_and_peels(&b.end()?)?[1].shift)
+/// }
+/// assert_eq!(shift_of_loop_1(6)?, 0); // A0[7] is the first element read, A0[6] the last one stored
+/// assert_eq!(shift_of_loop_1(7)?, 2); // iteration 7 stores what iteration 5 reads
+/// # Ok::<(), Box<dyn std::error::Error>>(())
+/// ```
 pub fn shifts_and_peels(table: &[u8]) -> Result<Vec<Amounts>, Refusal> {
     let numbers = of_table(vempaldi_shifts_and_peels, table, AMOUNT_BYTES)?;
     Ok(pairs(&numbers).map(|(shift, peel)| Amounts { shift, peel }).collect())
