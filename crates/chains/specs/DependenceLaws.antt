@@ -13,7 +13,7 @@ use Rattle.overlap.specs.Overlap.{overlap}
 use Rattle.overlap.specs.OverlapLaws.{meeting-is, is-meeting, overlap-meeting}
 use Rattle.chains.specs.Dependence.{meetIn, dependence, backward, forward}
 
-both-true : (a b : Bool) → (a && b) ≡ true → (a ≡ true) × (b ≡ true)
+pub both-true : (a b : Bool) → (a && b) ≡ true → (a ≡ true) × (b ≡ true)
 both-true true b e = (refl, e)
 both-true false b e = absurd (false≢true e)
 
@@ -26,7 +26,7 @@ pub meet-amounts : (x y : Reference) (i j : ℕ) → (i + x .offset ≡ j + y .o
 meet-amounts x y i j = (λ e. omega arith, λ e. omega arith)
 
 -- `touch` as a proposition
-touch-is : (x y : Reference) → (touch x y ≡ true) ↔ Touch x y
+pub touch-is : (x y : Reference) → (touch x y ≡ true) ↔ Touch x y
 unfolding touch
 touch-is x y = (given, made)
   where

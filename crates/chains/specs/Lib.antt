@@ -34,3 +34,5 @@ pub mod Bounds
 pub mod Tables
 -- later loops change no number of an earlier one
 pub mod Join
+-- fewer dependences give no larger numbers
+pub mod Fewer

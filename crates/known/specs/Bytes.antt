@@ -39,6 +39,10 @@ minusOneThenZero =
 abbrev pub storeAfterRead : List ℕ
 storeAfterRead = array 11 ++ array 13 ++ store 0 ++ read 1 (ahead 2) ++ store 1 ++ one ++ end
 
+-- a loop from f to l stores A0[i], one from f′ to l′ reads A0 at an offset: the distance is the offset with the other sign
+abbrev pub storedThenRead : (f l f′ l′ : ℕ) → List ℕ → List ℕ
+storedThenRead f l f′ l′ offset = times 2 (array 15) ++ loop f l 0 (ahead 0) ++ one ++ loop f′ l′ 1 (ahead 0) ++ read 0 offset ++ end
+
 -- A0 of 21 elements: A0[i] = A0[i+o]
 abbrev pub itself : ℕ → List ℕ
 itself o = array 21 ++ store 0 ++ read 0 (ahead o) ++ end

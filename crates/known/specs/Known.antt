@@ -7,7 +7,8 @@ use Rattle.refusals.specs.Answers.{refusalOf}
 use Rattle.serial.specs.Serial.{table}
 use Rattle.plans.specs.Plans.{settings, planned}
 use Rattle.plain.specs.Plain.{plainMemory}
-use Rattle.known.specs.Bytes.{example, three, minusOneThenZero, storeAfterRead, itself, severalReads, single, zeroByZero}
+use Rattle.known.specs.Records.{ahead}
+use Rattle.known.specs.Bytes.{example, three, minusOneThenZero, storeAfterRead, storedThenRead, itself, severalReads, single, zeroByZero}
 use Rattle.known.specs.Computed.{refusalFor, shiftsIn, peelsIn, thresholdIn, sizesIn}
 use Rattle.known.specs.Memory.{whole, element, bits}
 
@@ -34,6 +35,9 @@ pub record Known : Type 0 where
   pub distances : shiftsIn minusOneThenZero ≡ 0 ∷ 1 ∷ 1 ∷ []
   -- loop 0 reads A1[i+2], loop 1 stores A1[i]: peel 2
   pub store-after-read : peelsIn storeAfterRead ≡ 0 ∷ 2 ∷ []
+  -- loop 0 stores A0[i], loop 1, 5 to 9, reads A0[i+2]: with loop 0 from 1 to 6 they never meet, shift 0; from 1 to 7 shift 2
+  pub never-meet : shiftsIn (storedThenRead 1 6 5 9 (ahead 2)) ≡ 0 ∷ 0 ∷ []
+  pub meet-once : shiftsIn (storedThenRead 1 7 5 9 (ahead 2)) ≡ 0 ∷ 2 ∷ []
   -- 1 to 10, A0 of 21 elements, A0[i] = A0[i+9]: refused 9; with A0[i+10] accepted
   pub serial-nine : refusalOf (table (itself 9)) ≡ naming 9 0 0 0
   pub serial-ten : refusalOf (table (itself 10)) ≡ none
@@ -64,6 +68,8 @@ known = record {
   three-threshold = refl;
   distances = refl;
   store-after-read = refl;
+  never-meet = refl;
+  meet-once = refl;
   serial-nine = refl;
   serial-ten = refl;
   lowest-read = refl;

@@ -1,0 +1,43 @@
+-- Fewer dependences give no larger numbers. So where loops' bounds are asked, no shift and no peel is larger than where they play no part.
+use Prim.Native.Nat.{ℕ, _≤_, _<_}
+use mathlib.Core.Path.{_≡_}
+use mathlib.Core.Bool.{Bool, true, _&&_}
+use lib.Dec.{ltb}
+use lib.ListN.{getD}
+use borrow.Author.Tests.{ltb-true, lt-ltb}
+use Rattle.model.specs.declared.Reference.{Reference}
+use Rattle.model.specs.Table.{Table, count}
+use Rattle.model.specs.References.{touch, allRefs}
+use Rattle.chains.specs.Graph.{Graph}
+use Rattle.chains.specs.DependenceLaws.{both-true, touch-is, dependence-meets}
+use Rattle.chains.specs.TableGraph.{graph}
+use Rattle.chains.specs.Walk.{numbers, Ordered, Below}
+use Rattle.chains.specs.Largest.{numbers-legal, numbers-least}
+use Rattle.chains.specs.Tables.{allRefs-ordered, allRefs-below}
+
+module _ {R : Type 0} (amount : R → R → ℕ) (g : Graph R) (depends : R → R → Bool)
+    (earlier : (x y : R) → depends x y ≡ true → g .number x < g .number y) (fewer : (x y : R) → depends x y ≡ true → g .depends x y ≡ true) where
+  abbrev pub thinned : Graph R
+  thinned = record { references = g .references; number = g .number; depends = depends; earlier = earlier }
+
+  -- what meets every dependence meets fewer of them
+  pub fewer-smaller : Ordered g (g .references) → Below 16 g (g .references) → (k : ℕ) → getD (numbers amount thinned) k 0 ≤ getD (numbers amount g) k 0
+  fewer-smaller o b =
+      numbers-least amount thinned o b (numbers amount g)
+      (λ x y d. numbers-legal amount g o b x y (record { from = d .from; to = d .to; joined = fewer x y (d .joined) }))
+
+-- the table's references where bounds play no part
+abbrev pub withoutBounds : Table → Graph Reference
+withoutBounds t = record {
+  references = allRefs t;
+  number = λ r. r .number;
+  depends = λ x y. ltb (x .number) (y .number) && touch x y;
+  earlier = λ x y e. ltb-true (x .number) (y .number) (both-true (ltb (x .number) (y .number)) (touch x y) e .0);
+}
+
+pub never-larger : (t : Table) → count t ≤ 16 → (amount : Reference → Reference → ℕ) (k : ℕ)
+    → getD (numbers amount (graph t)) k 0 ≤ getD (numbers amount (withoutBounds t)) k 0
+never-larger t few amount = fewer-smaller amount (withoutBounds t) _ _ fewer (allRefs-ordered t) (allRefs-below t few)
+  where
+    fewer : (x y : Reference) → graph t .depends x y ≡ true → (ltb (x .number) (y .number) && touch x y) ≡ true
+    fewer x y e = let m = dependence-meets t x y .0 e in rw (lt-ltb _ _ (m .earlier-loop), touch-is x y .1 (m .meet .0))
