@@ -46,7 +46,9 @@ module _ (first last a c : ℕ) (s : List ℕ) where
 
   module _ (from past row reads : ℕ) (inv : Inv from past row reads) (l : row < past) where
     here : (x : Item) → itemAt s row ≡ x → hit first last a c (x ∷ itemsFrom s (row + 1) (past - (row + 1))) reads ≡ hitFrom from past 0
-    here x e = ap (λ (xs : List Item). hit first last a c xs reads) (sym (split row past l ∙ ap (λ (y : Item). y ∷ itemsFrom s (row + 1) (past - (row + 1))) e)) ∙ inv .rest
+    here x e =
+        ap (λ (xs : List Item). hit first last a c xs reads)
+        (sym (split row past l ∙ ap (λ (y : Item). y ∷ itemsFrom s (row + 1) (past - (row + 1))) e)) ∙ inv .rest
 
     pub found : kindAt s row ≡ 0 → collides first last a c (arrayAt s row) (valueAt s row) ≡ true → Read reads ≡ hitFrom from past 0
     unfolding hit
