@@ -2,3 +2,5 @@
 pub mod Overlap
 -- the test decides it
 pub mod OverlapLaws
+-- known results
+pub mod Example

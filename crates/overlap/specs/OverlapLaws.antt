@@ -73,3 +73,10 @@ module _ (f l o f′ l′ o′ : ℕ) where
 
       given : meeting f l o f′ l′ o′ ≡ true → overlap f l o f′ l′ o′ ≡ true
       given e = let (i, j, a, b, c, d, g) = meeting-is e in le-leb (max (f + o) (f′ + o′)) (min (l + o) (l′ + o′)) (omega arith)
+
+  -- so it finds iterations, and finds any that there are
+  pub overlap-is : overlap f l o f′ l′ o′ ≡ true → Meeting
+  overlap-is e = meeting-is (sym overlap-meeting ∙ e)
+
+  pub is-overlap : Meeting → overlap f l o f′ l′ o′ ≡ true
+  is-overlap m = overlap-meeting ∙ is-meeting m

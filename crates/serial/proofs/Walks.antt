@@ -14,25 +14,19 @@ use Rattle.refusals.specs.Refusals.{none as nothing-refused}
 use Rattle.refusals.specs.Answers.{accepted}
 use Rattle.reader.specs.Reading.{Answer, reading}
 use Rattle.reader.specs.Store.{startAt, kindAt, arrayAt, valueAt, loopsIn, itemOf, itemAt, itemsFrom, loopAt, tableIn}
+use Rattle.reader.specs.Stored.{Row}
 use Rattle.reader.specs.ReadInto.{ReadInto}
 use Rattle.reader.specs.ReadIntoLaws.{into-refused, into-told, into-accepted}
-use Rattle.reader.specs.Held.{Held, count-held, few-loops, few-rows, rows-rise, loop-held}
+use Rattle.reader.specs.Held.{Held, count-held, few-loops, few-rows, rows-rise, row-held, opening-held, loop-held}
 use Rattle.serial.specs.declared.Collision.{Collision}
 use Rattle.serial.specs.declared.Collision.the-variants.{Nothing, Read}
 use Rattle.serial.specs.Serial.{collides, hit, loopHit, afterLoop, serialFrom, through, table}
 
--- sums of widened numbers
-pub near : {a b x y : ℕ} (s : ℕ) → a ≡ x → b ≡ y → b ≤ a + s → y ≤ x + s
-near s e f h = omega arith
-
-pub far : {a b x y : ℕ} (s : ℕ) → a ≡ x → b ≡ y → a + s < b → x + s < y
-far s e f h = omega arith
-
 -- ROWS
-module _ (span a c : ℕ) (s : List ℕ) where
+module _ (first last a c : ℕ) (s : List ℕ) where
   -- the reads from a row on, where n came before
   abbrev pub hitFrom : ℕ → ℕ → ℕ → Collision
-  hitFrom row past n = hit span a c (itemsFrom s row (past - row)) n
+  hitFrom row past n = hit first last a c (itemsFrom s row (past - row)) n
 
   pub record Inv (from past row reads : ℕ) : Type 0 where
     pub low : from ≤ row
@@ -51,14 +45,16 @@ module _ (span a c : ℕ) (s : List ℕ) where
   at-read row e = rw e
 
   module _ (from past row reads : ℕ) (inv : Inv from past row reads) (l : row < past) where
-    here : (x : Item) → itemAt s row ≡ x → hit span a c (x ∷ itemsFrom s (row + 1) (past - (row + 1))) reads ≡ hitFrom from past 0
-    here x e = ap (λ (xs : List Item). hit span a c xs reads) (sym (split row past l ∙ ap (λ (y : Item). y ∷ itemsFrom s (row + 1) (past - (row + 1))) e)) ∙ inv .rest
+    here : (x : Item) → itemAt s row ≡ x → hit first last a c (x ∷ itemsFrom s (row + 1) (past - (row + 1))) reads ≡ hitFrom from past 0
+    here x e =
+        ap (λ (xs : List Item). hit first last a c xs reads)
+        (sym (split row past l ∙ ap (λ (y : Item). y ∷ itemsFrom s (row + 1) (past - (row + 1))) e)) ∙ inv .rest
 
-    pub found : kindAt s row ≡ 0 → collides span a c (arrayAt s row) (valueAt s row) ≡ true → Read reads ≡ hitFrom from past 0
+    pub found : kindAt s row ≡ 0 → collides first last a c (arrayAt s row) (valueAt s row) ≡ true → Read reads ≡ hitFrom from past 0
     unfolding hit
     found k e = rw e at (here (read (arrayAt s row) (valueAt s row)) (at-read row k))
 
-    pub passed : kindAt s row ≡ 0 → collides span a c (arrayAt s row) (valueAt s row) ≡ false → Inv from past (row + 1) (reads + 1)
+    pub passed : kindAt s row ≡ 0 → collides first last a c (arrayAt s row) (valueAt s row) ≡ false → Inv from past (row + 1) (reads + 1)
     unfolding hit
     passed k e = record {
       low = omega (arith, inv .low);
@@ -91,6 +87,14 @@ module _ (c : List ℕ) (h : Held c) where
   rows-known k m =
       let last = few-rows h (suc k) m in
       (omega (arith, count-held h, few-loops h), omega (arith, last, rows-rise h k m), rw (add-one k) last)
+
+  pub row-known : (k : ℕ) → k < count (tableIn c) → (r : ℕ) → r < startAt c (k + 1) → Row c r
+  row-known k m r l = row-held h (suc k) r m (rw (add-one k) at l)
+
+  pub destination-small : (k : ℕ) → k < count (tableIn c) → valueAt c (startAt c k) < 65536
+  destination-small k m =
+      let small = row-held h (suc k) (startAt c k) m (rows-rise h k m) .offset (omega (arith, opening-held h k m)) in
+      omega (arith, small)
 
   module _ (l : ℕ) where
     pub loops-start : l ≡ loopsIn c → LoopInv c l 0

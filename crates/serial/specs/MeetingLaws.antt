@@ -1,15 +1,15 @@
 -- Laws of the test of ground 9: it decides the statement; the read that it names meets the destination, and no lower read does.
-use Prim.Native.Nat.{ℕ, zero, suc, _+_, _-_, _≤_, _<_}
+use Prim.Native.Nat.{ℕ, zero, suc, _+_, _<_}
 use native.Mathlib.Omega.{arith}
-use native.Mathlib.Decide.{decLt}
 use mathlib.Core.Path.{_≡_, refl, sym, ap, _∙_}
 use mathlib.Core.Logic.{_⊎_, inl, inr, ⊎-elim, _≢_}
 use mathlib.Core.Bool.{Bool, true, false, not, _&&_}
 use mathlib.Core.List.{List, [], _∷_, append-nil}
 use mathlib.Core.List.{List·Memᴰ as Mem, List·Memᴰ·head as mhere, List·Memᴰ·cases-cons as cases-cons, List·Memᴰ·not-nil as not-nil}
 use lib.ListN.{length, getD}
-use lib.Dec.{eqb, leb}
-use borrow.Author.Tests.{eqb-true, eqb-false, leb-true, not-true, eq-eqb, ne-eqb, le-leb}
+use lib.Dec.{eqb}
+use borrow.Author.Tests.{eqb-true, eqb-false, not-true, eq-eqb, ne-eqb}
+use Rattle.overlap.specs.OverlapLaws.{Meeting, overlap-is, is-overlap}
 use Rattle.model.specs.declared.Reference.{Reference}
 use Rattle.model.specs.Table.{Item, read, constant, operation, Statement, Table, loop, count, first, last, iteration, Inside}
 use Rattle.model.specs.References.{destination, reads, refs, Meet}
@@ -26,69 +26,68 @@ both : (a b : Bool) → (a && b) ≡ true → (a ≡ true) × (b ≡ true)
 both true b e = (refl, e)
 both false b e = absurd (false-true e)
 
-module _ (span a c b o : ℕ) where
+module _ (f l a c b o : ℕ) where
   -- what a collision is
   abbrev Apart : Type 0
-  Apart = (b ≡ a) × (o ≢ c) × (o ≤ c + span) × (c ≤ o + span)
+  Apart = (b ≡ a) × (o ≢ c) × Meeting f l c f l o
 
-  collides-apart : collides span a c b o ≡ true → Apart
+  collides-apart : collides f l a c b o ≡ true → Apart
   unfolding collides
   collides-apart e =
       let (p, q) = both (eqb b a) _ e in
       let (r, s) = both (not (eqb o c)) _ q in
-      let (u, v) = both (leb o (c + span)) _ s in
-      (eqb-true b a p, eqb-false o c (not-true (eqb o c) r), leb-true o (c + span) u, leb-true c (o + span) v)
+      (eqb-true b a p, eqb-false o c (not-true (eqb o c) r), overlap-is f l c f l o s)
 
-  apart-collides : Apart → collides span a c b o ≡ true
+  apart-collides : Apart → collides f l a c b o ≡ true
   unfolding collides
-  apart-collides (e, n, l, m) = rw (eq-eqb b a e, ne-eqb o c n, le-leb o (c + span) l, le-leb c (o + span) m)
+  apart-collides (e, n, m) = rw (eq-eqb b a e, ne-eqb o c n) (is-overlap f l c f l o m)
 
 -- the read at which the test stops
-abbrev At : ℕ → ℕ → ℕ → List Reference → ℕ → Type 0
-At span a c qs j = (j < length qs) × ((d : Reference) → collides span a c (getD qs j d .array) (getD qs j d .offset) ≡ true)
+abbrev At : (from to a c : ℕ) → List Reference → ℕ → Type 0
+At from to a c qs j = (j < length qs) × ((d : Reference) → collides from to a c (getD qs j d .array) (getD qs j d .offset) ≡ true)
 
-module _ (k span a c : ℕ) where
-  hit-at : (xs : List Item) (m n : ℕ) → hit span a c xs m ≡ Read n → (j : ℕ) × (n ≡ m + j) × At span a c (reads k xs) j
+module _ (k from to a c : ℕ) where
+  hit-at : (xs : List Item) (m n : ℕ) → hit from to a c xs m ≡ Read n → (j : ℕ) × (n ≡ m + j) × At from to a c (reads k xs) j
   unfolding hit
   hit-at [] m n e = let z : _≡_ {A = ℕ} 0 1 = cc in absurd (omega arith)
-  hit-at (read b o ∷ xs) m n e = go (collides span a c b o) refl e (hit-at xs (m + 1) n)
+  hit-at (read b o ∷ xs) m n e = go (collides from to a c b o) refl e (hit-at xs (m + 1) n)
     where
       Goal : Type 0
-      Goal = (j : ℕ) × (n ≡ m + j) × At span a c (reads k (read b o ∷ xs)) j
+      Goal = (j : ℕ) × (n ≡ m + j) × At from to a c (reads k (read b o ∷ xs)) j
 
-      go : (x : Bool) → collides span a c b o ≡ x → pick x (Read m) (hit span a c xs (m + 1)) ≡ Read n
-          → (hit span a c xs (m + 1) ≡ Read n → (j : ℕ) × (n ≡ m + 1 + j) × At span a c (reads k xs) j) → Goal
+      go : (x : Bool) → collides from to a c b o ≡ x → pick x (Read m) (hit from to a c xs (m + 1)) ≡ Read n
+          → (hit from to a c xs (m + 1) ≡ Read n → (j : ℕ) × (n ≡ m + 1 + j) × At from to a c (reads k xs) j) → Goal
       go true f g ih = let z : m ≡ n = cc in (0, omega arith, (omega arith, λ d. f))
       go false f g ih = let (j, u, (v, w)) = ih g in (suc j, omega arith, (omega arith, w))
   hit-at (constant x ∷ xs) m n e = hit-at xs m n e
   hit-at (operation x ∷ xs) m n e = hit-at xs m n e
 
   -- the reads before it don't collide
-  hit-lower : (xs : List Item) (m n : ℕ) → hit span a c xs m ≡ Read n → (j : ℕ) (d : Reference) → m + j < n
-      → collides span a c (getD (reads k xs) j d .array) (getD (reads k xs) j d .offset) ≡ false
+  hit-lower : (xs : List Item) (m n : ℕ) → hit from to a c xs m ≡ Read n → (j : ℕ) (d : Reference) → m + j < n
+      → collides from to a c (getD (reads k xs) j d .array) (getD (reads k xs) j d .offset) ≡ false
   unfolding hit
   hit-lower [] m n e j d l = let z : _≡_ {A = ℕ} 0 1 = cc in absurd (omega arith)
-  hit-lower (read b o ∷ xs) m n e j d l = go (collides span a c b o) refl e j l (λ f i. hit-lower xs (m + 1) n f i d)
+  hit-lower (read b o ∷ xs) m n e j d l = go (collides from to a c b o) refl e j l (λ f i. hit-lower xs (m + 1) n f i d)
     where
-      go : (x : Bool) → collides span a c b o ≡ x → pick x (Read m) (hit span a c xs (m + 1)) ≡ Read n → (i : ℕ) → m + i < n
-          → (hit span a c xs (m + 1) ≡ Read n → (i : ℕ) → m + 1 + i < n
-          → collides span a c (getD (reads k xs) i d .array) (getD (reads k xs) i d .offset) ≡ false)
-          → collides span a c (getD (reads k (read b o ∷ xs)) i d .array) (getD (reads k (read b o ∷ xs)) i d .offset) ≡ false
+      go : (x : Bool) → collides from to a c b o ≡ x → pick x (Read m) (hit from to a c xs (m + 1)) ≡ Read n → (i : ℕ) → m + i < n
+          → (hit from to a c xs (m + 1) ≡ Read n → (i : ℕ) → m + 1 + i < n
+          → collides from to a c (getD (reads k xs) i d .array) (getD (reads k xs) i d .offset) ≡ false)
+          → collides from to a c (getD (reads k (read b o ∷ xs)) i d .array) (getD (reads k (read b o ∷ xs)) i d .offset) ≡ false
       go true f g i h ih = let z : m ≡ n = cc in absurd (omega arith)
       go false f g zero h ih = f
       go false f g (suc i) h ih = ih g i (omega arith)
   hit-lower (constant x ∷ xs) m n e j d l = hit-lower xs m n e j d l
   hit-lower (operation x ∷ xs) m n e j d l = hit-lower xs m n e j d l
 
-  hit-none : (xs : List Item) (m : ℕ) → hit span a c xs m ≡ Nothing → (q : Reference) → Mem q (reads k xs)
-      → collides span a c (q .array) (q .offset) ≡ false
+  hit-none : (xs : List Item) (m : ℕ) → hit from to a c xs m ≡ Nothing → (q : Reference) → Mem q (reads k xs)
+      → collides from to a c (q .array) (q .offset) ≡ false
   unfolding hit
   hit-none [] m e q h = absurd (not-nil h)
-  hit-none (read b o ∷ xs) m e q h = go (collides span a c b o) refl e (hit-none xs (m + 1))
+  hit-none (read b o ∷ xs) m e q h = go (collides from to a c b o) refl e (hit-none xs (m + 1))
     where
-      go : (x : Bool) → collides span a c b o ≡ x → pick x (Read m) (hit span a c xs (m + 1)) ≡ Nothing
-          → (hit span a c xs (m + 1) ≡ Nothing → (p : Reference) → Mem p (reads k xs) → collides span a c (p .array) (p .offset) ≡ false)
-          → collides span a c (q .array) (q .offset) ≡ false
+      go : (x : Bool) → collides from to a c b o ≡ x → pick x (Read m) (hit from to a c xs (m + 1)) ≡ Nothing
+          → (hit from to a c xs (m + 1) ≡ Nothing → (p : Reference) → Mem p (reads k xs) → collides from to a c (p .array) (p .offset) ≡ false)
+          → collides from to a c (q .array) (q .offset) ≡ false
       go true f g ih = let z : _≡_ {A = ℕ} 0 1 = cc in absurd (omega arith)
       go false f g ih = ⊎-elim (λ z. rw z f) (ih g q) (cases-cons h)
   hit-none (constant x ∷ xs) m e q h = hit-none xs m e q h
@@ -103,14 +102,11 @@ read-stores k (operation x ∷ xs) q h = read-stores k xs q h
 
 -- THE TEST DECIDES: in a loop of one statement
 module _ (t : Table) (k : ℕ) (s : Statement) (body : loop t k .body ≡ s ∷ []) where
-  span : ℕ
-  span = last t k - first t k
-
   hits : Collision
-  hits = hit span (s .array) (s .offset) (s .items) 0
+  hits = hit (first t k) (last t k) (s .array) (s .offset) (s .items) 0
 
   loop-hits : loopHit (loop t k) ≡ hits
-  unfolding loopHit hits span
+  unfolding loopHit hits
   loop-hits = rw body
 
   refs-one : refs t k ≡ destination k s ∷ reads k (s .items)
@@ -137,17 +133,19 @@ module _ (t : Table) (k : ℕ) (s : Statement) (body : loop t k .body ≡ s ∷ 
   }
 
   pub hit-collides : (n : ℕ) → k < count t → loopHit (loop t k) ≡ Read n → Collides t k n
-  unfolding hits span
-  hit-collides n few e = found (hit-at k span (s .array) (s .offset) (s .items) 0 n (sym loop-hits ∙ e))
+  unfolding hits
+  hit-collides n few e = found (hit-at k (first t k) (last t k) (s .array) (s .offset) (s .items) 0 n (sym loop-hits ∙ e))
     where
-      found : (j : ℕ) × (n ≡ 0 + j) × At span (s .array) (s .offset) (reads k (s .items)) j → Collides t k n
-      found (j, f, (l, w)) = go (decLt (q .offset) (s .offset))
+      found : (j : ℕ) × (n ≡ 0 + j) × At (first t k) (last t k) (s .array) (s .offset) (reads k (s .items)) j → Collides t k n
+      found (j, f, (l, w)) =
+          let (same, other, (x, y, a, b, c, d, at)) = apart in
+          meet-at n q few numbered named (sym same) x y (few, a, b) (few, c, d) (λ z. other (omega arith)) at
         where
           q : Reference
           q = getD (reads k (s .items)) j (destination k s)
 
-          apart : (q .array ≡ s .array) × (q .offset ≢ s .offset) × (q .offset ≤ s .offset + span) × (s .offset ≤ q .offset + span)
-          apart = collides-apart span (s .array) (s .offset) (q .array) (q .offset) (w (destination k s))
+          apart : Apart (first t k) (last t k) (s .array) (s .offset) (q .array) (q .offset)
+          apart = collides-apart (first t k) (last t k) (s .array) (s .offset) (q .array) (q .offset) (w (destination k s))
 
           is : n ≡ j
           is = omega arith
@@ -158,21 +156,12 @@ module _ (t : Table) (k : ℕ) (s : Statement) (body : loop t k .body ≡ s ∷ 
           named : getD (allReads k (loop t k .body)) n (destination k s) ≡ q
           named = rw (reads-one, is)
 
-          go : Dec (q .offset < s .offset) → Collides t k n
-          go (yes z) =
-              meet-at n q few numbered named (sym (apart .0)) (first t k) (first t k + (s .offset - q .offset))
-              (few, omega arith, omega (arith, apart .3)) (few, omega arith, omega (arith, apart .3)) (λ h. omega arith) (omega arith)
-          go (no z) =
-              meet-at n q few numbered named (sym (apart .0)) (first t k + (q .offset - s .offset)) (first t k)
-              (few, omega arith, omega (arith, apart .2, apart .1)) (few, omega arith, omega (arith, apart .2, apart .1))
-              (λ h. apart .1 (omega arith)) (omega arith)
-
   -- two iterations that meet are found by the test
   meet-found : (q : Reference) (i j : ℕ) → Inside t (iteration k i) → Inside t (iteration k j) → i ≢ j → s .array ≡ q .array
-      → i + s .offset ≡ j + q .offset → collides span (s .array) (s .offset) (q .array) (q .offset) ≡ true
-  unfolding span
+      → i + s .offset ≡ j + q .offset → collides (first t k) (last t k) (s .array) (s .offset) (q .array) (q .offset) ≡ true
   meet-found q i j a b n p g =
-      apart-collides span (s .array) (s .offset) (q .array) (q .offset) (sym p, (λ z. n (omega arith)), omega (arith, a, b), omega (arith, a, b))
+      apart-collides (first t k) (last t k) (s .array) (s .offset) (q .array) (q .offset)
+      (sym p, (λ z. n (omega arith)), (i, j, a .1, a .2, b .1, b .2, g))
 
   -- no read before the one that it names collides
   pub lower-apart : (n : ℕ) → loopHit (loop t k) ≡ Read n → (m : ℕ) → m < n → Collides t k m → ⊥
@@ -190,16 +179,16 @@ module _ (t : Table) (k : ℕ) (s : Statement) (body : loop t k .body ≡ s ∷ 
           let same : s .array ≡ q .array = sym (ap (λ (r : Reference). r .array) u) ∙ meets .0 .0 in
           let at : x .one + s .offset ≡ x .other + q .offset = omega (arith, meets .1, ap (λ (r : Reference). r .offset) u) in
           false-true
-          (sym (hit-lower k span (s .array) (s .offset) (s .items) 0 n (sym loop-hits ∙ e) m (x .target) (omega arith))
+          (sym (hit-lower k (first t k) (last t k) (s .array) (s .offset) (s .items) 0 n (sym loop-hits ∙ e) m (x .target) (omega arith))
           ∙ meet-found q (x .one) (x .other) (x .one-inside) (x .other-inside) (x .differ) same at)
       go (inr v) = false-true (sym (read-stores k (s .items) (x .target) v) ∙ x .stores)
 
   -- where the test finds nothing, no two iterations meet
   clash : (q : Reference) (i j : ℕ) → Mem q (reads k (s .items)) → loopHit (loop t k) ≡ Nothing → Inside t (iteration k i) → Inside t (iteration k j)
       → i ≢ j → s .array ≡ q .array → i + s .offset ≡ j + q .offset → ⊥
-  unfolding hits span
+  unfolding hits
   clash q i j h e a b n p g =
-      let f = hit-none k span (s .array) (s .offset) (s .items) 0 (sym loop-hits ∙ e) q h in
+      let f = hit-none k (first t k) (last t k) (s .array) (s .offset) (s .items) 0 (sym loop-hits ∙ e) q h in
       false-true (sym f ∙ meet-found q i j a b n p g)
 
   pub none-parallel : loopHit (loop t k) ≡ Nothing → Serial t k → ⊥

@@ -1,14 +1,16 @@
 // Ground 9: two different iterations of one loop meet at an element, one of them storing.
-use arithmetic::length_of;
 use arithmetic::wide;
+use overlap::overlaps;
 use records::STORE;
 use records::Store;
 use refusals::Refusal;
 use refusals::SERIAL;
 ghost use mathlib.Core.Path.{_≡_};
-ghost use Prim.Native.Nat.{_+_, _-_, _<_, _≤_};
+ghost use Prim.Native.Nat.{ℕ, _-_, _<_, _≤_};
 ghost use Rattle.refusals.specs.Answers.{accepted, refusalOf};
-ghost use Rattle.reader.specs.Store.{Sized, startAt, itemsFrom, loopAt, tableIn};
+ghost use Rattle.model.specs.Table.{count};
+ghost use Rattle.reader.specs.Store.{Sized, itemsFrom, loopAt, tableIn};
+ghost use Rattle.reader.specs.Stored.{Row};
 ghost use Rattle.reader.specs.Held.{Held};
 ghost use Rattle.reader.specs.ReadInto.{ReadInto};
 ghost use Rattle.serial.specs.Serial.{collides, hit, loopHit, through, table};
@@ -19,10 +21,10 @@ pub enum Collision {
     Read(usize),
 }
 
-// A read of array b at offset o, and a destination in array a at offset c, where last - first is the span.
-fn collide(span: usize, a: u32, c: u32, b: u32, o: u32) -> bool
-    requires { ⌜ span < 4294967296 ⌝ }
-    ensures { λ r. ⌜ r ≡ collides span a c b o ⌝ }
+// A read of array b at offset o, and a destination in array a at offset c, of a loop from first to last.
+fn collide(first: u32, last: u32, a: u32, c: u32, b: u32, o: u32) -> bool
+    requires { ⌜ (c < 65536) × (o < 65536) ⌝ }
+    ensures { λ r. ⌜ r ≡ collides first last a c b o ⌝ }
 {
     if b != a {
         return false;
@@ -30,26 +32,31 @@ fn collide(span: usize, a: u32, c: u32, b: u32, o: u32) -> bool
     if o == c {
         return false;
     }
-    if wide(c) + span < wide(o) {
-        return false;
-    }
-    if wide(o) + span < wide(c) {
-        return false;
-    }
-    true
+    let f = wide(first);
+    let l = wide(last);
+    overlaps(f, l, wide(c), f, l, wide(o))
 }
 
-// The reads among the rows from `from` up to `past`, of a loop whose destination is in array a at offset c.
-fn first_hit(store: &Store, from: usize, past: usize, span: usize, a: u32, c: u32) -> Collision
-    requires { ⌜ (past ≤ 528) × (span < 4294967296) ⌝ }
-    ensures { λ r. ⌜ r ≡ hit span a c (itemsFrom (now (store .entry)) from (past - from)) 0 ⌝ }
+// The reads among the rows from `from` up to `past`, of a loop from first to last whose destination is in array a at offset c.
+fn first_hit(
+    store: &Store,
+    from: usize,
+    past: usize,
+    first: u32,
+    last: u32,
+    a: u32,
+    c: u32,
+) -> Collision
+    requires { ⌜ (past ≤ 528) × (c < 65536) × ((r : ℕ) → r < past → Row (now store) r) ⌝ }
+    ensures { λ r. ⌜ r ≡ hit first last a c (itemsFrom (now (store .entry)) from (past - from)) 0 ⌝ }
 {
     let mut row = from;
     let mut reads: usize = 0;
     while row < past {
         if reader::kind_at(store, row) == reader::READ {
             if collide(
-                span,
+                first,
+                last,
                 a,
                 c,
                 reader::array_at(store, row),
@@ -66,19 +73,17 @@ fn first_hit(store: &Store, from: usize, past: usize, span: usize, a: u32, c: u3
 
 // The first read of loop k that collides.
 fn loop_hit(k: usize, store: &Store) -> Collision
-    requires { ⌜ (k < 16) × (startAt (now store) k < 528) × (startAt (now store) (k + 1) ≤ 528) ⌝ }
+    requires { ⌜ Held (now store) × (k < count (tableIn (now store))) ⌝ }
     ensures { λ r. ⌜ r ≡ loopHit (loopAt (now (store .entry)) k) ⌝ }
 {
     let from = reader::start_at(store, k);
     let past = reader::start_at(store, k + 1);
-    let first = reader::first_at(store, k);
-    let last = reader::last_at(store, k);
-    let span = length_of(first, last);
     first_hit(
         store,
         from + 1,
         past,
-        span,
+        reader::first_at(store, k),
+        reader::last_at(store, k),
         reader::array_at(store, from),
         reader::value_at(store, from),
     )

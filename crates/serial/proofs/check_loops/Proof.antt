@@ -2,7 +2,7 @@ use native.Mathlib.Omega.{arith}
 use denote.Ref.{now}
 use Prim.Native.Nat.{_-_}
 use Rattle.reader.specs.Held.{few-loops, count-held}
-use Rattle.serial.proofs.Walks.{LoopInv, loops-start, there, loop-passed, loop-collides, loops-done, rows-known}
+use Rattle.serial.proofs.Walks.{LoopInv, loops-start, there, loop-passed, loop-collides, loops-done}
 use borrow.Author.Needs.{needs}
 use Rattle.serial.proofs.check_loops.Statement.{statement}
 use Rattle.serial.proofs.check_loops.Tie as tie
@@ -20,7 +20,7 @@ loop-hit-requires : tie.Need-loop-hit-requires Inv-loop μ-loop
 loop-hit-requires c κs =
     let l = c .before .loop in
     let b = c .before .before .before in
-    rows-known (now (b .args .store)) (b .pre) (l .k) (there (now (b .args .store)) (b .pre) _ (l .k) (l .inv) (c .loop-test .taken))
+    (b .pre, there (now (b .args .store)) (b .pre) _ (l .k) (l .inv) (c .loop-test .taken))
 
 add-k : tie.Need-add-k Inv-loop μ-loop
 add-k c =
