@@ -9,17 +9,10 @@ use lib.Dec.{ltb, eqb}
 use Rattle.model.specs.declared.Reference.{Reference}
 use Rattle.model.specs.Table.{Table, first, last}
 use Rattle.model.specs.References.{touch, Touch, Meet}
+use Rattle.overlap.specs.Booleans.{both-true, either-true}
 use Rattle.overlap.specs.Overlap.{overlap}
 use Rattle.overlap.specs.OverlapLaws.{meeting-is, is-meeting, overlap-meeting}
 use Rattle.chains.specs.Dependence.{meetIn, dependence, backward, forward}
-
-pub both-true : (a b : Bool) → (a && b) ≡ true → (a ≡ true) × (b ≡ true)
-both-true true b e = (refl, e)
-both-true false b e = absurd (false≢true e)
-
-either-true : (a b : Bool) → (a || b) ≡ true → (a ≡ true) ⊎ (b ≡ true)
-either-true true b e = inl refl
-either-true false b e = inr e
 
 -- iteration i + d of y's loop is j
 pub meet-amounts : (x y : Reference) (i j : ℕ) → (i + x .offset ≡ j + y .offset) ↔ (j + backward x y ≡ i + forward x y)

@@ -8,8 +8,9 @@ use borrow.Author.Tests.{ltb-true, lt-ltb}
 use Rattle.model.specs.declared.Reference.{Reference}
 use Rattle.model.specs.Table.{Table, count}
 use Rattle.model.specs.References.{touch, allRefs}
+use Rattle.overlap.specs.Booleans.{both-true}
 use Rattle.chains.specs.Graph.{Graph}
-use Rattle.chains.specs.DependenceLaws.{both-true, touch-is, dependence-meets}
+use Rattle.chains.specs.DependenceLaws.{touch-is, dependence-meets}
 use Rattle.chains.specs.TableGraph.{graph}
 use Rattle.chains.specs.Walk.{numbers, Ordered, Below}
 use Rattle.chains.specs.Largest.{numbers-legal, numbers-least}

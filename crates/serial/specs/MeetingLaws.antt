@@ -9,6 +9,7 @@ use mathlib.Core.List.{List·Memᴰ as Mem, List·Memᴰ·head as mhere, List·M
 use lib.ListN.{length, getD}
 use lib.Dec.{eqb}
 use borrow.Author.Tests.{eqb-true, eqb-false, not-true, eq-eqb, ne-eqb}
+use Rattle.overlap.specs.Booleans.{both-true}
 use Rattle.overlap.specs.OverlapLaws.{Meeting, overlap-is, is-overlap}
 use Rattle.model.specs.declared.Reference.{Reference}
 use Rattle.model.specs.Table.{Item, read, constant, operation, Statement, Table, loop, count, first, last, iteration, Inside}
@@ -22,10 +23,6 @@ use Rattle.serial.specs.Meeting.{Serial, allReads, Collides}
 false-true : false ≡ true → ⊥
 false-true e = let z : _≡_ {A = ℕ} 0 1 = cc in omega arith
 
-both : (a b : Bool) → (a && b) ≡ true → (a ≡ true) × (b ≡ true)
-both true b e = (refl, e)
-both false b e = absurd (false-true e)
-
 module _ (f l a c b o : ℕ) where
   -- what a collision is
   abbrev Apart : Type 0
@@ -34,8 +31,8 @@ module _ (f l a c b o : ℕ) where
   collides-apart : collides f l a c b o ≡ true → Apart
   unfolding collides
   collides-apart e =
-      let (p, q) = both (eqb b a) _ e in
-      let (r, s) = both (not (eqb o c)) _ q in
+      let (p, q) = both-true (eqb b a) _ e in
+      let (r, s) = both-true (not (eqb o c)) _ q in
       (eqb-true b a p, eqb-false o c (not-true (eqb o c) r), overlap-is f l c f l o s)
 
   apart-collides : Apart → collides f l a c b o ≡ true
