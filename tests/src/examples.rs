@@ -70,6 +70,19 @@ pub fn shift_here_peel_there() -> Vec<u8> {
     loops_reading(&[&[], &[(0, 3)], &[], &[(2, -2)]])
 }
 
+/// Loop 0 from 1 to `last` stores A0[i]; loop 1 from 5 to 9 reads A0[i+2].
+pub fn two_ahead(last: u32) -> Vec<u8> {
+    let encoder = Encoder::new().array(12).array(12).a_loop(1, last, 0, 0).constant(1);
+    encoder.a_loop(5, 9, 1, 0).read(0, 2).end().bytes
+}
+
+/// The mirror of it: loop 0 from 5 to 9 stores A0[i]; loop 1 from 2 to `last`
+/// reads A0[i-2].
+pub fn two_behind(last: u32) -> Vec<u8> {
+    let encoder = Encoder::new().array(12).array(12).a_loop(5, 9, 0, 0).constant(1);
+    encoder.a_loop(2, last, 1, 0).read(0, -2).end().bytes
+}
+
 /// One loop over ten indices, threshold 0.
 pub fn ten_indices() -> Vec<u8> {
     Encoder::new().array(10).a_loop(0, 9, 0, 0).constant(4).end().bytes

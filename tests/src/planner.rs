@@ -11,13 +11,18 @@ pub struct Amounts {
 
 /// Shift and peel of each loop.
 pub fn amounts(table: &Table) -> Vec<Amounts> {
-    let ending = dependences(table);
+    amounts_of(&dependences(table))
+}
+
+/// The same from dependences that are given, those that end at loop k in row
+/// k.
+pub fn amounts_of(ending: &[Vec<Dependence>]) -> Vec<Amounts> {
     let mut shifts = vec![None; ending.len()];
     let mut peels = vec![None; ending.len()];
     (0..ending.len())
         .map(|k| Amounts {
-            shift: largest(&ending, &mut shifts, k, Dependence::backward),
-            peel: largest(&ending, &mut peels, k, Dependence::forward),
+            shift: largest(ending, &mut shifts, k, Dependence::backward),
+            peel: largest(ending, &mut peels, k, Dependence::forward),
         })
         .collect()
 }
