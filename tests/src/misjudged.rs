@@ -30,6 +30,12 @@ const WAYS: [(&str, Way); 17] = [
     ("chains through the same elements alone", along_iterations),
 ];
 
+/// Whether a table has other shifts and peels than one whose loops' bounds are
+/// not asked.
+pub fn bounds_matter(table: &Table) -> bool {
+    amounts(table) != by(table, |_, _, _| true)
+}
+
 /// First and last index.
 type Bounds = (i64, i64);
 
