@@ -60,14 +60,29 @@ static int ends_alone(const struct loop *j, const struct loop *k, int64_t d) { r
 static int strictly(const struct loop *j, const struct loop *k, int64_t d) { return common(j, k, d) > 1; }
 static int miss_by_one(const struct loop *j, const struct loop *k, int64_t d) { return common(j, k, d) > -1; }
 
+static int farthest_not_asked(const struct loop *j, const struct loop *k, int64_t d) {
+    return d == 510 || d == -510 || common(j, k, d) > 0;
+}
+static int far_strictly(const struct loop *j, const struct loop *k, int64_t d) {
+    return common(j, k, d) > (d >= 300 || d <= -300);
+}
+
 /* The rule of the fault that is chosen, or none. */
 static rule *chosen(const char *call) {
     static const struct {
         const char *name;
         rule *rule;
-    } all[] = {{"bounds-not-asked", not_asked},   {"earlier-bounds-alone", earlier_alone}, {"later-bounds-alone", later_alone},
-               {"late-begin-alone", begin_alone}, {"early-end-alone", end_alone},          {"other-sign", other_sign},
-               {"ends-alone", ends_alone},        {"strictly-less", strictly},             {"miss-by-one", miss_by_one}};
+    } all[] = {{"bounds-not-asked", not_asked},
+               {"earlier-bounds-alone", earlier_alone},
+               {"later-bounds-alone", later_alone},
+               {"late-begin-alone", begin_alone},
+               {"early-end-alone", end_alone},
+               {"other-sign", other_sign},
+               {"ends-alone", ends_alone},
+               {"strictly-less", strictly},
+               {"miss-by-one", miss_by_one},
+               {"farthest-not-asked", farthest_not_asked},
+               {"far-strictly-less", far_strictly}};
     for (size_t i = 0; i < sizeof all / sizeof *all; i++)
         if (fault_in(call, all[i].name)) return all[i].rule;
     return NULL;
@@ -92,7 +107,7 @@ static void carry(struct found *found, rule *meet, int j, int k) {
 /* The largest totals of the chains that end at each iteration of each loop: shift and peel. */
 static uint32_t ending[MOST_LOOPS][MOST_ITERATIONS][2];
 
-/* The same for each iteration of k by itself: a chain counts only where each dependence begins at the iteration where the last one ended. */
+/* The same for each iteration of k by itself: a dependence goes on a chain only from the iteration where the one before ended. */
 static void carry_alone(struct found *found, int j, int k) {
     const struct loop *one = &found->loop[j], *other = &found->loop[k];
     for (int a = 0; a < one->references; a++)
