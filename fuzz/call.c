@@ -12,7 +12,7 @@ static const char *const names[ENTRIES] = {"check",      "join",        "facts",
                                            "sweeps",     "blocks",      "listing",      "fused list",       "peeled list",
                                            "fused ranges", "peeled ranges", "plain run", "step",            "run"};
 
-static uint64_t met[ENTRIES][16], named_reads[MOST_READS];
+static uint64_t met[ENTRIES][16], named_reads[MOST_READS], with_pairs[MEETINGS];
 
 /* The library is not instrumented, so the fuzzer learns what is new from the answers. Without libFuzzer this is a plain array. */
 #if defined(__clang__)
@@ -26,6 +26,10 @@ void begin_call(struct call *call, const uint8_t *bytes, size_t length, uint32_t
     if (call->verdict[0]) return;
     find_amounts(&call->table, &call->plan);
     call->planned = find_blocks(&call->plan, processors);
+}
+
+void count_pairs(const struct call *call) {
+    for (int kind = 0; kind < MEETINGS && !call->verdict[0]; kind++) with_pairs[kind] += call->plan.pairs[kind] > 0;
 }
 
 void expect(struct call *call, enum entry entry, uint64_t ground) {
@@ -77,6 +81,9 @@ void tell(void) {
     fprintf(stderr, "  reads that check named with 9:");
     for (int read = 0; read < MOST_READS; read++)
         if (named_reads[read]) fprintf(stderr, " %d:%" PRIu64, read, named_reads[read]);
+    fprintf(stderr, "\n");
+    fprintf(stderr, "  tables with loops that are apart, miss by one, meet once, meet often:");
+    for (int kind = 0; kind < MEETINGS; kind++) fprintf(stderr, " %" PRIu64, with_pairs[kind]);
     fprintf(stderr, "\n");
 }
 

@@ -27,6 +27,9 @@ struct call {
 /* Reads the bytes by the model and plans them. `call` stays where it is from then on, for its plan points to its table. */
 void begin_call(struct call *call, const uint8_t *bytes, size_t length, uint32_t processors);
 
+/* Counts an accepted table by how the references of its loops meet. */
+void count_pairs(const struct call *call);
+
 /* Sets what the next call is to answer: the refusal of the bytes, or else `ground` (0 where it is accepted). */
 void expect(struct call *call, enum entry entry, uint64_t ground);
 

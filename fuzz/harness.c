@@ -47,6 +47,7 @@ int LLVMFuzzerTestOneInput(const uint8_t *data, size_t size) {
     else if (seldom(&bytes, size_made > 1000 ? 2 : 16)) p = p % 2 ? 64 : 48 + p % 16;
     else p = p < 224 ? p % 9 : p < 240 ? p - 160 : wide(&bytes, 1 + p % 8);
     begin_call(&call, length ? table : NULL, length, p);
+    count_pairs(&call);
     check(&call);
     if (length) another_byte(&call, table, &bytes);
     if (vempaldi_version() != VEMPALDI_VERSION) breach(&call, "the library's version is not the header's");

@@ -49,9 +49,15 @@ struct iteration {
     uint32_t loop, index;
 };
 
+/* Two references of two loops to one array, of which one stores, by the elements that both reach: none, none but with one index more, one,
+ * or several. */
+enum meeting { APART, NEXT, ONCE, OFTEN, MEETINGS };
+
 struct plan {
     const struct table *table;
     int64_t shift[MOST_LOOPS], peel[MOST_LOOPS], threshold;
+    /* How many such pairs there are of each kind. */
+    uint32_t pairs[MEETINGS];
     uint32_t processors;
     /* First and last index of each block. */
     int64_t begin[MOST_PROCESSORS], end[MOST_PROCESSORS];

@@ -16,13 +16,24 @@ static int references(const struct loop *loop, struct reference out[1 + MOST_ITE
     return count;
 }
 
-/* What the dependences from loop j give loop k: a chain that ends at j goes on by each of them. */
+/* How many elements of their array two references of two loops both reach; 0 and less where they reach none, the less the farther apart. */
+static int64_t common_elements(const struct loop *one, struct reference in_one, const struct loop *other, struct reference in_other) {
+    int64_t lowest = greater(one->first + in_one.offset, other->first + in_other.offset);
+    return lesser(one->last + in_one.offset, other->last + in_other.offset) - lowest + 1;
+}
+
+/* What the dependences from loop j give loop k: a chain that ends at j goes on by each of them. Two references make one where they reach a
+ * common element, and not both read it. */
 static void carry(struct plan *plan, int j, int k) {
+    const struct loop *before = &plan->table->loop[j], *behind = &plan->table->loop[k];
     struct reference from[1 + MOST_ITEMS], to[1 + MOST_ITEMS];
-    int froms = references(&plan->table->loop[j], from), tos = references(&plan->table->loop[k], to);
+    int froms = references(before, from), tos = references(behind, to);
     for (int a = 0; a < froms; a++)
         for (int b = 0; b < tos; b++) {
             if (from[a].array != to[b].array || (a > 0 && b > 0)) continue;
+            int64_t common = common_elements(before, from[a], behind, to[b]);
+            plan->pairs[common < 0 ? APART : common == 0 ? NEXT : common == 1 ? ONCE : OFTEN]++;
+            if (common < 1) continue;
             int64_t distance = from[a].offset - to[b].offset;
             plan->shift[k] = greater(plan->shift[k], plan->shift[j] + greater(-distance, 0));
             plan->peel[k] = greater(plan->peel[k], plan->peel[j] + greater(distance, 0));

@@ -14,11 +14,13 @@ int fault(const char *name) {
 
 size_t low_of(const char *name, size_t length) { return fault(name) ? length & 0xffff : length; }
 
-size_t length_in(const char *call, size_t length) {
-    char name[64];
-    snprintf(name, sizeof name, "%s-length-16-bits", call);
-    return low_of(name, length);
+int fault_in(const char *call, const char *name) {
+    char whole[64];
+    snprintf(whole, sizeof whole, "%s-%s", call, name);
+    return fault(whole);
 }
+
+size_t length_in(const char *call, size_t length) { return fault_in(call, "length-16-bits") ? length & 0xffff : length; }
 
 void mask(uint8_t *out, uint64_t written, uint32_t bits) {
     for (uint64_t at = 0; at + 4 <= written; at += 4) put_at(out + at, number_at(out + at) & bits);

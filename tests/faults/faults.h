@@ -8,6 +8,9 @@
 /* Whether the fault of this name is chosen. */
 int fault(const char *name);
 
+/* Whether the fault CALL-NAME is chosen. */
+int fault_in(const char *call, const char *name);
+
 /* A table's length as the call takes it: of the fault CALL-length-16-bits the low two bytes alone. */
 size_t length_in(const char *call, size_t length);
 
@@ -25,6 +28,10 @@ void put_at(uint8_t *at, uint32_t number);
 uint64_t loops_of(const uint8_t *table, size_t table_length);
 
 void refuse(uint64_t answer[4], uint64_t ground);
+
+/* Shifts and peels, or the threshold, of an accepted table by a wrong rule on which loops meet, where such a fault is chosen. */
+void misjudge_amounts(const uint8_t *table, uint8_t *out);
+void misjudge_threshold(const uint8_t *table, uint8_t *out);
 
 #define REAL(name) extern __typeof__(vempaldi_##name) real_vempaldi_##name
 REAL(version);

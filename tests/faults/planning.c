@@ -26,6 +26,7 @@ uint64_t vempaldi_shifts_and_peels(const uint8_t *table, size_t table_length, ui
     uint64_t written = real_vempaldi_shifts_and_peels(table, table_length, out, out_length, answer);
     if (fault("amounts-11-bits")) mask(out, written, 0x7ff);
     if (fault("amounts-all-0") && !answer[0]) memset(out, 0, written);
+    if (!answer[0]) misjudge_amounts(table, out);
     return written;
 }
 
@@ -48,6 +49,7 @@ uint64_t vempaldi_threshold(const uint8_t *table, size_t table_length, uint8_t *
     if (fault("threshold-12-bits")) mask(out, written, 0xfff);
     if (fault("threshold-byte-behind") && out_length > written) out[written] ^= 1;
     if (fault("threshold-of-two-loops")) put_at(out, of_two_loops(table, table_length));
+    misjudge_threshold(table, out);
     return written;
 }
 

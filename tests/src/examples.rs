@@ -70,6 +70,55 @@ pub fn shift_here_peel_there() -> Vec<u8> {
     loops_reading(&[&[], &[(0, 3)], &[], &[(2, -2)]])
 }
 
+/// Loop 0 from 1 to `last` stores A0[i]; loop 1 from 5 to 9 reads A0[i+2].
+pub fn two_ahead(last: u32) -> Vec<u8> {
+    let encoder = Encoder::new().array(12).array(12).a_loop(1, last, 0, 0).constant(1);
+    encoder.a_loop(5, 9, 1, 0).read(0, 2).end().bytes
+}
+
+/// What the listing program writes for these loops and three processors, where
+/// they never meet (6) and where they do (7).
+pub const TWO_AHEAD_LISTINGS: [(u32, &str); 2] = [
+    (
+        6,
+        "\
+loop 0 0 0
+loop 1 0 0
+block 0 1 3
+block 1 4 6
+block 2 7 9
+fused 0 0 1 3
+fused 1 0 4 6
+fused 1 1 5 6
+fused 2 1 7 9
+sweeps 5 4
+",
+    ),
+    (
+        7,
+        "\
+loop 0 0 0
+loop 1 2 0
+block 0 1 3
+block 1 4 6
+block 2 7 9
+fused 0 0 1 3
+fused 1 0 4 6
+fused 2 0 7 7
+fused 2 1 7 9
+peeled 1 1 5 6
+sweeps 5 4
+",
+    ),
+];
+
+/// The mirror of it: loop 0 from 5 to 9 stores A0[i]; loop 1 from 2 to `last`
+/// reads A0[i-2].
+pub fn two_behind(last: u32) -> Vec<u8> {
+    let encoder = Encoder::new().array(12).array(12).a_loop(5, 9, 0, 0).constant(1);
+    encoder.a_loop(2, last, 1, 0).read(0, -2).end().bytes
+}
+
 /// One loop over ten indices, threshold 0.
 pub fn ten_indices() -> Vec<u8> {
     Encoder::new().array(10).a_loop(0, 9, 0, 0).constant(4).end().bytes

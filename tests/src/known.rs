@@ -70,6 +70,19 @@ fn a_store_that_follows_a_read_counts() {
 }
 
 #[test]
+fn loops_that_never_meet_have_no_dependence() {
+    assert_eq!(shifts_and_peels(&two_ahead(6)), [(0, 0), (0, 0)]);
+    assert_eq!(shifts_and_peels(&two_ahead(7)), [(0, 0), (2, 0)]);
+    assert_eq!(shifts_and_peels(&two_behind(6)), [(0, 0), (0, 0)]);
+    assert_eq!(shifts_and_peels(&two_behind(7)), [(0, 0), (0, 2)]);
+    for (last, wanted) in TWO_AHEAD_LISTINGS {
+        assert_eq!(listing(&two_ahead(last), 3), wanted);
+    }
+    // Nine indices, so a block of one each where nothing is shifted.
+    assert_eq!((number(&two_ahead(6), 9), number(&two_ahead(7), 9)), (0, 11));
+}
+
+#[test]
 fn the_threshold_is_of_one_loop() {
     let found = shifts_and_peels(&shift_here_peel_there());
     assert_eq!(found, [(0, 0), (3, 0), (0, 0), (0, 2)]);

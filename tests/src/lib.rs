@@ -3,6 +3,7 @@
 
 pub mod blocks;
 pub mod bodies;
+pub mod boundaries;
 pub mod collisions;
 pub mod damage;
 pub mod dependence;
@@ -24,7 +25,9 @@ pub mod limits;
 pub mod listing;
 pub mod lists;
 pub mod measure;
+pub mod meeting;
 pub mod memories;
+pub mod misjudged;
 pub mod misnamed;
 pub mod outcome;
 pub mod outputs;

@@ -8,6 +8,8 @@ mod entries;
 mod large;
 #[path = "planning/listings.rs"]
 mod listings;
+#[path = "planning/meetings.rs"]
+mod meetings;
 #[path = "planning/numbers.rs"]
 mod numbers;
 #[path = "planning/version.rs"]
@@ -19,6 +21,7 @@ fn main() {
     parts::run(&[
         ("version", version::compare),
         ("large", large::compare_all),
+        ("meetings", meetings::compare_all),
         ("listings", listings::compare_all),
         ("entries", entries::compare_all),
         ("numbers", numbers::compare_all),

@@ -2,7 +2,7 @@
 
 use vempaldi_checks::damage;
 use vempaldi_checks::encoder::encode;
-use vempaldi_checks::examples::EXAMPLE;
+use vempaldi_checks::examples::{two_ahead, EXAMPLE, EXAMPLE_LISTING, TWO_AHEAD_LISTINGS};
 use vempaldi_checks::lent;
 use vempaldi_checks::library_planning as library;
 use vempaldi_checks::limits;
@@ -32,6 +32,7 @@ struct Counts {
 
 pub fn compare_all() {
     let mut counts = Counts { tables: 0, with_peeled: 0, grounds: Tally::new() };
+    typed();
     for count in 0..=255 {
         compare(&mut counts, &EXAMPLE, count);
     }
@@ -49,6 +50,19 @@ pub fn compare_all() {
     counts.grounds.require(&[0, 1, 2, 3, 4, 5, 6, 7, 8, 9, 10, 11], LEAST_OF_EACH);
     assert!(counts.tables >= LEAST_TABLES, "too few tables");
     assert!(counts.with_peeled >= LEAST_WITH_PEELED, "too few plans with peeled lines");
+}
+
+/// Known listings, typed: the example's, and those of loops that meet and do
+/// not.
+fn typed() {
+    let ahead = TWO_AHEAD_LISTINGS.map(|(last, text)| (two_ahead(last), 3, text));
+    let example = (EXAMPLE.to_vec(), 2, EXAMPLE_LISTING);
+    for (table, processors, wanted) in ahead.into_iter().chain([example]) {
+        let mut out = [0; 256];
+        let (_, written) = library::listing(&table, processors, &mut out);
+        let found = String::from_utf8_lossy(&out[..written as usize]);
+        assert_eq!(found, wanted, "a typed listing for {processors} processors");
+    }
 }
 
 /// Seed, shape and count of the tables of each kind.

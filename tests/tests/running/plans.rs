@@ -1,6 +1,7 @@
 //! Random tables with a number of processors for which they have a plan.
 
 use vempaldi_checks::encoder::encode;
+use vempaldi_checks::meeting;
 use vempaldi_checks::processors;
 use vempaldi_checks::random::Random;
 use vempaldi_checks::stepping::Schedule;
@@ -39,11 +40,12 @@ pub fn planned(random: &mut Random) -> Planned {
 }
 
 fn a_table(random: &mut Random) -> Table {
-    match random.below(9) {
+    match random.below(11) {
         0 | 1 => tables::any(random, &SMALL),
         2 | 3 => tables::aligned(random, &SMALL),
         4 | 5 => tables::aligned(random, &NEAR),
         6 | 7 => tables::aligned(random, &CHAINED),
+        8 | 9 => meeting::short_table(random),
         _ => tables::aligned(random, &WIDE),
     }
 }

@@ -7,6 +7,7 @@ use crate::stop::{first_difference, same_bits, stop};
 use vempaldi_checks::interpreter::plain_run;
 use vempaldi_checks::library_running as library;
 use vempaldi_checks::memories;
+use vempaldi_checks::misjudged::bounds_matter;
 use vempaldi_checks::outcome::agrees;
 use vempaldi_checks::random::Random;
 use vempaldi_checks::stepping::{Counts, Report};
@@ -19,6 +20,9 @@ struct Calls {
     rows: u64,
     /// Plans for 64 processors, which use every count of the state.
     widest: u64,
+    /// Plans of loops that would be shifted or peeled more if their bounds
+    /// were not asked.
+    apart: u64,
     done: u64,
     waiting: u64,
     finished: u64,
@@ -32,6 +36,8 @@ pub fn compare_all() {
         let planned = planned(&mut random);
         let processors = planned.schedule.processors();
         calls.widest += u64::from(processors == 64);
+        let parallel = processors > 1;
+        calls.apart += u64::from(parallel && bounds_matter(&planned.schedule.table));
         for scheduler in schedulers::every(&mut random, processors) {
             row(&mut calls, &mut random, &planned, scheduler);
         }
@@ -41,7 +47,9 @@ pub fn compare_all() {
         calls.rows, calls.done, calls.waiting, calls.finished, calls.refused
     );
     println!("  {} of {PLANS} plans for 64 processors", calls.widest);
+    println!("  {} for two processors and more with loops that bounds keep apart", calls.apart);
     assert!(calls.widest >= 50, "too few plans for 64 processors");
+    assert!(calls.apart >= 500, "too few plans of loops that never meet");
     for count in [calls.rows, calls.done, calls.waiting, calls.finished, calls.refused] {
         assert!(count >= LEAST_OF_EACH, "too few calls of one kind");
     }

@@ -30,6 +30,14 @@ pub fn measure() {
     compare_amounts("shifts and peels alone, 400 mixed tables", &mixed);
     compare_amounts("shifts and peels alone, full tables, each array stored once", &full);
     compare_amounts("shifts and peels alone, full tables, two arrays shared", &dense);
+    compare_amounts(
+        "shifts and peels alone, each array stored once, each loop a sixteenth of the indices",
+        &full.iter().map(sixteenths).collect::<Vec<Table>>(),
+    );
+    compare_amounts(
+        "shifts and peels alone, two arrays shared, each loop a sixteenth of the indices",
+        &dense.iter().map(sixteenths).collect::<Vec<Table>>(),
+    );
     compare_facts("facts, 400 mixed tables", &mixed);
     compare_facts("facts, full tables", &full);
     compare_ranges("fused and peeled ranges of all 16 processors, 400 mixed tables", &mixed);
@@ -202,6 +210,18 @@ fn dense(random: &mut Random) -> Table {
         })
         .collect();
     Table { arrays, loops }
+}
+
+/// The same table with its sixteen loops one behind the other, each over a
+/// sixteenth of the indices: neighbours meet, and no other two loops do.
+fn sixteenths(table: &Table) -> Table {
+    let mut parted = table.clone();
+    for (k, one) in parted.loops.iter_mut().enumerate() {
+        let part = (one.last - one.first + 1) / MOST_LOOPS as u32;
+        one.first += k as u32 * part;
+        one.last = one.first + part - 1;
+    }
+    parted
 }
 
 /// A loop from `margin` to `last` whose references lie within `margin`.
