@@ -20,7 +20,7 @@ use Rattle.model.specs.Table.{Item, read, constant, operation, Table, count}
 use Rattle.model.specs.References.{reads, refs, allRefs}
 use Rattle.reader.specs.Store.{firstAt, lastAt, startAt, kindAt, arrayAt, itemsFrom, tableIn}
 use Rattle.reader.specs.Held.{Held, first-held, last-held, count-held, few-loops, opening-held}
-use Rattle.overlap.specs.Overlap.{intersecting, overlap}
+use Rattle.overlap.specs.Overlap.{overlap}
 use Rattle.overlap.specs.OverlapLaws.{overlap-meeting}
 use Rattle.chains.specs.Dependence.{meetIn, dependence, backward, forward}
 use Rattle.chains.specs.DependenceLaws.{none-of-reads, none-apart}
@@ -31,10 +31,9 @@ use Rattle.chains.specs.Walk.{required, walk, numbers}
 use Rattle.chains.specs.WalkLaws.{required-met, required-none, required-late, walk-append, walk-loop, zeros}
 use Rattle.chains.specs.Bounds.{Small, AtMost, walk-small}
 use Rattle.chains.specs.Tables.{refs-number, refs-allRefs}
-use Rattle.amounts.specs.declared.Reaching.{Reaching}
 use Rattle.amounts.specs.declared.Requirement.{Requirement}
 use Rattle.amounts.specs.Rows.{refIn, readsIn, row-read, row-other, reads-next, reads-end, row-in, start-in, in-range}
-use Rattle.amounts.specs.Walked.{ReferenceFits, Reaches, row-fits, ofPairs, Required, RequiredOf, Bounded, Walked}
+use Rattle.amounts.specs.Walked.{ReferenceFits, row-fits, ofPairs, Required, RequiredOf, Bounded, Walked}
 
 -- reads do not store
 reads-stores : (k : ℕ) (xs : List Item) (r : Reference) → Mem r (reads k xs) → r .stores ≡ false
@@ -79,15 +78,18 @@ read-kind c r q e = go (ℕ-discrete (kindAt c r) 0)
     go (yes k) = k
     go (no k) = absurd (false≢true (rw (ne-eqb _ _ k) at e))
 
--- the test of two references, on the elements that they go over
-pub meet-stored : {c : List ℕ} → Held c → (x : Reference) (y : Reaching) → ReferenceFits (tableIn c) x → Reaches (tableIn c) y → (f l : ℕ)
-    → f ≡ firstAt c (x .number) → l ≡ lastAt c (x .number) → (b : Bool) → b ≡ intersecting (f + x .offset) (l + x .offset) (y .low) (y .high)
-    → b ≡ meetIn (tableIn c) x (y .reference)
-unfolding overlap
-meet-stored h x y u v f l a d b e =
+-- the test of two references, on the bounds as they are stored
+pub meet-stored : {c : List ℕ} → Held c → (x y : Reference) → ReferenceFits (tableIn c) x → ReferenceFits (tableIn c) y → (f l g m : ℕ)
+    → f ≡ firstAt c (x .number) → l ≡ lastAt c (x .number) → g ≡ firstAt c (y .number) → m ≡ lastAt c (y .number) → (b : Bool)
+    → b ≡ overlap f l (x .offset) g m (y .offset) → b ≡ meetIn (tableIn c) x y
+meet-stored h x y u v f l g m a d p q b e =
     e
-    ∙ rw (a ∙ sym (first-held h (x .number) (u .number)), d ∙ sym (last-held h (x .number) (u .number)), v .low-is, v .high-is)
-    (overlap-meeting _ _ (x .offset) _ _ (y .reference .offset))
+    ∙ rw (
+      a ∙ sym (first-held h (x .number) (u .number)),
+      d ∙ sym (last-held h (x .number) (u .number)),
+      p ∙ sym (first-held h (y .number) (v .number)),
+      q ∙ sym (last-held h (y .number) (v .number)),
+    ) (overlap-meeting _ _ _ _ _ _)
 
 -- WHAT PAIRS REQUIRE OF A LOOP
 module _ {t : Table} {shifts peels : List ℕ} {y : Reference} where

@@ -1,12 +1,12 @@
 -- What the walk over pairs of references has come to.
-use Prim.Native.Nat.{ℕ, _+_, max, _≤_, _<_}
+use Prim.Native.Nat.{ℕ, max, _≤_, _<_}
 use mathlib.Core.Path.{_≡_}
 use native.Mathlib.Omega.{arith}
 use mathlib.Core.Bool.{Bool}
 use mathlib.Core.List.{List}
 use lib.ListN.{length}
 use Rattle.model.specs.declared.Reference.{Reference}
-use Rattle.model.specs.Table.{Table, count, first, last}
+use Rattle.model.specs.Table.{Table, count}
 use Rattle.reader.specs.Store.{kindAt}
 use Rattle.reader.specs.Stored.{Row}
 use Rattle.chains.specs.Graph.{Graph}
@@ -15,7 +15,6 @@ use Rattle.chains.specs.TableGraph.{graph}
 use Rattle.chains.specs.Maximum.{maximum}
 use Rattle.chains.specs.Walk.{required, walk}
 use Rattle.chains.specs.Bounds.{Small}
-use Rattle.amounts.specs.declared.Reaching.{Reaching}
 use Rattle.amounts.specs.declared.Requirement.{Requirement}
 use Rattle.amounts.specs.Rows.{refIn}
 
@@ -28,12 +27,6 @@ pub record ReferenceFits (t : Table) (x : Reference) : Type 0 where
 
 pub row-fits : (t : Table) (c : List ℕ) (n r : ℕ) (stores : Bool) → n < count t → n < 16 → Row c r → kindAt c r < 2 → ReferenceFits t (refIn c n r stores)
 row-fits t c n r stores l few row k = record { number = l; few = few; array = omega arith; offset = row .offset k }
-
--- and one with the elements that its loop goes over through it
-pub record Reaches (t : Table) (y : Reaching) : Type 0 where
-  pub fits : ReferenceFits t (y .reference)
-  pub low-is : y .low ≡ first t (y .reference .number) + y .reference .offset
-  pub high-is : y .high ≡ last t (y .reference .number) + y .reference .offset
 
 -- a has what dependences of the table t from the references xs to y require of y's loop, where that is more than was required before
 pub record Required (t : Table) (shifts peels : List ℕ) (y : Reference) (xs : List Reference) (before a : Requirement) : Type 0 where

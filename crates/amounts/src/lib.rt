@@ -15,7 +15,7 @@ ghost use Rattle.chains.specs.TableGraph.{graph};
 ghost use Rattle.chains.specs.Walk.{required, shifts, peels};
 ghost use Rattle.chains.specs.Threshold.{threshold};
 ghost use Rattle.amounts.specs.Rows.{refIn, readsIn};
-ghost use Rattle.amounts.specs.Walked.{ReferenceFits, Reaches, Required, RequiredOf, Walked, Bounded};
+ghost use Rattle.amounts.specs.Walked.{ReferenceFits, Required, RequiredOf, Walked, Bounded};
 use arithmetic::above;
 use arithmetic::larger;
 use arithmetic::wide;
@@ -40,32 +40,31 @@ fn either(a: bool, b: bool) -> bool
     if a { true } else { b }
 }
 
-// A reference with the elements that its loop goes over through it, from low to high, both counted with 255 added.
-struct Reaching {
-    reference: Reference,
-    low: usize,
-    high: usize,
-}
-
 // Whether some iterations of the loops of x and y, within their bounds, are at one element.
-fn meet(store: &Store, x: Reference, y: Reaching) -> bool
-    requires { ⌜ Held (now store) × ReferenceFits (tableIn (now store)) x × Reaches (tableIn (now store)) y ⌝ }
-    ensures { λ r. ⌜ r ≡ meetIn (tableIn (now (store .entry))) x (y .reference) ⌝ }
+fn meet(store: &Store, x: Reference, y: Reference) -> bool
+    requires { ⌜ Held (now store) × ReferenceFits (tableIn (now store)) x × ReferenceFits (tableIn (now store)) y ⌝ }
+    ensures { λ r. ⌜ r ≡ meetIn (tableIn (now (store .entry))) x y ⌝ }
 {
     let j = x.number;
-    let low = wide(reader::first_at(store, j)) + x.offset;
-    let high = wide(reader::last_at(store, j)) + x.offset;
-    overlap::intersect(low, high, y.low, y.high)
+    let k = y.number;
+    overlap::overlaps(
+        wide(reader::first_at(store, j)),
+        wide(reader::last_at(store, j)),
+        x.offset,
+        wide(reader::first_at(store, k)),
+        wide(reader::last_at(store, k)),
+        y.offset,
+    )
 }
 
 // Whether the references x and y make a dependence.
-fn depends(store: &Store, x: Reference, y: Reaching) -> bool
-    requires { ⌜ Held (now store) × ReferenceFits (tableIn (now store)) x × Reaches (tableIn (now store)) y ⌝ }
-    ensures { λ r. ⌜ r ≡ dependence (tableIn (now (store .entry))) x (y .reference) ⌝ }
+fn depends(store: &Store, x: Reference, y: Reference) -> bool
+    requires { ⌜ Held (now store) × ReferenceFits (tableIn (now store)) x × ReferenceFits (tableIn (now store)) y ⌝ }
+    ensures { λ r. ⌜ r ≡ dependence (tableIn (now (store .entry))) x y ⌝ }
 {
-    if x.number < y.reference.number {
-        if x.array == y.reference.array {
-            if either(x.stores, y.reference.stores) {
+    if x.number < y.number {
+        if x.array == y.array {
+            if either(x.stores, y.stores) {
                 return meet(store, x, y);
             }
         }
@@ -86,19 +85,6 @@ fn reference_at(store: &Store, k: usize, r: usize, stores: bool) -> Reference
     }
 }
 
-// A reference of the table with what its loop goes over.
-fn reach_of(store: &Store, y: Reference) -> Reaching
-    requires { ⌜ Held (now store) × ReferenceFits (tableIn (now store)) y ⌝ }
-    ensures { λ r. ⌜ (r .reference ≡ y) × Reaches (tableIn (now (store .entry))) r ⌝ }
-{
-    let k = y.number;
-    Reaching {
-        reference: y,
-        low: wide(reader::first_at(store, k)) + y.offset,
-        high: wide(reader::last_at(store, k)) + y.offset,
-    }
-}
-
 // What a dependence requires, where that is more than was required before: s and p are the earlier loop's numbers, x and y the offsets.
 fn raise(before: Requirement, s: u32, p: u32, x: usize, y: usize) -> Requirement
     requires { ⌜ (x < 65536) × (y < 65536) ⌝ }
@@ -116,26 +102,26 @@ fn pick(b: bool, x: usize, y: usize) -> usize
     if b { x } else { y }
 }
 
-// One step of the walk: takes up the pair of the references x and y. What it would require is worked out first and picked then, without a
-// branch: whether two loops meet is not foreseen as well as that two arrays are one.
+// One step of the walk: takes up the pair of the references x and y. What it would require is worked out first and picked then, for whether
+// two loops meet is not foreseen by a processor as well as that two arrays are one.
 fn take_up(
     store: &Store,
     x: Reference,
-    y: Reaching,
+    y: Reference,
     shifts: &[u32; 16],
     peels: &[u32; 16],
     before: Requirement,
 ) -> Requirement
-    requires { ⌜ Held (now store) × ReferenceFits (tableIn (now store)) x × Reaches (tableIn (now store)) y ⌝ }
-    ensures { λ r. ⌜ r .shift ≡ max (before .shift) (required backward (graph (tableIn (now (store .entry)))) (now (shifts .entry)) (y .reference) x) ⌝ }
-    ensures { λ r. ⌜ r .peel ≡ max (before .peel) (required forward (graph (tableIn (now (store .entry)))) (now (peels .entry)) (y .reference) x) ⌝ }
+    requires { ⌜ Held (now store) × ReferenceFits (tableIn (now store)) x × ReferenceFits (tableIn (now store)) y ⌝ }
+    ensures { λ r. ⌜ r .shift ≡ max (before .shift) (required backward (graph (tableIn (now (store .entry)))) (now (shifts .entry)) y x) ⌝ }
+    ensures { λ r. ⌜ r .peel ≡ max (before .peel) (required forward (graph (tableIn (now (store .entry)))) (now (peels .entry)) y x) ⌝ }
 {
-    let is = depends(store, x, y);
+    let d = depends(store, x, y);
     let k = x.number;
-    let a = raise(before, shifts[k], peels[k], x.offset, y.reference.offset);
+    let a = raise(before, shifts[k], peels[k], x.offset, y.offset);
     Requirement {
-        shift: pick(is, a.shift, before.shift),
-        peel: pick(is, a.peel, before.peel),
+        shift: pick(d, a.shift, before.shift),
+        peel: pick(d, a.peel, before.peel),
     }
 }
 
@@ -143,16 +129,16 @@ fn take_up(
 fn take_destination(
     store: &Store,
     j: usize,
-    y: Reaching,
+    y: Reference,
     shifts: &[u32; 16],
     peels: &[u32; 16],
     before: Requirement,
 ) -> Requirement
-    requires { ⌜ Held (now store) × (j < count (tableIn (now store))) × Reaches (tableIn (now store)) y ⌝ }
-    ensures { λ a. ⌜ Required (tableIn (now (store .entry))) (now (shifts .entry)) (now (peels .entry)) (y .reference) (refIn (now (store .entry)) j (startAt (now (store .entry)) j) true ∷ []) before a ⌝ }
+    requires { ⌜ Held (now store) × (j < count (tableIn (now store))) × ReferenceFits (tableIn (now store)) y ⌝ }
+    ensures { λ a. ⌜ Required (tableIn (now (store .entry))) (now (shifts .entry)) (now (peels .entry)) y (refIn (now (store .entry)) j (startAt (now (store .entry)) j) true ∷ []) before a ⌝ }
 {
     let from = reader::start_at(store, j);
-    if wide(reader::array_at(store, from)) == y.reference.array {
+    if wide(reader::array_at(store, from)) == y.array {
         let x = reference_at(store, j, from, true);
         return take_up(store, x, y, shifts, peels, before);
     }
@@ -164,15 +150,15 @@ fn take_row(
     store: &Store,
     j: usize,
     r: usize,
-    y: Reaching,
+    y: Reference,
     shifts: &[u32; 16],
     peels: &[u32; 16],
     before: Requirement,
 ) -> Requirement
-    requires { ⌜ Held (now store) × (j < count (tableIn (now store))) × (r < 528) × Row (now store) r × Reaches (tableIn (now store)) y ⌝ }
-    ensures { λ a. ⌜ Required (tableIn (now (store .entry))) (now (shifts .entry)) (now (peels .entry)) (y .reference) (reads j (itemsFrom (now (store .entry)) r 1)) before a ⌝ }
+    requires { ⌜ Held (now store) × (j < count (tableIn (now store))) × (r < 528) × Row (now store) r × ReferenceFits (tableIn (now store)) y ⌝ }
+    ensures { λ a. ⌜ Required (tableIn (now (store .entry))) (now (shifts .entry)) (now (peels .entry)) y (reads j (itemsFrom (now (store .entry)) r 1)) before a ⌝ }
 {
-    if reader::reads_array(store, r, y.reference.array) {
+    if reader::reads_array(store, r, y.array) {
         let x = reference_at(store, j, r, false);
         return take_up(store, x, y, shifts, peels, before);
     }
@@ -183,13 +169,13 @@ fn take_row(
 fn take_reads(
     store: &Store,
     j: usize,
-    y: Reaching,
+    y: Reference,
     shifts: &[u32; 16],
     peels: &[u32; 16],
     before: Requirement,
 ) -> Requirement
-    requires { ⌜ Held (now store) × (j < count (tableIn (now store))) × Reaches (tableIn (now store)) y ⌝ }
-    ensures { λ a. ⌜ Required (tableIn (now (store .entry))) (now (shifts .entry)) (now (peels .entry)) (y .reference) (readsIn (now (store .entry)) j (startAt (now (store .entry)) j + 1) (startAt (now (store .entry)) (j + 1))) before a ⌝ }
+    requires { ⌜ Held (now store) × (j < count (tableIn (now store))) × ReferenceFits (tableIn (now store)) y ⌝ }
+    ensures { λ a. ⌜ Required (tableIn (now (store .entry))) (now (shifts .entry)) (now (peels .entry)) y (readsIn (now (store .entry)) j (startAt (now (store .entry)) j + 1) (startAt (now (store .entry)) (j + 1))) before a ⌝ }
 {
     let past = reader::start_at(store, j + 1);
     let mut r = reader::start_at(store, j) + 1;
@@ -205,13 +191,13 @@ fn take_reads(
 fn take_loop(
     store: &Store,
     j: usize,
-    y: Reaching,
+    y: Reference,
     shifts: &[u32; 16],
     peels: &[u32; 16],
     before: Requirement,
 ) -> Requirement
-    requires { ⌜ Held (now store) × (j < count (tableIn (now store))) × Reaches (tableIn (now store)) y ⌝ }
-    ensures { λ a. ⌜ Required (tableIn (now (store .entry))) (now (shifts .entry)) (now (peels .entry)) (y .reference) (refs (tableIn (now (store .entry))) j) before a ⌝ }
+    requires { ⌜ Held (now store) × (j < count (tableIn (now store))) × ReferenceFits (tableIn (now store)) y ⌝ }
+    ensures { λ a. ⌜ Required (tableIn (now (store .entry))) (now (shifts .entry)) (now (peels .entry)) y (refs (tableIn (now (store .entry))) j) before a ⌝ }
 {
     let a = take_destination(store, j, y, shifts, peels, before);
     take_reads(store, j, y, shifts, peels, a)
@@ -220,15 +206,15 @@ fn take_loop(
 // Takes up the pairs whose later reference is y. Only references of earlier loops can start a dependence.
 fn take_earlier(
     store: &Store,
-    y: Reaching,
+    y: Reference,
     shifts: &[u32; 16],
     peels: &[u32; 16],
     before: Requirement,
 ) -> Requirement
-    requires { ⌜ Held (now store) × Reaches (tableIn (now store)) y ⌝ }
-    ensures { λ a. ⌜ Required (tableIn (now (store .entry))) (now (shifts .entry)) (now (peels .entry)) (y .reference) (allRefs (tableIn (now (store .entry)))) before a ⌝ }
+    requires { ⌜ Held (now store) × ReferenceFits (tableIn (now store)) y ⌝ }
+    ensures { λ a. ⌜ Required (tableIn (now (store .entry))) (now (shifts .entry)) (now (peels .entry)) y (allRefs (tableIn (now (store .entry)))) before a ⌝ }
 {
-    let k = y.reference.number;
+    let k = y.number;
     let mut a = before;
     let mut j: usize = 0;
     while j < k {
@@ -241,15 +227,15 @@ fn take_earlier(
 // The same of a read. Two reads make no dependence, so it is paired with destinations alone.
 fn take_destinations(
     store: &Store,
-    y: Reaching,
+    y: Reference,
     shifts: &[u32; 16],
     peels: &[u32; 16],
     before: Requirement,
 ) -> Requirement
-    requires { ⌜ Held (now store) × Reaches (tableIn (now store)) y × (y .reference .stores ≡ false) ⌝ }
-    ensures { λ a. ⌜ Required (tableIn (now (store .entry))) (now (shifts .entry)) (now (peels .entry)) (y .reference) (allRefs (tableIn (now (store .entry)))) before a ⌝ }
+    requires { ⌜ Held (now store) × ReferenceFits (tableIn (now store)) y × (y .stores ≡ false) ⌝ }
+    ensures { λ a. ⌜ Required (tableIn (now (store .entry))) (now (shifts .entry)) (now (peels .entry)) y (allRefs (tableIn (now (store .entry)))) before a ⌝ }
 {
-    let k = y.reference.number;
+    let k = y.number;
     let mut a = before;
     let mut j: usize = 0;
     while j < k {
@@ -272,7 +258,7 @@ fn take_later(
     ensures { λ a. ⌜ RequiredOf (tableIn (now (store .entry))) (now (shifts .entry)) (now (peels .entry)) (allRefs (tableIn (now (store .entry)))) (reads k (itemsFrom (now (store .entry)) r 1)) before a ⌝ }
 {
     if reader::kind_at(store, r) == reader::READ {
-        let y = reach_of(store, reference_at(store, k, r, false));
+        let y = reference_at(store, k, r, false);
         return take_destinations(store, y, shifts, peels, before);
     }
     before
@@ -286,7 +272,7 @@ fn required_of(store: &Store, k: usize, shifts: &[u32; 16], peels: &[u32; 16]) -
     let from = reader::start_at(store, k);
     let past = reader::start_at(store, k + 1);
     let none = Requirement { shift: 0, peel: 0 };
-    let y = reach_of(store, reference_at(store, k, from, true));
+    let y = reference_at(store, k, from, true);
     let mut a = take_earlier(store, y, shifts, peels, none);
     let mut r = from + 1;
     while r < past {

@@ -1,4 +1,4 @@
--- References of later loops change no number of an earlier one: the numbers of a left table are the first of a joined one.
+-- References of later loops change no number of an earlier one: where they are added to a graph, the earlier loops keep their numbers.
 use Prim.Native.Nat.{ℕ, _+_, _≤_, _<_}
 use mathlib.Core.Path.{_≡_, refl, sym, ap, _∙_}
 use mathlib.Core.Logic.{inl, inr, ⊎-elim}
@@ -27,7 +27,7 @@ module _ {R : Type 0} (amount : R → R → ℕ) (g : Graph R) (ts : List R) (de
     joined = same x y (e .from) (e .to) ∙ e .joined;
   }
 
-  -- a chain of the left table is one of the joined table
+  -- a chain of g is one of the joined graph
   widened : {k : ℕ} (c : Chain g k) → (d : Chain joined k) × (chainTotal amount d ≡ chainTotal amount c)
   widened (one {x} {y} e) = (one (wide e), refl)
   widened (more {x} {y} c e) = let w = widened c in (more (w .0) (wide e), ap (λ (t : ℕ). t + amount x y) (w .1))
@@ -44,7 +44,7 @@ module _ {R : Type 0} (amount : R → R → ℕ) (g : Graph R) (ts : List R) (de
         let to = low y h (e .to) in
         record { from = from; to = to; joined = sym (same x y from to) ∙ e .joined }
 
-    -- and one of the joined table that ends before loop n is one of the left table
+    -- and one of the joined graph that ends before loop n is one of g
     narrowed : {k : ℕ} → k < n → (c : Chain joined k) → (d : Chain g k) × (chainTotal amount d ≡ chainTotal amount c)
     narrowed h (one {x} {y} e) = (one (narrow h e), refl)
     narrowed h (more {x} {y} c e) =

@@ -1,7 +1,7 @@
 -- All of it for a table of at most sixteen loops: over the references of its loops.
 use Prim.Native.Nat.{ℕ, _≤_, _<_}
 use mathlib.Core.Path.{_≡_, sym, ap, subst}
-use mathlib.Core.Logic.{⊎-elim}
+use mathlib.Core.Logic.{_↔_, ⊎-elim}
 use mathlib.Core.List.{List, [], _∷_, List·Memᴰ·append-cases}
 use mathlib.Core.List.{List·Memᴰ as Mem, List·Memᴰ·cases-cons as cases-cons, List·Memᴰ·not-nil as not-nil}
 use native.Mathlib.Omega.{arith}
@@ -13,7 +13,7 @@ use Rattle.model.specs.Table.{Item, read, constant, operation, Statement, Table
 use Rattle.model.specs.References.{destination, reads, references, refs, allRefs, Meet}
 use Rattle.chains.specs.Graph.{Dependence}
 use Rattle.chains.specs.Dependence.{backward, forward}
-use Rattle.chains.specs.DependenceLaws.{dependence-meets}
+use Rattle.chains.specs.DependenceLaws.{Meets, dependence-meets}
 use Rattle.chains.specs.TableGraph.{graph}
 use Rattle.chains.specs.Chains.{Largest}
 use Rattle.chains.specs.Legal.{LegalPlan}
@@ -66,6 +66,11 @@ module _ (t : Table) where
       meet = h;
     });
   }
+
+  -- the dependences of the graph are those that `dependence` says, and no others
+  pub graph-dependence : (x y : Reference) → Dependence (graph t) x y ↔ (Mem x (allRefs t) × Mem y (allRefs t) × Meets t x y)
+  graph-dependence x y =
+      (λ d. (d .from, d .to, dependence-meets t x y .0 (d .joined)), λ (m, n, h). record { from = m; to = n; joined = dependence-meets t x y .1 h })
 
   module _ (sixteen : count t ≤ 16) where
     pub allRefs-below : Below 16 (graph t) (allRefs t)

@@ -14,13 +14,17 @@ chain f l =
     times 3 (array 12) ++ loop 1 2 0 (ahead 0) ++ one ++ loop f l 1 (ahead 0) ++ read 0 (ahead 1) ++ loop 8 9 2 (ahead 0) ++ read 1 (ahead 0)
     ++ end
 
--- 1 to 6, A1[i] = A0[i]; 5 to 9 stores A0[i+2]: a store after a read
+-- 1 to `last`, A1[i] = A0[i]; 5 to 9 stores A0[i+2]: a store after a read
 abbrev overwritten : ℕ → List ℕ
 overwritten last = times 2 (array 15) ++ loop 1 last 1 (ahead 0) ++ read 0 (ahead 0) ++ loop 5 9 0 (ahead 2) ++ one ++ end
 
 -- 255 to l stores A0[i−255], 0 to 0 reads A0[i+255]: distance −510
 abbrev farthest : ℕ → List ℕ
 farthest l = times 2 (array 300) ++ loop 255 l 0 (behind 255) ++ one ++ loop 0 0 1 (ahead 0) ++ read 0 (ahead 255) ++ end
+
+-- 0 to 0 stores A0[i+255], 255 to l reads A0[i−255]: distance 510
+abbrev farthestAhead : ℕ → List ℕ
+farthestAhead l = times 2 (array 600) ++ loop 0 0 0 (ahead 255) ++ one ++ loop 255 l 1 (ahead 0) ++ read 0 (behind 255) ++ end
 
 pub record Bounds : Type 0 where
   -- distance −2: iteration 5 would meet 3, which is above 2
@@ -45,9 +49,11 @@ pub record Bounds : Type 0 where
   pub each-by-itself : shiftsIn (chain 1 9) ≡ 0 ∷ 1 ∷ 1 ∷ []
   -- and a chain ends where two loops never meet, at distance 0 too
   pub cut : shiftsIn (chain 1 7) ≡ 0 ∷ 1 ∷ 0 ∷ []
-  -- the largest distance
+  -- the largest distances
   pub largest-at : shiftsIn (farthest 510) ≡ 0 ∷ 510 ∷ []
   pub largest-below : shiftsIn (farthest 509) ≡ 0 ∷ 0 ∷ []
+  pub largest-ahead : peelsIn (farthestAhead 510) ≡ 0 ∷ 510 ∷ []
+  pub largest-ahead-below : peelsIn (farthestAhead 509) ≡ 0 ∷ 0 ∷ []
   -- thresholds use these dependences alone: nine blocks of one index
   pub accepted-nine : refusalFor (storedThenRead 1 6 5 9 (ahead 2)) 9 ≡ none
   pub refused-nine : refusalFor (storedThenRead 1 7 5 9 (ahead 2)) 9 ≡ met 11 0
@@ -71,6 +77,8 @@ bounds = record {
   cut = refl;
   largest-at = refl;
   largest-below = refl;
+  largest-ahead = refl;
+  largest-ahead-below = refl;
   accepted-nine = refl;
   refused-nine = refl;
 }

@@ -17,11 +17,6 @@ unfoldable pub meeting : (f l o f′ l′ o′ : ℕ) → Bool
 unfolding someFrom
 meeting f l o f′ l′ o′ = someFrom (λ i. isInside f′ l′ o′ i o) f (suc l - f)
 
--- the elements from a to b and those from c to d have one in common
-unfoldable pub intersecting : (a b c d : ℕ) → Bool
-intersecting a b c d = leb (max a c) (min b d)
-
--- the test of it: the greater of f and f′ − d is at most the lesser of l and l′ − d, where o is added to all
+-- the test of it: the greater of f and f′ − d is at most the lesser of l and l′ − d
 unfoldable pub overlap : (f l o f′ l′ o′ : ℕ) → Bool
-unfolding intersecting
-overlap f l o f′ l′ o′ = intersecting (f + o) (l + o) (f′ + o′) (l′ + o′)
+overlap f l o f′ l′ o′ = leb (max (f + o) (f′ + o′)) (min (l + o) (l′ + o′))

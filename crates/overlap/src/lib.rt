@@ -1,21 +1,14 @@
 // Where two loops meet, for one index.
 ghost use mathlib.Core.Path.{_≡_};
 ghost use Prim.Native.Nat.{_<_};
-ghost use Rattle.overlap.specs.Overlap.{intersecting, overlap};
+ghost use Rattle.overlap.specs.Overlap.{overlap};
 use arithmetic::larger;
 use arithmetic::smaller;
-
-// Whether the elements from a to b and those from c to d have one in common.
-pub fn intersect(a: usize, b: usize, c: usize, d: usize) -> bool
-    ensures { λ r. ⌜ r ≡ intersecting a b c d ⌝ }
-{
-    larger(a, c) <= smaller(b, d)
-}
 
 // Whether some iterations of two loops, each within its loop's bounds, are at one element: first, last and offset of each.
 pub fn overlaps(f: usize, l: usize, o: usize, g: usize, m: usize, p: usize) -> bool
     requires { ⌜ (f < 4294967296) × (l < 4294967296) × (o < 65536) × (g < 4294967296) × (m < 4294967296) × (p < 65536) ⌝ }
     ensures { λ r. ⌜ r ≡ overlap f l o g m p ⌝ }
 {
-    intersect(f + o, l + o, g + p, m + p)
+    larger(f + o, g + p) <= smaller(l + o, m + p)
 }

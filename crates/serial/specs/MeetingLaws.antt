@@ -3,7 +3,7 @@ use Prim.Native.Nat.{ℕ, zero, suc, _+_, _<_}
 use native.Mathlib.Omega.{arith}
 use mathlib.Core.Path.{_≡_, refl, sym, ap, _∙_}
 use mathlib.Core.Logic.{_⊎_, inl, inr, ⊎-elim, _≢_}
-use mathlib.Core.Bool.{Bool, true, false, not, _&&_}
+use mathlib.Core.Bool.{Bool, true, false, not}
 use mathlib.Core.List.{List, [], _∷_, append-nil}
 use mathlib.Core.List.{List·Memᴰ as Mem, List·Memᴰ·head as mhere, List·Memᴰ·cases-cons as cases-cons, List·Memᴰ·not-nil as not-nil}
 use lib.ListN.{length, getD}
@@ -25,17 +25,17 @@ false-true e = let z : _≡_ {A = ℕ} 0 1 = cc in omega arith
 
 module _ (f l a c b o : ℕ) where
   -- what a collision is
-  abbrev Apart : Type 0
-  Apart = (b ≡ a) × (o ≢ c) × Meeting f l c f l o
+  abbrev Colliding : Type 0
+  Colliding = (b ≡ a) × (o ≢ c) × Meeting f l c f l o
 
-  collides-apart : collides f l a c b o ≡ true → Apart
+  collides-apart : collides f l a c b o ≡ true → Colliding
   unfolding collides
   collides-apart e =
       let (p, q) = both-true (eqb b a) _ e in
       let (r, s) = both-true (not (eqb o c)) _ q in
       (eqb-true b a p, eqb-false o c (not-true (eqb o c) r), overlap-is f l c f l o s)
 
-  apart-collides : Apart → collides f l a c b o ≡ true
+  apart-collides : Colliding → collides f l a c b o ≡ true
   unfolding collides
   apart-collides (e, n, m) = rw (eq-eqb b a e, ne-eqb o c n) (is-overlap f l c f l o m)
 
@@ -141,7 +141,7 @@ module _ (t : Table) (k : ℕ) (s : Statement) (body : loop t k .body ≡ s ∷ 
           q : Reference
           q = getD (reads k (s .items)) j (destination k s)
 
-          apart : Apart (first t k) (last t k) (s .array) (s .offset) (q .array) (q .offset)
+          apart : Colliding (first t k) (last t k) (s .array) (s .offset) (q .array) (q .offset)
           apart = collides-apart (first t k) (last t k) (s .array) (s .offset) (q .array) (q .offset) (w (destination k s))
 
           is : n ≡ j

@@ -32,7 +32,7 @@ returns : tie.Need-returns
 returns c =
     let f = c .before .before .before .before .before .before in
     let a = f .before .args in
-    required-one (tableIn (now (a .store))) (now (a .shifts)) (now (a .peels)) (a .y .reference) (refIn (now (a .store)) (a .j) (startAt (now (a .store)) (a .j)) true)
+    required-one (tableIn (now (a .store))) (now (a .shifts)) (now (a .peels)) (a .y) (refIn (now (a .store)) (a .j) (startAt (now (a .store)) (a .j)) true)
     (a .before) _ (rw (c .before .reference-at .ensures, f .start-at .ensures) at (c .take-up .ensures))
 
 returns-2 : tie.Need-returns-2
@@ -41,7 +41,7 @@ returns-2 c =
     let f = q .before .before in
     let a = f .before .args in
     let is = q .wide .ensures .0 ∙ rw (f .start-at .ensures) at (q .before .array-at .ensures) in
-    required-other (tableIn (now (a .store))) (now (a .shifts)) (now (a .peels)) (a .y .reference) (refIn (now (a .store)) (a .j) (startAt (now (a .store)) (a .j)) true)
+    required-other (tableIn (now (a .store))) (now (a .shifts)) (now (a .peels)) (a .y) (refIn (now (a .store)) (a .j) (startAt (now (a .store)) (a .j)) true)
     (a .before) (λ e. c .if1 .left (is ∙ e))
 
 pub take-destination-spec : {M : Type 1} → statement M

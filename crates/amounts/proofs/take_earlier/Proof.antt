@@ -11,7 +11,7 @@ use Rattle.amounts.proofs.take_earlier.Statement.{statement}
 use Rattle.amounts.proofs.take_earlier.Tie as tie
 
 abbrev Inv-loop : tie.InvT-loop
-Inv-loop store y shifts peels k a₀ j₀ a j = (j ≤ k) × Required (tableIn store) shifts peels (y .reference) (joined j (refs (tableIn store))) a₀ a
+Inv-loop store y shifts peels k a₀ j₀ a j = (j ≤ k) × Required (tableIn store) shifts peels y (joined j (refs (tableIn store))) a₀ a
 
 abbrev μ-loop : tie.MeasureT-loop
 μ-loop store y shifts peels k a₀ j₀ a j = k - j
@@ -20,17 +20,17 @@ loop-holds : tie.Need-loop-holds Inv-loop μ-loop
 loop-holds c = (omega arith, required-no)
 
 take-loop-requires : tie.Need-take-loop-requires Inv-loop μ-loop
-take-loop-requires c κs = let p = c .before .before .pre in (p .0, omega (arith, c .loop-test .taken, p .1 .fits .number), p .1)
+take-loop-requires c κs = let p = c .before .before .pre in (p .0, omega (arith, c .loop-test .taken, p .1 .number), p .1)
 
 add-j : tie.Need-add-j Inv-loop μ-loop
-add-j c = let p = c .before .before .before .pre in omega (arith, c .before .loop-test .taken, p .1 .fits .number, count-few (p .0))
+add-j c = let p = c .before .before .before .pre in omega (arith, c .before .loop-test .taken, p .1 .number, count-few (p .0))
 
 loop-again : tie.Need-loop-again Inv-loop μ-loop
 loop-again c =
     let l = c .before .before .loop in
     let a = c .before .before .before .args in (
       omega (arith, c .before .loop-test .taken),
-      loops-next (tableIn (now (a .store))) (now (a .shifts)) (now (a .peels)) (a .y .reference) (a .before) (l .j) (l .a) _ (l .inv .1)
+      loops-next (tableIn (now (a .store))) (now (a .shifts)) (now (a .peels)) (a .y) (a .before) (l .j) (l .a) _ (l .inv .1)
           (c .take-loop .ensures),
     )
 
@@ -39,8 +39,8 @@ returns c =
     let l = c .before .loop in
     let b = c .before .before in
     let a = b .args in
-    loops-end (tableIn (now (a .store))) (now (a .shifts)) (now (a .peels)) (a .y .reference) (a .before) (l .j) (l .a) (l .inv .1)
-    (c .loop-test .left) (omega (arith, l .inv .0, b .pre .1 .fits .number))
+    loops-end (tableIn (now (a .store))) (now (a .shifts)) (now (a .peels)) (a .y) (a .before) (l .j) (l .a) (l .inv .1)
+    (c .loop-test .left) (omega (arith, l .inv .0, b .pre .1 .number))
 
 pub take-earlier-spec : {M : Type 1} → statement M
 take-earlier-spec =

@@ -16,27 +16,21 @@ kind-at-requires c κs = let p = c .pre in omega (arith, p .3, past-few (p .0) _
 reference-at-requires : tie.Need-reference-at-requires
 reference-at-requires c κs = let p = c .before .before .pre in omega (arith, p .3, past-few (p .0) _ (p .1))
 
-reach-of-requires : tie.Need-reach-of-requires
-reach-of-requires c κs =
+take-destinations-requires : tie.Need-take-destinations-requires
+take-destinations-requires c κs =
     let k = c .before .before in
     let a = k .before .args in
     let p = k .before .pre in
     let e = sym (k .kind-at .ensures) ∙ c .before .if1 .taken in
     rw (c .reference-at .ensures)
-    (p .0, row-fits (tableIn (now (a .store))) (now (a .store)) (a .k) (a .r) false (p .1) (p .2) (row-in (p .0) _ (p .1) _ (p .3)) (omega (arith, e)))
-
-take-destinations-requires : tie.Need-take-destinations-requires
-take-destinations-requires c κs =
-    let p = c .before .before .before .before .pre in
-    (p .0, c .reach-of .ensures .1, rw (c .reach-of .ensures .0, c .before .reference-at .ensures) refl)
+    (p .0, row-fits (tableIn (now (a .store))) (now (a .store)) (a .k) (a .r) false (p .1) (p .2) (row-in (p .0) _ (p .1) _ (p .3)) (omega (arith, e)), refl)
 
 returns : tie.Need-returns
 returns c =
-    let k = c .before .before .before .before in
+    let k = c .before .before .before in
     let a = k .before .args in
-    let e = sym (k .kind-at .ensures) ∙ c .before .before .before .if1 .taken in
-    rw (row-read (now (a .store)) (a .k) (a .r) e)
-    (pairs-one (rw (c .before .reach-of .ensures .0 ∙ c .before .before .reference-at .ensures) at (c .take-destinations .ensures)))
+    let e = sym (k .kind-at .ensures) ∙ c .before .before .if1 .taken in
+    rw (row-read (now (a .store)) (a .k) (a .r) e) (pairs-one (rw (c .before .reference-at .ensures) at (c .take-destinations .ensures)))
 
 returns-2 : tie.Need-returns-2
 returns-2 c =
@@ -45,4 +39,4 @@ returns-2 c =
 
 pub take-later-spec : {M : Type 1} → statement M
 take-later-spec =
-    tie.close (tie.spec kind-at-requires reference-at-requires reach-of-requires take-destinations-requires returns returns-2)
+    tie.close (tie.spec kind-at-requires reference-at-requires take-destinations-requires returns returns-2)

@@ -9,7 +9,7 @@ use Rattle.amounts.proofs.take_reads.Statement.{statement}
 use Rattle.amounts.proofs.take_reads.Tie as tie
 
 abbrev Inv-loop : tie.InvT-loop
-Inv-loop store j y shifts peels past r₀ a₀ r a = Remaining (tableIn store) shifts peels (y .reference) store j r₀ past a₀ r a
+Inv-loop store j y shifts peels past r₀ a₀ r a = Remaining (tableIn store) shifts peels y store j r₀ past a₀ r a
 
 abbrev μ-loop : tie.MeasureT-loop
 μ-loop store j y shifts peels past r₀ a₀ r a = past - r
@@ -29,7 +29,7 @@ add-r c = let p = c .before .before .pre in omega (arith, c .start-at2 .ensures,
 loop-holds : tie.Need-loop-holds Inv-loop μ-loop
 loop-holds c =
     let a = c .before .before .args in
-    remaining-start (tableIn (now (a .store))) (now (a .shifts)) (now (a .peels)) (a .y .reference) (now (a .store)) (a .j) _ _ (a .before)
+    remaining-start (tableIn (now (a .store))) (now (a .shifts)) (now (a .peels)) (a .y) (now (a .store)) (a .j) _ _ (a .before)
 
 take-row-requires : tie.Need-take-row-requires Inv-loop μ-loop
 take-row-requires c κs =
@@ -52,7 +52,7 @@ loop-again : tie.Need-loop-again Inv-loop μ-loop
 loop-again c =
     let l = c .before .before .loop in
     let a = c .before .before .before .before .before .args in
-    remaining-next (tableIn (now (a .store))) (now (a .shifts)) (now (a .peels)) (a .y .reference) (now (a .store)) (a .j) _ _ (a .before) (l .r) (l .a) _ (l .inv)
+    remaining-next (tableIn (now (a .store))) (now (a .shifts)) (now (a .peels)) (a .y) (now (a .store)) (a .j) _ _ (a .before) (l .r) (l .a) _ (l .inv)
     (c .before .loop-test .taken) (c .take-row .ensures)
 
 returns : tie.Need-returns Inv-loop μ-loop
@@ -61,7 +61,7 @@ returns c =
     let e = c .before .before in
     let a = e .before .before .args in
     rw (← (e .start-at2 .ensures), ← (e .before .start-at .ensures))
-    (remaining-end (tableIn (now (a .store))) (now (a .shifts)) (now (a .peels)) (a .y .reference) (now (a .store)) (a .j) _ _ (a .before) (l .r) (l .a) (l .inv)
+    (remaining-end (tableIn (now (a .store))) (now (a .shifts)) (now (a .peels)) (a .y) (now (a .store)) (a .j) _ _ (a .before) (l .r) (l .a) (l .inv)
     (c .loop-test .left))
 
 pub take-reads-spec : {M : Type 1} → statement M

@@ -16,7 +16,7 @@ take-up-requires c κs =
     let k = c .before .before in
     let p = k .before .pre in
     let a = k .before .args in
-    let e = read-kind (now (a .store)) (a .r) (a .y .reference .array) (sym (k .reads-array .ensures) ∙ c .before .if1 .taken) in
+    let e = read-kind (now (a .store)) (a .r) (a .y .array) (sym (k .reads-array .ensures) ∙ c .before .if1 .taken) in
     rw (c .reference-at .ensures)
     (p .0, row-fits (tableIn (now (a .store))) (now (a .store)) (a .j) (a .r) false (p .1) (omega (arith, p .1, count-few (p .0))) (p .3) (omega (arith, e)), p .4)
 
@@ -24,15 +24,15 @@ returns : tie.Need-returns
 returns c =
     let k = c .before .before .before in
     let a = k .before .args in
-    let e = read-kind (now (a .store)) (a .r) (a .y .reference .array) (sym (k .reads-array .ensures) ∙ c .before .before .if1 .taken) in
+    let e = read-kind (now (a .store)) (a .r) (a .y .array) (sym (k .reads-array .ensures) ∙ c .before .before .if1 .taken) in
     rw (row-read (now (a .store)) (a .j) (a .r) e)
-    (required-one (tableIn (now (a .store))) (now (a .shifts)) (now (a .peels)) (a .y .reference) (refIn (now (a .store)) (a .j) (a .r) false) (a .before) _
+    (required-one (tableIn (now (a .store))) (now (a .shifts)) (now (a .peels)) (a .y) (refIn (now (a .store)) (a .j) (a .r) false) (a .before) _
     (rw (c .before .reference-at .ensures) at (c .take-up .ensures)))
 
 returns-2 : tie.Need-returns-2
 returns-2 c =
     let a = c .before .before .args in
-    required-apart (tableIn (now (a .store))) (now (a .shifts)) (now (a .peels)) (a .y .reference) (now (a .store)) (a .j) (a .r) (a .before)
+    required-apart (tableIn (now (a .store))) (now (a .shifts)) (now (a .peels)) (a .y) (now (a .store)) (a .j) (a .r) (a .before)
     (sym (c .before .reads-array .ensures) ∙ c .if1 .left)
 
 pub take-row-spec : {M : Type 1} → statement M

@@ -13,8 +13,8 @@ returns c =
     let d = a .before .before .before in
     let g = d .before .args in
     let t = tableIn (now (g .store)) in (
-      picked t backward (now (g .shifts)) (g .y .reference) (g .x) (g .before .shift) _ _ _ (d .depends .ensures) (a .raise .ensures .0) (c .before .pick .ensures),
-      picked t forward (now (g .peels)) (g .y .reference) (g .x) (g .before .peel) _ _ _ (d .depends .ensures) (a .raise .ensures .1) (c .pick2 .ensures),
+      picked t backward (now (g .shifts)) (g .y) (g .x) (g .before .shift) _ _ _ (d .depends .ensures) (a .raise .ensures .0) (c .before .pick .ensures),
+      picked t forward (now (g .peels)) (g .y) (g .x) (g .before .peel) _ _ _ (d .depends .ensures) (a .raise .ensures .1) (c .pick2 .ensures),
     )
 
 pub take-up-spec : {M : Type 1} → statement M
