@@ -82,7 +82,7 @@ void tell(void) {
     for (int read = 0; read < MOST_READS; read++)
         if (named_reads[read]) fprintf(stderr, " %d:%" PRIu64, read, named_reads[read]);
     fprintf(stderr, "\n");
-    fprintf(stderr, "  tables with loops that are apart, miss by one, meet once, meet often:");
+    fprintf(stderr, "  tables with references that are apart, miss by one, meet once, meet often:");
     for (int kind = 0; kind < MEETINGS; kind++) fprintf(stderr, " %" PRIu64, with_pairs[kind]);
     fprintf(stderr, "\n");
 }

@@ -52,7 +52,7 @@ all_build() {
 examples() {
     local name
     : > "$made/examples.script"
-    for name in example jacobi ll18 river; do
+    for name in boundary example jacobi ll18 river; do
         awk -f tests/builders/from-text.awk "examples/$name.txt" > "$made/one.script"
         cat "$made/one.script" >> "$made/examples.script"
         echo "0 $(wc -l < "$made/one.script") $(wc -c < "examples/$name.table") x$(hexadecimal "examples/$name.table")"

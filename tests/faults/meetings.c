@@ -129,7 +129,7 @@ static void carry_alone(struct found *found, int j, int k) {
 /* Where a fault is chosen for the call: shifts and peels by it. */
 static int misjudged(const char *call, const uint8_t *table, struct found *found) {
     rule *meet = chosen(call);
-    if (!meet && !fault_in(call, "chain-of-one-element")) return 0;
+    if (!meet && !fault_in(call, "chain-of-iterations")) return 0;
     memset(found, 0, sizeof *found);
     take_loops(found, table);
     for (int k = 0; k < found->loops; k++) {

@@ -27,7 +27,7 @@ const WAYS: [(&str, Way); 17] = [
     ("asked of backward distances alone", |t| by(t, |j, k, d| d >= 0 || common(j, k, d) > 0)),
     ("asked of forward distances alone", |t| by(t, |j, k, d| d <= 0 || common(j, k, d) > 0)),
     ("asked once for two loops", once_for_two_loops),
-    ("chains through the same elements alone", along_iterations),
+    ("chains through the same iterations alone", along_iterations),
 ];
 
 /// Whether a table has other shifts and peels than one whose loops' bounds are

@@ -213,7 +213,7 @@ fn dense(random: &mut Random) -> Table {
 }
 
 /// The same table with its sixteen loops one behind the other, each over a
-/// sixteenth of the indices: neighbours meet, and no other two loops do.
+/// sixteenth of the indices: at most neighbours meet, and no other two.
 fn sixteenths(table: &Table) -> Table {
     let mut parted = table.clone();
     for (k, one) in parted.loops.iter_mut().enumerate() {
