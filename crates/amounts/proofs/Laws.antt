@@ -2,7 +2,7 @@
 use Prim.Native.Nat.{ℕ, zero, suc, _+_, _-_, max, _≤_, _<_}
 use mathlib.Core.Path.{_≡_, refl, sym, ap, _∙_}
 use mathlib.Core.Logic.{⊎-elim}
-use mathlib.Core.Bool.{Bool, true, false, cond, false≢true, _&&_}
+use mathlib.Core.Bool.{Bool, true, false, false≢true, _&&_}
 use mathlib.Core.List.{List, [], _∷_, _++_}
 use mathlib.Core.List.{List·Memᴰ as Mem}
 use mathlib.Core.List.{List·Memᴰ·cases-cons as cases-cons, List·Memᴰ·not-nil as not-nil}
@@ -43,15 +43,12 @@ reads-stores k (constant n ∷ xs) r m = reads-stores k xs r m
 reads-stores k (operation n ∷ xs) r m = reads-stores k xs r m
 
 module _ (t : Table) (amount : Reference → Reference → ℕ) (s : List ℕ) (y : Reference) where
-  -- a pair that is no dependence
+  -- a pair that is a dependence, and one that is not
+  pub taken-up : (x : Reference) (b r : ℕ) → dependence t x y ≡ true → r ≡ max b (getD s (x .number) 0 + amount x y) → r ≡ max b (required amount (graph t) s y x)
+  taken-up x b r e q = rw (required-met amount (graph t) s y x e) q
+
   pub passed-over : (x : Reference) (b : ℕ) → dependence t x y ≡ false → b ≡ max b (required amount (graph t) s y x)
   passed-over x b e = rw (required-none amount (graph t) s y x e) (sym (max-zero b))
-
-  -- a pair, by whether it is one
-  pub picked : (x : Reference) (b a r : ℕ) (d : Bool) → d ≡ dependence t x y → a ≡ max b (getD s (x .number) 0 + amount x y) → r ≡ cond d a b
-      → r ≡ max b (required amount (graph t) s y x)
-  picked x b a r true d e f = rw (required-met amount (graph t) s y x (sym d)) (f ∙ e)
-  picked x b a r false d e f = f ∙ passed-over x b (sym d)
 
   -- where y reads, reads require nothing of its loop
   reads-nothing : y .stores ≡ false → (k : ℕ) (xs : List Item) → maximum (required amount (graph t) s y) (reads k xs) ≡ 0

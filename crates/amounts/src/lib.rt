@@ -2,7 +2,7 @@
 // are read where the table is kept: a loop's destination stands in its first row, its reads among the rows after it.
 
 ghost use mathlib.Core.Path.{_≡_};
-ghost use mathlib.Core.Bool.{true, false, cond, _||_};
+ghost use mathlib.Core.Bool.{true, false, _||_};
 ghost use mathlib.Core.List.{[], _∷_};
 ghost use Prim.Native.Nat.{_+_, _-_, _<_, max};
 ghost use Rattle.model.specs.Table.{count};
@@ -96,14 +96,7 @@ fn raise(before: Requirement, s: u32, p: u32, x: usize, y: usize) -> Requirement
     }
 }
 
-fn pick(b: bool, x: usize, y: usize) -> usize
-    ensures { λ r. ⌜ r ≡ cond b x y ⌝ }
-{
-    if b { x } else { y }
-}
-
-// One step of the walk: takes up the pair of the references x and y. What it would require is worked out first and picked then, for whether
-// two loops meet is not foreseen by a processor as well as that two arrays are one.
+// One step of the walk: takes up the pair of the references x and y.
 fn take_up(
     store: &Store,
     x: Reference,
@@ -116,13 +109,11 @@ fn take_up(
     ensures { λ r. ⌜ r .shift ≡ max (before .shift) (required backward (graph (tableIn (now (store .entry)))) (now (shifts .entry)) y x) ⌝ }
     ensures { λ r. ⌜ r .peel ≡ max (before .peel) (required forward (graph (tableIn (now (store .entry)))) (now (peels .entry)) y x) ⌝ }
 {
-    let d = depends(store, x, y);
-    let k = x.number;
-    let a = raise(before, shifts[k], peels[k], x.offset, y.offset);
-    Requirement {
-        shift: pick(d, a.shift, before.shift),
-        peel: pick(d, a.peel, before.peel),
+    if depends(store, x, y) {
+        let k = x.number;
+        return raise(before, shifts[k], peels[k], x.offset, y.offset);
     }
+    before
 }
 
 // Takes up the pair of loop j's destination and y. References to different arrays make no dependence, so the arrays are asked first.
