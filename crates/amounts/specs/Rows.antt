@@ -29,6 +29,10 @@ module _ (c : List ℕ) (k : ℕ) where
   abbrev pub readsIn : ℕ → ℕ → List Reference
   readsIn r past = reads k (itemsFrom c r (past - r))
 
+  -- all reads of the loop
+  abbrev pub loopReads : List Reference
+  loopReads = readsIn (startAt c k + 1) (startAt c (k + 1))
+
   -- LAWS: one row. A read is a reference, another item none
   pub row-read : (r : ℕ) → kindAt c r ≡ 0 → reads k (itemsFrom c r 1) ≡ refIn r false ∷ []
   unfolding itemsFrom itemOf

@@ -7,7 +7,8 @@ use mathlib.Core.List.{List}
 use lib.ListN.{length}
 use Rattle.model.specs.declared.Reference.{Reference}
 use Rattle.model.specs.Table.{Table, count}
-use Rattle.reader.specs.Store.{kindAt}
+use Rattle.model.specs.References.{allRefs}
+use Rattle.reader.specs.Store.{kindAt, tableIn}
 use Rattle.reader.specs.Stored.{Row}
 use Rattle.chains.specs.Graph.{Graph}
 use Rattle.chains.specs.Dependence.{backward, forward}
@@ -18,7 +19,7 @@ use Rattle.chains.specs.Bounds.{Small}
 use Rattle.amounts.specs.declared.Requirement.{Requirement}
 use Rattle.amounts.specs.Rows.{refIn}
 
--- a reference whose numbers are those of the table t
+-- a reference of one of the table's loops, with an array's number and an offset that a table can have
 pub record ReferenceFits (t : Table) (x : Reference) : Type 0 where
   pub number : x .number < count t
   pub few : x .number < 16
@@ -40,6 +41,13 @@ ofPairs amount g s xs ys = maximum (λ y. maximum (required amount g s y) xs) ys
 pub record RequiredOf (t : Table) (shifts peels : List ℕ) (xs ys : List Reference) (before a : Requirement) : Type 0 where
   pub shift : a .shift ≡ max (before .shift) (ofPairs backward (graph t) shifts xs ys)
   pub peel : a .peel ≡ max (before .peel) (ofPairs forward (graph t) peels xs ys)
+
+-- the same from all references of the table in the store c
+abbrev pub RequiredIn : (c shifts peels : List ℕ) (ys : List Reference) (before a : Requirement) → Type 0
+RequiredIn c shifts peels ys before a = RequiredOf (tableIn c) shifts peels (allRefs (tableIn c)) ys before a
+
+abbrev pub noRequirement : Requirement
+noRequirement = record { shift = 0; peel = 0 }
 
 -- shifts and peels that fit their numbers: no offset is above 510, so no amount is
 pub record Bounded (shifts peels : List ℕ) : Type 0 where

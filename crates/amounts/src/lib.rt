@@ -14,8 +14,8 @@ ghost use Rattle.chains.specs.Dependence.{meetIn, dependence, backward, forward
 ghost use Rattle.chains.specs.TableGraph.{graph};
 ghost use Rattle.chains.specs.Walk.{required, shifts, peels};
 ghost use Rattle.chains.specs.Threshold.{threshold};
-ghost use Rattle.amounts.specs.Rows.{refIn, readsIn};
-ghost use Rattle.amounts.specs.Walked.{ReferenceFits, Required, RequiredOf, Walked, Bounded};
+ghost use Rattle.amounts.specs.Rows.{refIn, loopReads};
+ghost use Rattle.amounts.specs.Walked.{ReferenceFits, Required, RequiredIn, noRequirement, Walked, Bounded};
 use arithmetic::above;
 use arithmetic::larger;
 use arithmetic::wide;
@@ -40,7 +40,7 @@ fn either(a: bool, b: bool) -> bool
     if a { true } else { b }
 }
 
-// Whether some iterations of the loops of x and y, within their bounds, are at one element.
+// Whether some iterations of the loops of x and y, within their bounds, are at elements of one number. That the array is one is asked elsewhere.
 fn meet(store: &Store, x: Reference, y: Reference) -> bool
     requires { ⌜ Held (now store) × ReferenceFits (tableIn (now store)) x × ReferenceFits (tableIn (now store)) y ⌝ }
     ensures { λ r. ⌜ r ≡ meetIn (tableIn (now (store .entry))) x y ⌝ }
@@ -166,7 +166,7 @@ fn take_reads(
     before: Requirement,
 ) -> Requirement
     requires { ⌜ Held (now store) × (j < count (tableIn (now store))) × ReferenceFits (tableIn (now store)) y ⌝ }
-    ensures { λ a. ⌜ Required (tableIn (now (store .entry))) (now (shifts .entry)) (now (peels .entry)) y (readsIn (now (store .entry)) j (startAt (now (store .entry)) j + 1) (startAt (now (store .entry)) (j + 1))) before a ⌝ }
+    ensures { λ a. ⌜ Required (tableIn (now (store .entry))) (now (shifts .entry)) (now (peels .entry)) y (loopReads (now (store .entry)) j) before a ⌝ }
 {
     let past = reader::start_at(store, j + 1);
     let mut r = reader::start_at(store, j) + 1;
@@ -246,7 +246,7 @@ fn take_later(
     before: Requirement,
 ) -> Requirement
     requires { ⌜ Held (now store) × (k < count (tableIn (now store))) × (k < 16) × (r < startAt (now store) (k + 1)) ⌝ }
-    ensures { λ a. ⌜ RequiredOf (tableIn (now (store .entry))) (now (shifts .entry)) (now (peels .entry)) (allRefs (tableIn (now (store .entry)))) (reads k (itemsFrom (now (store .entry)) r 1)) before a ⌝ }
+    ensures { λ a. ⌜ RequiredIn (now (store .entry)) (now (shifts .entry)) (now (peels .entry)) (reads k (itemsFrom (now (store .entry)) r 1)) before a ⌝ }
 {
     if reader::kind_at(store, r) == reader::READ {
         let y = reference_at(store, k, r, false);
@@ -258,7 +258,7 @@ fn take_later(
 // What the dependences that end at loop k require of it: those of its destination, then those of its reads.
 fn required_of(store: &Store, k: usize, shifts: &[u32; 16], peels: &[u32; 16]) -> Requirement
     requires { ⌜ Held (now store) × (k < count (tableIn (now store))) × (k < 16) ⌝ }
-    ensures { λ a. ⌜ RequiredOf (tableIn (now (store .entry))) (now (shifts .entry)) (now (peels .entry)) (allRefs (tableIn (now (store .entry)))) (refs (tableIn (now (store .entry))) k) (record { shift = 0; peel = 0 }) a ⌝ }
+    ensures { λ a. ⌜ RequiredIn (now (store .entry)) (now (shifts .entry)) (now (peels .entry)) (refs (tableIn (now (store .entry))) k) noRequirement a ⌝ }
 {
     let from = reader::start_at(store, k);
     let past = reader::start_at(store, k + 1);

@@ -195,7 +195,7 @@ fn lengthen(table: &Table, factor: u32) -> Table {
 }
 
 /// Every loop stores one of two arrays and reads the other 16 times, so that
-/// nearly every pair of references makes a dependence.
+/// about half of the pairs with a store among them make a dependence.
 fn dense(random: &mut Random) -> Table {
     let arrays = vec![65_536; 2];
     let loops = (0..MOST_LOOPS)
