@@ -40,7 +40,8 @@ fn either(a: bool, b: bool) -> bool
     if a { true } else { b }
 }
 
-// Whether some iterations of the loops of x and y, within their bounds, are at elements of one number. That the array is one is asked elsewhere.
+// Whether some iterations of the loops of x and y, within their bounds, are at elements of one number. That the array is one is asked
+// elsewhere.
 fn meet(store: &Store, x: Reference, y: Reference) -> bool
     requires { ⌜ Held (now store) × ReferenceFits (tableIn (now store)) x × ReferenceFits (tableIn (now store)) y ⌝ }
     ensures { λ r. ⌜ r ≡ meetIn (tableIn (now (store .entry))) x y ⌝ }

@@ -1,5 +1,6 @@
 -- Fewer dependences give no larger numbers. So where loops' bounds are asked, no shift and no peel is larger than where they play no part.
 use Prim.Native.Nat.{ℕ, _≤_, _<_}
+use native.Mathlib.Omega.{arith}
 use mathlib.Core.Path.{_≡_}
 use mathlib.Core.Bool.{Bool, true, _&&_}
 use lib.Dec.{ltb}
@@ -10,10 +11,13 @@ use Rattle.model.specs.Table.{Table, count}
 use Rattle.model.specs.References.{touch, allRefs}
 use Rattle.overlap.specs.Booleans.{both-true}
 use Rattle.chains.specs.Graph.{Graph}
+use Rattle.chains.specs.Dependence.{backward, forward}
 use Rattle.chains.specs.DependenceLaws.{touch-is, dependence-meets}
 use Rattle.chains.specs.TableGraph.{graph}
-use Rattle.chains.specs.Walk.{numbers, Ordered, Below}
+use Rattle.chains.specs.Walk.{numbers, shifts, peels, Ordered, Below}
 use Rattle.chains.specs.Largest.{numbers-legal, numbers-least}
+use Rattle.chains.specs.Threshold.{threshold}
+use Rattle.chains.specs.ThresholdLaws.{threshold-bound, threshold-upper}
 use Rattle.chains.specs.Tables.{allRefs-ordered, allRefs-below}
 
 module _ {R : Type 0} (amount : R → R → ℕ) (g : Graph R) (depends : R → R → Bool)
@@ -42,3 +46,10 @@ never-larger t few amount = fewer-smaller amount (withoutBounds t) _ _ fewer (al
   where
     fewer : (x y : Reference) → graph t .depends x y ≡ true → (ltb (x .number) (y .number) && touch x y) ≡ true
     fewer x y e = let m = dependence-meets t x y .0 e in rw (lt-ltb _ _ (m .earlier-loop), touch-is x y .1 (m .meet .0))
+
+-- nor is the threshold
+pub threshold-never-larger : (t : Table) → count t ≤ 16
+    → threshold (shifts (graph t)) (peels (graph t)) ≤ threshold (shifts (withoutBounds t)) (peels (withoutBounds t))
+threshold-never-larger t few =
+    threshold-bound _ _ _
+    (λ k l. omega (arith, never-larger t few backward k, never-larger t few forward k, threshold-upper (shifts (withoutBounds t)) (peels (withoutBounds t)) k l))

@@ -2,7 +2,6 @@
 use native.Mathlib.Omega.{arith}
 use mathlib.Core.Path.{_∙_}
 use borrow.Author.Needs.{needs}
-use denote.Ref.{now}
 use Rattle.amounts.proofs.Laws.{count-few, meet-stored}
 use Rattle.amounts.proofs.meet.Statement.{statement}
 use Rattle.amounts.proofs.meet.Tie as tie
