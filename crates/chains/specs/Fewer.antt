@@ -1,6 +1,5 @@
 -- Fewer dependences give no larger numbers. So where loops' bounds are asked, no shift and no peel is larger than where they play no part.
 use Prim.Native.Nat.{ℕ, _≤_, _<_}
-use native.Mathlib.Omega.{arith}
 use mathlib.Core.Path.{_≡_}
 use mathlib.Core.Bool.{Bool, true, _&&_}
 use lib.Dec.{ltb}
@@ -17,7 +16,7 @@ use Rattle.chains.specs.TableGraph.{graph}
 use Rattle.chains.specs.Walk.{numbers, shifts, peels, Ordered, Below}
 use Rattle.chains.specs.Largest.{numbers-legal, numbers-least}
 use Rattle.chains.specs.Threshold.{threshold}
-use Rattle.chains.specs.ThresholdLaws.{threshold-bound, threshold-upper}
+use Rattle.chains.specs.ThresholdLaws.{threshold-smaller}
 use Rattle.chains.specs.Tables.{allRefs-ordered, allRefs-below}
 
 module _ {R : Type 0} (amount : R → R → ℕ) (g : Graph R) (depends : R → R → Bool)
@@ -50,6 +49,4 @@ never-larger t few amount = fewer-smaller amount (withoutBounds t) _ _ fewer (al
 -- nor is the threshold
 pub threshold-never-larger : (t : Table) → count t ≤ 16
     → threshold (shifts (graph t)) (peels (graph t)) ≤ threshold (shifts (withoutBounds t)) (peels (withoutBounds t))
-threshold-never-larger t few =
-    threshold-bound _ _ _
-    (λ k l. omega (arith, never-larger t few backward k, never-larger t few forward k, threshold-upper (shifts (withoutBounds t)) (peels (withoutBounds t)) k l))
+threshold-never-larger t few = threshold-smaller _ _ _ _ (never-larger t few backward) (never-larger t few forward)

@@ -3,6 +3,7 @@ use Prim.Native.Nat.{ℕ, _≤_, _<_}
 use mathlib.Core.Path.{_≡_, refl}
 use mathlib.Core.Logic.{_⊎_, inl, inr, ⊎-elim}
 use mathlib.Core.List.{List}
+use lib.ListN.{getD}
 use native.Mathlib.Omega.{arith}
 use Rattle.chains.specs.MaximumLaws.{maximumBelow-of, maximumBelow-upper}
 use Rattle.chains.specs.Threshold.{sumAt, threshold}
@@ -23,3 +24,8 @@ module _ (s p : List ℕ) where
   pub threshold-bound : (m : ℕ) → ((k : ℕ) → k < 16 → sumAt s p k ≤ m) → threshold s p ≤ m
   unfolding threshold
   threshold-bound m h = maximumBelow-of (λ n. n ≤ m) (sumAt s p) 16 (omega arith) h
+
+-- and smaller shifts and peels have no larger one
+pub threshold-smaller : (s p s′ p′ : List ℕ) → ((k : ℕ) → getD s k 0 ≤ getD s′ k 0) → ((k : ℕ) → getD p k 0 ≤ getD p′ k 0)
+    → threshold s p ≤ threshold s′ p′
+threshold-smaller s p s′ p′ a b = threshold-bound s p (threshold s′ p′) (λ k l. omega (arith, a k, b k, threshold-upper s′ p′ k l))

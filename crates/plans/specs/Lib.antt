@@ -4,5 +4,7 @@ pub mod Plans
 pub mod Accepted
 -- what the code leaves of it
 pub mod Code
+-- 11 is nowhere given where bounds that play no part would not give it
+pub mod NeverShort
 -- demand 2, from a table's bytes
 pub mod FromBytes

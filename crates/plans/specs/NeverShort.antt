@@ -1,0 +1,33 @@
+-- Where the loops' bounds are asked, 11 is given of no table and processors of which it would not be given if they played no part.
+use Prim.Native.Nat.{ℕ, _≤_}
+use native.Mathlib.Omega.{arith}
+use mathlib.Core.Path.{_≡_, refl}
+use mathlib.Core.Logic.{⊎-elim}
+use mathlib.Core.Bool.{Bool, true, false}
+use mathlib.Core.List.{List}
+use Rattle.model.specs.Table.{Table}
+use Rattle.refusals.specs.Answers.{accepted}
+use Rattle.serial.specs.Serial.{table}
+use Rattle.chains.specs.Walk.{shifts, peels}
+use Rattle.chains.specs.Threshold.{threshold}
+use Rattle.chains.specs.Fewer.{withoutBounds, threshold-never-larger}
+use Rattle.blocks.specs.Span.{tableSpan}
+use Rattle.blocks.specs.Blocks.{isShort}
+use Rattle.blocks.specs.BlockLaws.{short-given, short-not}
+use Rattle.tables.specs.Nine.{valid}
+use Rattle.plans.specs.Plans.{Settings, thresholdOf, shortFor}
+
+-- blocks that are long enough for a threshold are so for a smaller one
+short-smaller : (T P v w : ℕ) → v ≤ w → isShort T P w ≡ false → isShort T P v ≡ false
+short-smaller T P v w l e = go (isShort T P v) refl
+  where
+    go : (b : Bool) → isShort T P v ≡ b → isShort T P v ≡ false
+    go true q =
+        let (m, n) = short-not T P w e in
+        absurd (⊎-elim (λ h. omega arith) (λ (two, b, i, h). omega (arith, n two b)) (short-given T P v q))
+    go false q = q
+
+pub never-short : (s : List ℕ) (t : Table) → table s ≡ accepted t → (w : Settings)
+    → isShort (tableSpan t .count) (w .processors) (threshold (shifts (withoutBounds t)) (peels (withoutBounds t))) ≡ false
+    → shortFor t w ≡ false
+never-short s t read w = short-smaller _ _ _ _ (threshold-never-larger t (valid s t read .few-loops))
