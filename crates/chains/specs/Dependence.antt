@@ -12,7 +12,8 @@ abbrev pub meetIn : Table → Reference → Reference → Bool
 meetIn t x y = meeting (first t (x .number)) (last t (x .number)) (x .offset) (first t (y .number)) (last t (y .number)) (y .offset)
 
 -- two references to one array, at least one of them a destination, the first in an earlier loop, that meet within their loops' bounds.
--- What counts as a dependence in a table is said here alone: the table's graph has this predicate, and chains, numbers and plans speak of the graph
+-- What counts as a dependence in a table is said here alone: the table's graph has this predicate, and chains, numbers and plans speak of
+-- the graph
 unfoldable pub dependence : Table → Reference → Reference → Bool
 unfolding touch meeting
 dependence t x y = ltb (x .number) (y .number) && (touch x y && meetIn t x y)

@@ -1,15 +1,17 @@
 -- Fewer dependences give no larger numbers. So where loops' bounds are asked, no shift and no peel is larger than where they play no part.
 use Prim.Native.Nat.{ℕ, _≤_, _<_}
 use mathlib.Core.Path.{_≡_}
+use mathlib.Core.Logic.{_↔_}
 use mathlib.Core.Bool.{Bool, true, _&&_}
+use mathlib.Core.List.{List·Memᴰ as Mem}
 use lib.Dec.{ltb}
 use lib.ListN.{getD}
 use borrow.Author.Tests.{ltb-true, lt-ltb}
 use Rattle.model.specs.declared.Reference.{Reference}
 use Rattle.model.specs.Table.{Table, count}
-use Rattle.model.specs.References.{touch, allRefs}
+use Rattle.model.specs.References.{touch, Touch, allRefs}
 use Rattle.overlap.specs.Booleans.{both-true}
-use Rattle.chains.specs.Graph.{Graph}
+use Rattle.chains.specs.Graph.{Graph, Dependence}
 use Rattle.chains.specs.Dependence.{backward, forward}
 use Rattle.chains.specs.DependenceLaws.{touch-is, dependence-meets}
 use Rattle.chains.specs.TableGraph.{graph}
@@ -38,6 +40,17 @@ withoutBounds t = record {
   depends = λ x y. ltb (x .number) (y .number) && touch x y;
   earlier = λ x y e. ltb-true (x .number) (y .number) (both-true (ltb (x .number) (y .number)) (touch x y) e .0);
 }
+
+-- in which any reference of an earlier loop and one of a later loop to its array make a dependence, if one of them stores
+pub without-touch : (t : Table) (x y : Reference)
+    → Dependence (withoutBounds t) x y ↔ (Mem x (allRefs t) × Mem y (allRefs t) × (x .number < y .number) × Touch x y)
+without-touch t x y = (given, made)
+  where
+    given : Dependence (withoutBounds t) x y → Mem x (allRefs t) × Mem y (allRefs t) × (x .number < y .number) × Touch x y
+    given d = let (l, h) = both-true (ltb (x .number) (y .number)) (touch x y) (d .joined) in (d .from, d .to, ltb-true _ _ l, touch-is x y .0 h)
+
+    made : Mem x (allRefs t) × Mem y (allRefs t) × (x .number < y .number) × Touch x y → Dependence (withoutBounds t) x y
+    made (m, n, l, h) = record { from = m; to = n; joined = rw (lt-ltb _ _ l, touch-is x y .1 h) }
 
 pub never-larger : (t : Table) → count t ≤ 16 → (amount : Reference → Reference → ℕ) (k : ℕ)
     → getD (numbers amount (graph t)) k 0 ≤ getD (numbers amount (withoutBounds t)) k 0

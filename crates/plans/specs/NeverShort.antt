@@ -15,7 +15,7 @@ use Rattle.blocks.specs.Span.{tableSpan}
 use Rattle.blocks.specs.Blocks.{isShort}
 use Rattle.blocks.specs.BlockLaws.{short-given, short-not}
 use Rattle.tables.specs.Nine.{valid}
-use Rattle.plans.specs.Plans.{Settings, thresholdOf, shortFor}
+use Rattle.plans.specs.Plans.{Settings, shortFor}
 
 -- blocks that are long enough for a threshold are so for a smaller one
 short-smaller : (T P v w : ℕ) → v ≤ w → isShort T P w ≡ false → isShort T P v ≡ false
