@@ -59,7 +59,7 @@ module _ {R : Type 0} (amount : R → R → ℕ) (g : Graph R) where
   walk-append (x ∷ xs) ys s = walk-append xs ys (raised amount g s x)
 
   -- the number of a loop does not count where something is required of that loop
-  required-own : (s : List ℕ) (k v : ℕ) (y x : R) → g .number y ≡ k → required amount g (set s k v) y x ≡ required amount g s y x
+  pub required-own : (s : List ℕ) (k v : ℕ) (y x : R) → g .number y ≡ k → required amount g (set s k v) y x ≡ required amount g s y x
   unfolding required
   required-own s k v y x e = go (g .depends x y) refl
     where
