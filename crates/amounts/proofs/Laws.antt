@@ -1,80 +1,44 @@
--- The walk as the code makes it: over the rows of a loop, and over pairs of loops.
-use Prim.Native.Nat.{ℕ, zero, suc, _+_, _-_, max, _≤_, _<_}
-use mathlib.Core.Path.{_≡_, refl, sym, ap, _∙_}
-use mathlib.Core.Logic.{⊎-elim}
-use mathlib.Core.Bool.{Bool, true, false, false≢true, _&&_}
-use mathlib.Core.List.{List, [], _∷_, _++_}
+-- The walk as the code makes it: over pairs, over the rows of a loop, and over the loops.
+use Prim.Native.Nat.{ℕ, _+_, _-_, max, _≤_, _<_}
+use mathlib.Core.Path.{_≡_, refl, sym, ap, subst, _∙_}
+use mathlib.Core.Bool.{Bool, true, false}
+use mathlib.Core.List.{List, [], _∷_, _++_, append-nil}
 use mathlib.Core.List.{List·Memᴰ as Mem}
-use mathlib.Core.List.{List·Memᴰ·cases-cons as cases-cons, List·Memᴰ·not-nil as not-nil}
-use native.Mathlib.Nat.{max-zero, zero-max}
 use native.Mathlib.Decide.{ℕ-discrete}
 use native.Mathlib.Numerals.{add-one}
 use native.Mathlib.Omega.{arith}
-use borrow.Author.Tests.{eq-eqb, ne-eqb}
-use lib.Dec.{eqb}
-use lib.ListN.{length, getD, set, replicate, length-set}
-use lib.Seq.{getD-set-same}
-use Rattle.order.specs.Sequences.{joined}
+use lib.ListN.{length, getD, set, take, replicate, length-append, length-replicate}
+use lib.Seq.{take-append-seam}
+use Rattle.order.specs.Sequences.{joined, runAll}
+use Rattle.order.specs.Lists.{mem-joined, joined-split}
+use Rattle.order.specs.Reorder.{runAll-append}
 use Rattle.model.specs.declared.Reference.{Reference}
-use Rattle.model.specs.Table.{Item, read, constant, operation, Table, count}
-use Rattle.model.specs.References.{reads, refs, allRefs}
-use Rattle.reader.specs.Store.{firstAt, lastAt, startAt, kindAt, arrayAt, itemsFrom, tableIn}
-use Rattle.reader.specs.Held.{Held, first-held, last-held, count-held, few-loops, opening-held}
+use Rattle.model.specs.Table.{Table, count}
+use Rattle.model.specs.References.{touch, refs, allRefs}
+use Rattle.reader.specs.Store.{firstAt, lastAt, startAt, kindAt, valueAt, tableIn}
+use Rattle.reader.specs.Held.{Held, first-held, last-held, count-held, few-loops, few-rows, opening-held}
 use Rattle.overlap.specs.Overlap.{overlap}
 use Rattle.overlap.specs.OverlapLaws.{overlap-meeting}
-use Rattle.chains.specs.Dependence.{meetIn, dependence, backward, forward}
-use Rattle.chains.specs.DependenceLaws.{none-of-reads, none-apart}
+use Rattle.chains.specs.Dependence.{meetIn, backward, forward}
+use Rattle.chains.specs.DependenceLaws.{dependence-bounds, none-untouched}
+use Rattle.chains.specs.Graph.{Graph}
 use Rattle.chains.specs.TableGraph.{graph}
-use Rattle.chains.specs.Maximum.{maximum}
-use Rattle.chains.specs.MaximumLaws.{maximum-append, maximum-none}
-use Rattle.chains.specs.Walk.{required, walk, numbers}
-use Rattle.chains.specs.WalkLaws.{required-met, required-none, required-late, walk-append, walk-loop, zeros}
-use Rattle.chains.specs.Bounds.{Small, AtMost, walk-small}
-use Rattle.chains.specs.Tables.{refs-number, refs-allRefs}
-use Rattle.amounts.specs.declared.Requirement.{Requirement}
-use Rattle.amounts.specs.Rows.{refIn, readsIn, row-read, row-other, reads-next, reads-end, row-in, start-in, in-range}
-use Rattle.amounts.specs.Walked.{ReferenceFits, row-fits, ofPairs, Required, RequiredOf, Bounded, Walked}
+use Rattle.chains.specs.Walk.{shifts, peels}
+use Rattle.chains.specs.WalkLaws.{zeros}
+use Rattle.chains.specs.Steps.{Placed, Pair, at, placedFrom, pairsTo, stepsTo, steps, raisedBy, Numbers, takeUp, step, noNumbers, walked}
+use Rattle.chains.specs.StepLaws.{placed-append, stepsTo-append, stepsTo-one, raisedBy-length, raisedBy-met, raisedBy-none, walked-numbers}
+use Rattle.chains.specs.Bounds.{Small, raisedBy-small}
+use Rattle.chains.specs.Tables.{refs-number, refs-allRefs, allRefs-below}
+use Rattle.amounts.specs.declared.Progress.{Progress}
+use Rattle.amounts.specs.Rows.{refIn, pastRow, row-read, row-other, past-few, row-in, start-in, past-start, past-next, joined-few, past-few-references, in-range}
+use Rattle.amounts.specs.Columns.{refAt, refsFrom, Marked, withReference}
+use Rattle.amounts.specs.ColumnLaws.{with-sized, other-marked, here-marked, refs-with, refs-length, refs-mem, refs-first, refs-next, refs-end}
+use Rattle.amounts.specs.Walked.{ReferenceFits, Pairable, Earlier, Bounded, numbersIn, Walked}
 
--- reads do not store
-reads-stores : (k : ℕ) (xs : List Item) (r : Reference) → Mem r (reads k xs) → r .stores ≡ false
-reads-stores k [] r m = absurd (not-nil m)
-reads-stores k (read a o ∷ xs) r m = ⊎-elim (λ e. ap (λ (q : Reference). q .stores) e) (reads-stores k xs r) (cases-cons m)
-reads-stores k (constant n ∷ xs) r m = reads-stores k xs r m
-reads-stores k (operation n ∷ xs) r m = reads-stores k xs r m
+pub count-few : {c : List ℕ} → Held c → count (tableIn c) ≤ 16
+count-few h = omega (arith, count-held h, few-loops h)
 
-module _ (t : Table) (amount : Reference → Reference → ℕ) (s : List ℕ) (y : Reference) where
-  -- a pair that is a dependence, and one that is not
-  pub taken-up : (x : Reference) (b r : ℕ) → dependence t x y ≡ true → r ≡ max b (getD s (x .number) 0 + amount x y) → r ≡ max b (required amount (graph t) s y x)
-  taken-up x b r e q = rw (required-met amount (graph t) s y x e) q
-
-  pub passed-over : (x : Reference) (b : ℕ) → dependence t x y ≡ false → b ≡ max b (required amount (graph t) s y x)
-  passed-over x b e = rw (required-none amount (graph t) s y x e) (sym (max-zero b))
-
-  -- where y reads, reads require nothing of its loop
-  reads-nothing : y .stores ≡ false → (k : ℕ) (xs : List Item) → maximum (required amount (graph t) s y) (reads k xs) ≡ 0
-  reads-nothing e k xs = maximum-none _ (reads k xs) (λ x m. required-none amount (graph t) s y x (none-of-reads t x y (reads-stores k xs x m) e))
-
-  -- nor do loops that are not earlier
-  late-nothing : (m n : ℕ) → y .number ≤ m → m ≤ n
-      → maximum (required amount (graph t) s y) (joined n (refs t)) ≡ maximum (required amount (graph t) s y) (joined m (refs t))
-  late-nothing m zero a b = let e : m ≡ 0 = omega arith in rw e
-  late-nothing m (suc n) a b = go (ℕ-discrete m (suc n)) (late-nothing m n a)
-    where
-      go : Dec (m ≡ suc n) → (m ≤ n → maximum (required amount (graph t) s y) (joined n (refs t)) ≡ maximum (required amount (graph t) s y) (joined m (refs t)))
-          → maximum (required amount (graph t) s y) (joined n (refs t) ++ refs t n) ≡ maximum (required amount (graph t) s y) (joined m (refs t))
-      go (yes e) ih = rw e
-      go (no e) ih =
-          let none = maximum-none (required amount (graph t) s y) (refs t n) (λ x i. required-late amount (graph t) s y x (omega (arith, refs-number t n x i))) in
-          omega (arith, maximum-append (required amount (graph t) s y) (joined n (refs t)) (refs t n), none, ih (omega arith))
-
--- a row that is a read of an array is a read
-pub read-kind : (c : List ℕ) (r q : ℕ) → (eqb (kindAt c r) 0 && eqb (arrayAt c r) q) ≡ true → kindAt c r ≡ 0
-read-kind c r q e = go (ℕ-discrete (kindAt c r) 0)
-  where
-    go : Dec (kindAt c r ≡ 0) → kindAt c r ≡ 0
-    go (yes k) = k
-    go (no k) = absurd (false≢true (rw (ne-eqb _ _ k) at e))
-
+-- ONE PAIR
 -- the test of two references, on the bounds as they are stored
 pub meet-stored : {c : List ℕ} → Held c → (x y : Reference) → ReferenceFits (tableIn c) x → ReferenceFits (tableIn c) y → (f l g m : ℕ)
     → f ≡ firstAt c (x .number) → l ≡ lastAt c (x .number) → g ≡ firstAt c (y .number) → m ≡ lastAt c (y .number) → (b : Bool)
@@ -88,211 +52,250 @@ meet-stored h x y u v f l g m a d p q b e =
       q ∙ sym (last-held h (y .number) (v .number)),
     ) (overlap-meeting _ _ _ _ _ _)
 
--- WHAT PAIRS REQUIRE OF A LOOP
-module _ {t : Table} {shifts peels : List ℕ} {y : Reference} where
-  pub required-no : {b : Requirement} → Required t shifts peels y [] b b
-  unfolding maximum
-  required-no {b} = record { shift = sym (max-zero (b .shift)); peel = sym (max-zero (b .peel)) }
+-- references to one array, one of them storing, the first in the earlier loop: where they meet, and where they do not
+module _ (t : Table) (amount : Reference → Reference → ℕ) (x y : Reference) (s : List ℕ) (l : x .number < y .number) (e : touch x y ≡ true) where
+  pub raised-met : (w d v : ℕ) → meetIn t x y ≡ true → w ≡ getD s (x .number) 0 → d ≡ amount x y → v ≡ max (getD s (y .number) 0) (w + d)
+      → set s (y .number) v ≡ raisedBy (graph t) amount x y s
+  raised-met w d v m p q r = rw (r, p, q) (sym (raisedBy-met (graph t) amount x y s (dependence-bounds t x y l e ∙ m)))
 
-  pub required-then : {xs zs : List Reference} {b a r : Requirement} → Required t shifts peels y xs b a → Required t shifts peels y zs a r
-      → Required t shifts peels y (xs ++ zs) b r
-  required-then {xs} {zs} {b} {a} {r} g h =
-      let s = maximum-append (required backward (graph t) shifts y) xs zs in
-      let p = maximum-append (required forward (graph t) peels y) xs zs in
-      record { shift = omega (arith, g .shift, h .shift, s); peel = omega (arith, g .peel, h .peel, p) }
+  pub raised-apart : meetIn t x y ≡ false → s ≡ raisedBy (graph t) amount x y s
+  raised-apart m = sym (raisedBy-none (graph t) amount x y s (dependence-bounds t x y l e ∙ m))
 
-module _ (t : Table) (shifts peels : List ℕ) (y : Reference) where
-  pub required-one : (x : Reference) (b a : Requirement)
-      → (a .shift ≡ max (b .shift) (required backward (graph t) shifts y x)) × (a .peel ≡ max (b .peel) (required forward (graph t) peels y x))
-      → Required t shifts peels y (x ∷ []) b a
-  unfolding maximum
-  required-one x b a h = record { shift = rw max-zero (h .0); peel = rw max-zero (h .1) }
+-- other references leave the numbers as they are
+raised-untouched : (t : Table) (amount : Reference → Reference → ℕ) (x y : Reference) (s : List ℕ) → touch x y ≡ false → raisedBy (graph t) amount x y s ≡ s
+raised-untouched t amount x y s e = raisedBy-none (graph t) amount x y s (none-untouched t x y e)
 
-  -- a reference to another array, and a row that does not read y's
-  pub required-other : (x : Reference) (b : Requirement) → (x .array ≡ y .array → ⊥) → Required t shifts peels y (x ∷ []) b b
-  required-other x b n =
-      let e = none-apart t x y n in
-      required-one x b b (passed-over t backward shifts y x (b .shift) e, passed-over t forward peels y x (b .peel) e)
+-- a step, of such references and of others
+pub taken-touching : (t : Table) (x y : Reference) (s p s′ p′ : List ℕ) (made : ℕ)
+    → (s′ ≡ raisedBy (graph t) backward x y s) × (p′ ≡ raisedBy (graph t) forward x y p) → numbersIn s′ p′ (made + 1) ≡ takeUp (graph t) x y (numbersIn s p made)
+taken-touching t x y s p s′ p′ made (e, f) = rw (e, f, add-one made)
 
-  pub required-apart : (c : List ℕ) (n r : ℕ) (b : Requirement) → (eqb (kindAt c r) 0 && eqb (arrayAt c r) (y .array)) ≡ false
-      → Required t shifts peels y (reads n (itemsFrom c r 1)) b b
-  required-apart c n r b e = go (ℕ-discrete (kindAt c r) 0)
-    where
-      other : kindAt c r ≡ 0 → arrayAt c r ≡ y .array → ⊥
-      other k q = absurd (false≢true (sym (rw (eq-eqb _ _ k, eq-eqb _ _ q) at e)))
+pub taken-apart : (t : Table) (x y : Reference) (s p : List ℕ) (made : ℕ) → touch x y ≡ false → numbersIn s p (made + 1) ≡ takeUp (graph t) x y (numbersIn s p made)
+taken-apart t x y s p made e = taken-touching t x y s p s p made (sym (raised-untouched t backward x y s e), sym (raised-untouched t forward x y p e))
 
-      go : Dec (kindAt c r ≡ 0) → Required t shifts peels y (reads n (itemsFrom c r 1)) b b
-      go (yes k) = rw (row-read c n r k) (required-other (refIn c n r false) b (other k))
-      go (no k) = rw (row-other c n r k) required-no
+-- a number that fits, with an amount, is no large one
+pub small-sum : (s : List ℕ) (j w d : ℕ) → Small 510 s → j < 16 → w ≡ getD s j 0 → d ≤ 510 → w + d < 4294967296
+small-sum s j w d small few e l = omega (arith, small j)
 
-  -- where y reads, the reads of a loop add nothing
-  pub required-read : (c : List ℕ) (j from past : ℕ) (b : Requirement) → y .stores ≡ false → Required t shifts peels y (readsIn c j from past) b b
-  required-read c j from past b e =
-      let s = reads-nothing t backward shifts y e j (itemsFrom c from (past - from)) in
-      let p = reads-nothing t forward peels y e j (itemsFrom c from (past - from)) in
-      record { shift = omega (arith, s); peel = omega (arith, p) }
+-- what a pair leaves fits
+pub raised-bounded : (t : Table) (x y : Reference) (s p : List ℕ) → x .offset ≤ 510 → ReferenceFits t y → Bounded s p
+    → Bounded (raisedBy (graph t) backward x y s) (raisedBy (graph t) forward x y p)
+raised-bounded t x y s p l v b = record {
+  shifts-long = raisedBy-length (graph t) backward x y s ∙ b .shifts-long;
+  peels-long = raisedBy-length (graph t) forward x y p ∙ b .peels-long;
+  shifts-small = raisedBy-small backward (graph t) 510 x y s (omega (arith, v .offset)) (omega (arith, v .few, b .shifts-long)) (b .shifts-small);
+  peels-small = raisedBy-small forward (graph t) 510 x y p (omega arith) (omega (arith, v .few, b .peels-long)) (b .peels-small);
+}
 
-  -- what the reads from row r on require beside a is what all of the rows require beside b
-  pub record Remaining (c : List ℕ) (j from past : ℕ) (b : Requirement) (r : ℕ) (a : Requirement) : Type 0 where
-    pub rest : (z : Requirement) → Required t shifts peels y (readsIn c j r past) a z → Required t shifts peels y (readsIn c j from past) b z
+-- PAIRS OF ONE REFERENCE
+-- the pairs of y, which is at position n, with the references of the columns from position i on
+abbrev pub toTake : (columns : List ℕ) (from n : ℕ) (y : Reference) (i : ℕ) → List (Pair Reference)
+toTake columns from n y i = pairsTo (at n y) (placedFrom i (refsFrom columns i (from - i)))
 
-  module _ (c : List ℕ) (j from past : ℕ) (b : Requirement) where
-    pub remaining-start : Remaining c j from past b from b
-    remaining-start = record { rest = λ z h. h }
+-- to take them up, from these numbers, gives what to take up all of them gives
+pub record Remaining (t : Table) (columns : List ℕ) (from : ℕ) (y : Reference) (start : Numbers) (i made : ℕ) (shifts peels : List ℕ) : Type 0 where
+  pub bounded : Bounded shifts peels
+  pub few : made ≤ start .made + i
+  pub past : i ≤ from
+  pub rest : (n : ℕ) → runAll (step (graph t)) (toTake columns from n y i) (numbersIn shifts peels made) ≡ runAll (step (graph t)) (toTake columns from n y 0) start
 
-    pub remaining-next : (r : ℕ) (a d : Requirement) → Remaining c j from past b r a → r < past
-        → Required t shifts peels y (reads j (itemsFrom c r 1)) a d → Remaining c j from past b (r + 1) d
-    remaining-next r a d i l h = record { rest = λ z g. i .rest z (rw (reads-next c j r past l) (required-then h g)) }
+module _ (t : Table) (columns : List ℕ) (from : ℕ) (y : Reference) where
+  pub remaining-start : (made : ℕ) (shifts peels : List ℕ) → Bounded shifts peels → Remaining t columns from y (numbersIn shifts peels made) 0 made shifts peels
+  remaining-start made shifts peels b = record { bounded = b; few = omega arith; past = omega arith; rest = λ n. refl }
 
-    pub remaining-end : (r : ℕ) (a : Requirement) → Remaining c j from past b r a → past ≤ r → Required t shifts peels y (readsIn c j from past) b a
-    remaining-end r a i l = i .rest a (rw (reads-end c j r past l) required-no)
-
-  -- the loops before j
-  module _ (b : Requirement) where
-    pub loops-next : (j : ℕ) (a d : Requirement) → Required t shifts peels y (joined j (refs t)) b a → Required t shifts peels y (refs t j) a d
-        → Required t shifts peels y (joined (j + 1) (refs t)) b d
-    loops-next j a d i h = rw (add-one j) (required-then i h)
-
-    -- those from y's own on require nothing
-    pub loops-end : (j : ℕ) (a : Requirement) → Required t shifts peels y (joined j (refs t)) b a → y .number ≤ j → j ≤ count t
-        → Required t shifts peels y (allRefs t) b a
-    loops-end j a i l m =
-        let s = late-nothing t backward shifts y j (count t) l m in
-        let p = late-nothing t forward peels y j (count t) l m in
-        record { shift = omega (arith, i .shift, s); peel = omega (arith, i .peel, p) }
-
--- what several references of one loop require
-module _ {t : Table} {shifts peels : List ℕ} {xs : List Reference} where
-  pub pairs-no : {b : Requirement} → RequiredOf t shifts peels xs [] b b
-  unfolding maximum
-  pairs-no {b} = record { shift = sym (max-zero (b .shift)); peel = sym (max-zero (b .peel)) }
-
-  pub pairs-one : {y : Reference} {b a : Requirement} → Required t shifts peels y xs b a → RequiredOf t shifts peels xs (y ∷ []) b a
-  unfolding maximum
-  pairs-one h = record { shift = rw max-zero (h .shift); peel = rw max-zero (h .peel) }
-
-  pub pairs-then : {ys zs : List Reference} {b a r : Requirement} → RequiredOf t shifts peels xs ys b a → RequiredOf t shifts peels xs zs a r
-      → RequiredOf t shifts peels xs (ys ++ zs) b r
-  pairs-then {ys} {zs} g h =
-      let s = maximum-append (λ y. maximum (required backward (graph t) shifts y) xs) ys zs in
-      let p = maximum-append (λ y. maximum (required forward (graph t) peels y) xs) ys zs in
-      record { shift = omega (arith, g .shift, h .shift, s); peel = omega (arith, g .peel, h .peel, p) }
-
--- what the destination and the reads up to row r of loop k require
-pub record Taken (shifts peels : List ℕ) (c : List ℕ) (k from past : ℕ) (b : Requirement) (r : ℕ) (a : Requirement) : Type 0 where
-  pub rest : (z : Requirement) → RequiredOf (tableIn c) shifts peels (allRefs (tableIn c)) (readsIn c k r past) a z
-      → RequiredOf (tableIn c) shifts peels (allRefs (tableIn c)) (refIn c k from true ∷ readsIn c k (from + 1) past) b z
-
-module _ (shifts peels : List ℕ) (c : List ℕ) (k from past : ℕ) (b : Requirement) where
-  pub taken-start : (a : Requirement) → Required (tableIn c) shifts peels (refIn c k from true) (allRefs (tableIn c)) b a → Taken shifts peels c k from past b (from + 1) a
-  taken-start a h = record { rest = λ z g. pairs-then (pairs-one h) g }
-
-  pub taken-next : (r : ℕ) (a d : Requirement) → Taken shifts peels c k from past b r a → r < past
-      → RequiredOf (tableIn c) shifts peels (allRefs (tableIn c)) (reads k (itemsFrom c r 1)) a d → Taken shifts peels c k from past b (r + 1) d
-  taken-next r a d i l h = record { rest = λ z g. i .rest z (rw (reads-next c k r past l) (pairs-then h g)) }
-
-  pub taken-end : (r : ℕ) (a : Requirement) → Taken shifts peels c k from past b r a → past ≤ r
-      → RequiredOf (tableIn c) shifts peels (allRefs (tableIn c)) (refIn c k from true ∷ readsIn c k (from + 1) past) b a
-  taken-end r a i l = i .rest a (rw (reads-end c k r past l) pairs-no)
-
--- THE NUMBERS OF ALL LOOPS
-module _ {c : List ℕ} (h : Held c) where
-  pub count-few : count (tableIn c) ≤ 16
-  count-few = omega (arith, count-held h, few-loops h)
-
-  pub destination-fits : (k : ℕ) → k < count (tableIn c) → ReferenceFits (tableIn c) (refIn c k (startAt c k) true)
-  destination-fits k l =
-      row-fits (tableIn c) c k (startAt c k) true l (omega (arith, count-few)) (row-in h k l (startAt c k) (start-in h k l)) (omega (arith, opening-held h k l))
-
-  most-shift : AtMost 510 backward (allRefs (tableIn c))
-  most-shift x y from to = omega (arith, in-range h y to)
-
-  most-peel : AtMost 510 forward (allRefs (tableIn c))
-  most-peel x y from to = omega (arith, in-range h x from)
-
-  -- the walk over the references of loop k: its number grows to what is required of it
-  module _ (amount : Reference → Reference → ℕ) (most : AtMost 510 amount (allRefs (tableIn c))) (k : ℕ) (l : k < count (tableIn c)) (s : List ℕ)
-      (long : length s ≡ 16) (small : Small 510 s) where
-    after : List ℕ
-    after = walk amount (graph (tableIn c)) (refs (tableIn c) k) s
-
-    after-is : after ≡ set s k (max (getD s k 0) (ofPairs amount (graph (tableIn c)) s (allRefs (tableIn c)) (refs (tableIn c) k)))
-    unfolding after
-    after-is = walk-loop amount (graph (tableIn c)) k (refs (tableIn c) k) s (omega (arith, long, l, count-few)) (refs-number (tableIn c) k)
-
-    after-small : Small 510 after
-    unfolding after
-    after-small =
-        walk-small amount (graph (tableIn c)) 510 most (refs (tableIn c) k) s
-        (λ y m. omega (arith, refs-number (tableIn c) k y m, long, l, count-few)) (λ y m. refs-allRefs (tableIn c) y k m l) small
-
-    after-fits : ofPairs amount (graph (tableIn c)) s (allRefs (tableIn c)) (refs (tableIn c) k) < 4294967296
-    after-fits =
-        let top = rw after-is at (after-small k) in
-        let same = getD-set-same s k (max (getD s k 0) (ofPairs amount (graph (tableIn c)) s (allRefs (tableIn c)) (refs (tableIn c) k))) 0 (omega (arith, long, l, count-few)) in
-        omega (arith, top, same, l, count-few)
-
-    after-set : (a n : ℕ) → a ≡ max 0 (ofPairs amount (graph (tableIn c)) s (allRefs (tableIn c)) (refs (tableIn c) k)) → n ≡ max (getD s k 0) a
-        → set s k n ≡ walk amount (graph (tableIn c)) (refs (tableIn c) k) s
-    unfolding after
-    after-set a n e f = ap (set s k) (f ∙ ap (max (getD s k 0)) (e ∙ zero-max _)) ∙ sym after-is
-
-  module _ (k : ℕ) (l : k < count (tableIn c)) (s p : List ℕ) (b : Bounded s p) (a : Requirement)
-      (r : RequiredOf (tableIn c) s p (allRefs (tableIn c)) (refs (tableIn c) k) (record { shift = 0; peel = 0 }) a) where
-    -- what is required fits 32 bits
-    pub required-fits : (a .shift < 4294967296) × (a .peel < 4294967296)
-    required-fits =
-        let us = after-fits backward most-shift k l s (b .shifts-long) (b .shifts-small) in
-        let up = after-fits forward most-peel k l p (b .peels-long) (b .peels-small) in
-        (omega (arith, us, r .shift), omega (arith, up, r .peel))
-
-    -- one loop more
-    pub walked-loop : (n o : ℕ) → n ≡ max (getD s k 0) (a .shift) → o ≡ max (getD p k 0) (a .peel)
-        → Walked (tableIn c) (refs (tableIn c) k) s p (set s k n) (set p k o)
-    unfolding after
-    walked-loop n o e f =
-        let es = after-set backward most-shift k l s (b .shifts-long) (b .shifts-small) (a .shift) n (r .shift) e in
-        let ep = after-set forward most-peel k l p (b .peels-long) (b .peels-small) (a .peel) o (r .peel) f in
-        record {
-          shifts = es;
-          peels = ep;
-          bounded = record {
-            shifts-long = length-set s k n ∙ b .shifts-long;
-            peels-long = length-set p k o ∙ b .peels-long;
-            shifts-small = rw es (after-small backward most-shift k l s (b .shifts-long) (b .shifts-small));
-            peels-small = rw ep (after-small forward most-peel k l p (b .peels-long) (b .peels-small));
-          };
-        }
-
-module _ {t : Table} where
-  pub walked-none : {s p : List ℕ} → Bounded s p → Walked t [] s p s p
-  unfolding walk
-  walked-none b = record { shifts = refl; peels = refl; bounded = b }
-
-  pub walked-then : {xs ys : List Reference} {s p u v q r : List ℕ} → Walked t xs s p u v → Walked t ys u v q r → Walked t (xs ++ ys) s p q r
-  walked-then {xs} {ys} {s} {p} g h = record {
-    shifts = h .shifts ∙ ap (walk backward (graph t) ys) (g .shifts) ∙ sym (walk-append backward (graph t) xs ys s);
-    peels = h .peels ∙ ap (walk forward (graph t) ys) (g .peels) ∙ sym (walk-append forward (graph t) xs ys p);
-    bounded = h .bounded;
+  pub remaining-next : (start : Numbers) (i made made′ : ℕ) (s p s′ p′ : List ℕ) → Pairable t columns i y → i < from → Remaining t columns from y start i made s p
+      → numbersIn s′ p′ made′ ≡ takeUp (graph t) (refAt columns i) y (numbersIn s p made) → Remaining t columns from y start (i + 1) made′ s′ p′
+  remaining-next start i made made′ s p s′ p′ h l r e = record {
+    bounded =
+        rw (ap (λ (q : Numbers). q .shifts) e, ap (λ (q : Numbers). q .peels) e)
+        (raised-bounded t (refAt columns i) y s p (h .fits .offset) (h .later) (r .bounded));
+    few = omega (arith, ap (λ (q : Numbers). q .made) e, r .few);
+    past = omega arith;
+    rest = λ n. rw (add-one i) (rw e (ap (λ (xs : List Reference). runAll (step (graph t)) (pairsTo (at n y) (placedFrom i xs)) (numbersIn s p made)) (sym (refs-next columns i from l)) ∙ r .rest n));
   }
 
-  -- before the first loop
-  pub walked-start : Walked t [] (replicate 16 0) (replicate 16 0) (replicate 16 0) (replicate 16 0)
-  walked-start =
-      walked-none (record {
-        shifts-long = refl;
-        peels-long = refl;
-        shifts-small = λ k. rw (zeros 16 k) (omega arith);
-        peels-small = λ k. rw (zeros 16 k) (omega arith);
-      })
+  pub remaining-end : (start : Numbers) (i made : ℕ) (s p : List ℕ) → from ≤ i → Remaining t columns from y start i made s p
+      → (n : ℕ) → numbersIn s p made ≡ runAll (step (graph t)) (pairsTo (at n y) (placedFrom 0 (refsFrom columns 0 from))) start
+  remaining-end start i made s p l r n =
+      ap (λ (xs : List Reference). runAll (step (graph t)) (pairsTo (at n y) (placedFrom i xs)) (numbersIn s p made)) (sym (refs-end columns i from l))
+      ∙ (let z : from - 0 ≡ from = omega arith in rw z at (r .rest n))
 
-  -- one loop more
-  pub walked-next : (k : ℕ) {s p u v q r : List ℕ} → Walked t (joined k (refs t)) s p u v → Walked t (refs t k) u v q r
-      → Walked t (joined (k + 1) (refs t)) s p q r
-  walked-next k g h = rw (add-one k) (walked-then g h)
+-- THE REFERENCES SO FAR
+module _ {c : List ℕ} (h : Held c) (k : ℕ) (l : k < count (tableIn c)) where
+  -- those of earlier loops
+  joined-fits : (x : Reference) → Mem x (joined k (refs (tableIn c))) → (x .number < k) × ReferenceFits (tableIn c) x
+  joined-fits x m =
+      let (j, i, n) = mem-joined (refs (tableIn c)) k m in
+      let e = refs-number (tableIn c) j x n in (
+        omega arith,
+        record { number = omega arith; few = omega (arith, count-few h); offset = in-range h x (refs-allRefs (tableIn c) x j n (omega arith)) },
+      )
 
-  -- after the last
-  pub walked-all : {s p : List ℕ} → Walked t (allRefs t) (replicate 16 0) (replicate 16 0) s p
-      → (s ≡ numbers backward (graph t)) × (p ≡ numbers forward (graph t))
-  unfolding numbers
-  walked-all w = (w .shifts, w .peels)
+  -- they stand first in the columns
+  first-kept : (columns : List ℕ) (own : List Reference) → refsFrom columns 0 (length (joined k (refs (tableIn c)) ++ own)) ≡ joined k (refs (tableIn c)) ++ own
+      → refsFrom columns 0 (length (joined k (refs (tableIn c)))) ≡ joined k (refs (tableIn c))
+  first-kept columns own e =
+      let xs = joined k (refs (tableIn c)) in
+      let n = length xs in
+      let split : refsFrom columns 0 n ++ refsFrom columns (0 + n) (length own) ≡ xs ++ own = sym (refs-first columns n (length own) 0) ∙ ap (refsFrom columns 0) (sym (length-append xs own)) ∙ e in
+      let m : take n (refsFrom columns 0 n ++ refsFrom columns (0 + n) (length own)) ≡ refsFrom columns 0 n =
+      ap (λ (i : ℕ). take i (refsFrom columns 0 n ++ refsFrom columns (0 + n) (length own))) (sym (refs-length columns n 0))
+      ∙ take-append-seam (refsFrom columns 0 n) (refsFrom columns (0 + n) (length own)) in
+      sym m ∙ ap (take n) split ∙ take-append-seam xs own
+
+  module _ (own : List Reference) (columns s p : List ℕ) (a : Progress) (w : Walked (tableIn c) (joined k (refs (tableIn c)) ++ own) columns s p a) (y : Reference)
+      (mine : y .number ≡ k) (array : y .array < 16) (offset : y .offset ≤ 510) where
+    y-fits : ReferenceFits (tableIn c) y
+    y-fits = record { number = omega arith; few = omega (arith, count-few h); offset = offset }
+
+    -- so the next reference is paired with them
+    pub earlier-of : (from : ℕ) → from ≡ length (joined k (refs (tableIn c))) → Earlier (tableIn c) columns from y
+    earlier-of from e = record {
+      few = omega (arith, joined-few h k (omega arith), few-rows h k (omega arith));
+      later = y-fits;
+      array = array;
+      each = λ x i.
+          let (less, fits) = joined-fits (refAt columns x) (subst (Mem (refAt columns x)) (first-kept columns own (w .kept)) (refs-mem columns (length (joined k (refs (tableIn c)))) 0 x (omega arith) (omega arith))) in
+          record {
+            few = omega (arith, joined-few h k (omega arith), few-rows h k (omega arith));
+            fits = fits;
+            marked = w .marked x (omega (arith, length-append (joined k (refs (tableIn c))) own));
+            earlier = omega arith;
+            later = y-fits;
+            array = array;
+          };
+    }
+
+    -- the steps to it
+    steps-next : (n : ℕ) → stepsTo (graph (tableIn c)) (at n y ∷ []) ≡ pairsTo (at n y) (placedFrom 0 (joined k (refs (tableIn c))))
+    steps-next n =
+        let (rest, same, of) = joined-split (refs (tableIn c)) k (count (tableIn c)) (omega arith) in
+        stepsTo-one (graph (tableIn c)) (at n y) (joined k (refs (tableIn c))) rest same (λ x m. omega (arith, joined-fits x m .0))
+        (λ z m. let (j, u, v, i) = of z m in omega (arith, refs-number (tableIn c) j z i))
+
+    -- and what the walk has come to when they are made
+    pub walked-next : (from : ℕ) → from ≡ length (joined k (refs (tableIn c))) → a .references < 528 → (columns′ s′ p′ : List ℕ) (r : Progress)
+        → (r .references ≡ a .references + 1) × (columns′ ≡ withReference (a .references) y columns)
+        → numbersIn s′ p′ (r .made) ≡ runAll (step (graph (tableIn c))) (pairsTo (at (a .references) y) (placedFrom 0 (refsFrom columns 0 from))) (numbersIn s p (a .made))
+        → Bounded s′ p′ × (r .made ≤ a .made + 528)
+        → Walked (tableIn c) ((joined k (refs (tableIn c)) ++ own) ++ (y ∷ [])) columns′ s′ p′ r
+    walked-next from e few columns′ s′ p′ r (one, put) made (bounded, more) = record {
+      sized = rw put (with-sized (a .references) y columns few ∙ w .sized);
+      references = omega (arith, one, w .references, longer);
+      kept = rw (put, longer, w .references, add-one (length ys)) (refs-with (length ys) y columns (omega (arith, w .references)) (w .sized) array ∙ ap (λ (xs : List Reference). xs ++ (y ∷ [])) (w .kept));
+      marked = λ x i. rw put (mark x (omega (arith, w .references, longer)) (ℕ-discrete x (a .references)));
+      numbers =
+          made
+          ∙ ap (λ (xs : List Reference). runAll (step g) (pairsTo (at n y) (placedFrom 0 xs)) (numbersIn s p (a .made))) early
+          ∙ ap (runAll (step g) (pairsTo (at n y) (placedFrom 0 (joined k (refs (tableIn c)))))) (w .numbers)
+          ∙ ap (λ (ps : List (Pair Reference)). runAll (step g) ps (runAll (step g) (stepsTo g (placedFrom 0 ys)) noNumbers)) (sym (steps-next n))
+          ∙ sym (runAll-append (step g) (stepsTo g (placedFrom 0 ys)) (stepsTo g (at n y ∷ [])) noNumbers)
+          ∙ ap (λ (ps : List (Pair Reference)). runAll (step g) ps noNumbers) (sym (stepsTo-append g (placedFrom 0 ys) (at n y ∷ [])))
+          ∙ ap (λ (qs : List (Placed Reference)). runAll (step g) (stepsTo g qs) noNumbers) (sym place);
+      few = omega (arith, one, more, w .few);
+      bounded = bounded;
+    }
+      where
+        g : Graph Reference
+        g = graph (tableIn c)
+
+        n : ℕ
+        n = a .references
+
+        ys : List Reference
+        ys = joined k (refs (tableIn c)) ++ own
+
+        early : refsFrom columns 0 from ≡ joined k (refs (tableIn c))
+        early = rw e (first-kept columns own (w .kept))
+
+        longer : length ((joined k (refs (tableIn c)) ++ own) ++ (y ∷ [])) ≡ length (joined k (refs (tableIn c)) ++ own) + 1
+        longer = length-append (joined k (refs (tableIn c)) ++ own) (y ∷ [])
+
+        place : placedFrom 0 (ys ++ (y ∷ [])) ≡ placedFrom 0 ys ++ (at n y ∷ [])
+        place =
+            let z : 0 + length ys ≡ a .references = omega (arith, w .references) in
+            rw z at (placed-append 0 ys (y ∷ []))
+
+        mark : (x : ℕ) → x ≤ a .references → Dec (x ≡ a .references) → Marked (withReference (a .references) y columns) x
+        mark x i (yes q) = rw q (here-marked (a .references) y columns few (w .sized))
+        mark x i (no q) = other-marked (a .references) y columns few x (omega arith) q (w .marked x (omega (arith, w .references)))
+
+-- A ROW OF A LOOP
+module _ {c : List ℕ} (h : Held c) (k : ℕ) (l : k < count (tableIn c)) (columns s p : List ℕ) (a : Progress) (from : ℕ) (e : from ≡ length (joined k (refs (tableIn c)))) where
+  -- its first row, the destination
+  module _ (w : Walked (tableIn c) (joined k (refs (tableIn c))) columns s p a) where
+    alone : Walked (tableIn c) (joined k (refs (tableIn c)) ++ []) columns s p a
+    alone = rw (append-nil (joined k (refs (tableIn c)))) w
+
+    offset-here : valueAt c (startAt c k) ≤ 510
+    offset-here = row-in h k l (startAt c k) (start-in h k l) .offset (omega (arith, opening-held h k l))
+
+    pub destination-few : a .references < 528
+    destination-few = omega (arith, w .references, joined-few h k (omega arith), start-in h k l, past-few h k l)
+
+    pub destination-earlier : Earlier (tableIn c) columns from (refIn c k (startAt c k) true)
+    destination-earlier = earlier-of h k l [] columns s p a alone (refIn c k (startAt c k) true) refl (omega arith) offset-here from e
+
+    pub destination-next : (columns′ s′ p′ : List ℕ) (r : Progress)
+        → (r .references ≡ a .references + 1) × (columns′ ≡ withReference (a .references) (refIn c k (startAt c k) true) columns)
+        → numbersIn s′ p′ (r .made) ≡ runAll (step (graph (tableIn c))) (pairsTo (at (a .references) (refIn c k (startAt c k) true)) (placedFrom 0 (refsFrom columns 0 from))) (numbersIn s p (a .made))
+        → Bounded s′ p′ × (r .made ≤ a .made + 528)
+        → Walked (tableIn c) (pastRow c k (startAt c k + 1)) columns′ s′ p′ r
+    destination-next columns′ s′ p′ r one made more =
+        rw (past-start h k l, ← (append-nil (joined k (refs (tableIn c)))))
+        (walked-next h k l [] columns s p a alone (refIn c k (startAt c k) true) refl (omega arith) offset-here from e destination-few columns′ s′ p′ r one made more)
+
+  -- a row after it
+  module _ (r : ℕ) (u : startAt c k < r) (v : r < startAt c (k + 1)) (w : Walked (tableIn c) (pastRow c k r) columns s p a) where
+    pub row-few : a .references < 528
+    row-few = omega (arith, w .references, past-few-references h k r l u, past-few h k l)
+
+    -- a read
+    module _ (q : kindAt c r ≡ 0) where
+      read-offset : valueAt c r ≤ 510
+      read-offset = row-in h k l r v .offset (omega arith)
+
+      pub read-earlier : Earlier (tableIn c) columns from (refIn c k r false)
+      read-earlier = earlier-of h k l _ columns s p a w (refIn c k r false) refl (omega arith) read-offset from e
+
+      pub read-next : (columns′ s′ p′ : List ℕ) (d : Progress)
+          → (d .references ≡ a .references + 1) × (columns′ ≡ withReference (a .references) (refIn c k r false) columns)
+          → numbersIn s′ p′ (d .made) ≡ runAll (step (graph (tableIn c))) (pairsTo (at (a .references) (refIn c k r false)) (placedFrom 0 (refsFrom columns 0 from))) (numbersIn s p (a .made))
+          → Bounded s′ p′ × (d .made ≤ a .made + 528)
+          → Walked (tableIn c) (pastRow c k (r + 1)) columns′ s′ p′ d
+      read-next columns′ s′ p′ d one made more =
+          rw (past-next h k l r u, row-read c k r q)
+          (walked-next h k l _ columns s p a w (refIn c k r false) refl (omega arith) read-offset from e row-few columns′ s′ p′ d one made more)
+
+    -- another item
+    pub item-next : (kindAt c r ≡ 0 → ⊥) → Walked (tableIn c) (pastRow c k (r + 1)) columns s p a
+    item-next n = rw (past-next h k l r u, row-other c k r n, append-nil (pastRow c k r)) w
+
+-- the walk before its first step, and after its last
+pub walked-start : (t : Table) → Walked t [] (replicate 2112 0) (replicate 16 0) (replicate 16 0) (record { references = 0; made = 0 })
+unfolding refsFrom
+walked-start t = record {
+  sized = length-replicate {A = ℕ} 2112 0;
+  references = refl;
+  kept = refl;
+  marked = λ x i. absurd (omega arith);
+  numbers = refl;
+  few = omega arith;
+  bounded = record {
+    shifts-long = refl;
+    peels-long = refl;
+    shifts-small = λ k. rw (zeros 16 k) (omega arith);
+    peels-small = λ k. rw (zeros 16 k) (omega arith);
+  };
+}
+
+pub walked-all : {t : Table} {columns s p : List ℕ} {a : Progress} → Walked t (allRefs t) columns s p a → numbersIn s p (a .made) ≡ walked (graph t)
+unfolding steps
+walked-all w = w .numbers
+
+-- which are the numbers of before
+pub walked-amounts : {c : List ℕ} → Held c → (s p : List ℕ) (made : ℕ) → numbersIn s p made ≡ walked (graph (tableIn c))
+    → (s ≡ shifts (graph (tableIn c))) × (p ≡ peels (graph (tableIn c)))
+walked-amounts {c} h s p made e =
+    let same = e ∙ walked-numbers (graph (tableIn c)) (allRefs-below (tableIn c) (count-few h)) in
+    (ap (λ (n : Numbers). n .shifts) same, ap (λ (n : Numbers). n .peels) same)

@@ -3,14 +3,16 @@ use Prim.Native.Nat.{ℕ, zero, suc, _+_, _-_, _≤_, _<_}
 use native.Mathlib.Omega.{arith}
 use native.Mathlib.Decide.{ℕ-discrete}
 use native.Mathlib.Numerals.{add-one}
-use mathlib.Core.Path.{_≡_, refl, ap}
+use mathlib.Core.Path.{_≡_, refl, sym, ap, _∙_}
 use mathlib.Core.Logic.{⊎-elim}
 use mathlib.Core.Bool.{Bool, true, false}
-use mathlib.Core.List.{List, [], _∷_, _++_, append-nil, List·Memᴰ·append-cases}
+use mathlib.Core.List.{List, [], _∷_, _++_, append-nil, append-assoc, List·Memᴰ·append-cases}
 use mathlib.Core.List.{List·Memᴰ as Mem}
 use mathlib.Core.List.{List·Memᴰ·cases-cons as cases-cons, List·Memᴰ·not-nil as not-nil}
 use lib.Dec.{eqb}
+use lib.ListN.{length, length-append}
 use borrow.Author.Tests.{ne-eqb}
+use Rattle.order.specs.Sequences.{joined}
 use Rattle.order.specs.Lists.{mem-joined}
 use Rattle.model.specs.declared.Reference.{Reference}
 use Rattle.model.specs.Table.{Item, read, constant, operation, count}
@@ -29,9 +31,9 @@ module _ (c : List ℕ) (k : ℕ) where
   abbrev pub readsIn : ℕ → ℕ → List Reference
   readsIn r past = reads k (itemsFrom c r (past - r))
 
-  -- all reads of the loop
-  abbrev pub loopReads : List Reference
-  loopReads = readsIn (startAt c k + 1) (startAt c (k + 1))
+  -- the references up to row r of loop k, its destination among them
+  abbrev pub pastRow : ℕ → List Reference
+  pastRow r = joined k (refs (tableIn c)) ++ (refIn (startAt c k) true ∷ readsIn (startAt c k + 1) r)
 
   -- LAWS: one row. A read is a reference, another item none
   pub row-read : (r : ℕ) → kindAt c r ≡ 0 → reads k (itemsFrom c r 1) ≡ refIn r false ∷ []
@@ -65,6 +67,35 @@ module _ (c : List ℕ) (k : ℕ) where
   pub reads-end : (r past : ℕ) → past ≤ r → readsIn r past ≡ []
   unfolding itemsFrom
   reads-end r past l = let e : past - r ≡ 0 = omega arith in rw e
+
+  -- one more at the end
+  pub reads-last : (from n : ℕ) → readsIn from (from + n + 1) ≡ readsIn from (from + n) ++ reads k (itemsFrom c (from + n) 1)
+  reads-last from zero =
+      let e : from + 0 ≡ from = omega arith in
+      let one : from + 1 - from ≡ 1 = omega arith in
+      rw (e, one) (ap (λ (l : List Reference). l ++ reads k (itemsFrom c from 1)) (sym (reads-end from from (omega arith))))
+  reads-last from (suc n) =
+      let e : from + suc n ≡ from + 1 + n = omega arith in
+      rw e
+      (reads-next from (from + 1 + n + 1) (omega arith)
+      ∙ ap (λ (l : List Reference). reads k (itemsFrom c from 1) ++ l) (reads-last (from + 1) n)
+      ∙ sym (append-assoc (reads k (itemsFrom c from 1)) (readsIn (from + 1) (from + 1 + n)) (reads k (itemsFrom c (from + 1 + n) 1)))
+      ∙ ap (λ (l : List Reference). l ++ reads k (itemsFrom c (from + 1 + n) 1)) (sym (reads-next from (from + 1 + n) (omega arith))))
+
+  -- there are no more of them than rows
+  reads-few : (xs : List Item) → length (reads k xs) ≤ length xs
+  reads-few [] = omega arith
+  reads-few (read a o ∷ xs) = omega (arith, reads-few xs)
+  reads-few (constant n ∷ xs) = omega (arith, reads-few xs)
+  reads-few (operation n ∷ xs) = omega (arith, reads-few xs)
+
+  items-length : (n r : ℕ) → length (itemsFrom c r n) ≡ n
+  unfolding itemsFrom
+  items-length zero r = refl
+  items-length (suc n) r = ap suc (items-length n (suc r))
+
+  pub readsIn-few : (from past : ℕ) → length (readsIn from past) ≤ past - from
+  readsIn-few from past = omega (arith, reads-few (itemsFrom c from (past - from)), items-length (past - from) from)
 
   -- a read's offset is one
   row-range : (r : ℕ) → Row c r → (x : Reference) → Mem x (reads k (itemsFrom c r 1)) → x .offset ≤ 510
@@ -104,6 +135,38 @@ module _ {c : List ℕ} (h : Held c) (k : ℕ) (l : k < count (tableIn c)) where
   refs-range x m =
       ⊎-elim (λ e. rw e (row-in (startAt c k) start-in .offset (omega (arith, opening-held h k l))))
       (reads-range c k _ (startAt c k + 1) (λ i a. row-in i (omega (arith, start-in))) x) (cases-cons (rw refs-in at m))
+
+  -- the references up to a row: its destination, one row more, all rows
+  pub past-start : pastRow c k (startAt c k + 1) ≡ joined k (refs (tableIn c)) ++ (refIn c k (startAt c k) true ∷ [])
+  past-start =
+      ap (λ (xs : List Reference). joined k (refs (tableIn c)) ++ (refIn c k (startAt c k) true ∷ xs)) (reads-end c k (startAt c k + 1) (startAt c k + 1) (omega arith))
+
+  pub past-next : (r : ℕ) → startAt c k < r → pastRow c k (r + 1) ≡ pastRow c k r ++ reads k (itemsFrom c r 1)
+  past-next r i =
+      let e : startAt c k + 1 + (r - (startAt c k + 1)) ≡ r = omega arith in
+      ap (λ (xs : List Reference). joined k (refs (tableIn c)) ++ (refIn c k (startAt c k) true ∷ xs))
+      (rw e at (reads-last c k (startAt c k + 1) (r - (startAt c k + 1))))
+      ∙ sym (append-assoc (joined k (refs (tableIn c))) (refIn c k (startAt c k) true ∷ readsIn c k (startAt c k + 1) r) (reads k (itemsFrom c r 1)))
+
+  pub past-end : pastRow c k (startAt c (k + 1)) ≡ joined (k + 1) (refs (tableIn c))
+  past-end = rw (add-one k) (ap (λ (xs : List Reference). joined k (refs (tableIn c)) ++ xs) (sym (rw (add-one k) at refs-in)))
+
+-- there are no more references than rows
+pub joined-few : {c : List ℕ} → Held c → (k : ℕ) → k ≤ count (tableIn c) → length (joined k (refs (tableIn c))) ≤ startAt c k
+joined-few h zero l = omega arith
+joined-few {c} h (suc k) l =
+    let all = length-append (joined k (refs (tableIn c))) (refIn c k (startAt c k) true ∷ readsIn c k (startAt c k + 1) (startAt c (k + 1))) in
+    rw (refs-in h k l)
+    (omega (arith, joined-few h k (omega arith), readsIn-few c k (startAt c k + 1) (startAt c (k + 1)), start-in h k l, ap (startAt c) (add-one k), all))
+
+pub past-few-references : {c : List ℕ} → Held c → (k r : ℕ) → k < count (tableIn c) → startAt c k < r → length (pastRow c k r) ≤ r
+past-few-references {c} h k r l i =
+    omega (
+      arith,
+      joined-few h k (omega arith),
+      readsIn-few c k (startAt c k + 1) r,
+      length-append (joined k (refs (tableIn c))) (refIn c k (startAt c k) true ∷ readsIn c k (startAt c k + 1) r),
+    )
 
 -- no offset of a table is above 510
 pub in-range : {c : List ℕ} → Held c → InRange (allRefs (tableIn c))

@@ -1,26 +1,46 @@
-// Shifts and peels: the largest totals of backward and of forward amounts over all chains of dependences that end at a loop. The references
-// are read where the table is kept: a loop's destination stands in its first row, its reads among the rows after it.
+// Shifts and peels: the largest totals of backward and of forward amounts over all chains of dependences that end at a loop, found in a
+// single walk over the rows of the store. Each reference that the walk comes to is paired with every reference of an earlier loop, each pair once,
+// and is then kept in columns, in which the references of later loops find it.
 
 ghost use mathlib.Core.Path.{_≡_};
-ghost use mathlib.Core.Bool.{true, false, _||_};
-ghost use mathlib.Core.List.{[], _∷_};
-ghost use Prim.Native.Nat.{_+_, _-_, _<_, max};
+ghost use mathlib.Core.Bool.{true, false};
+ghost use Prim.Native.Nat.{_+_, _-_, _*_, _<_, _≤_, max};
+ghost use lib.ListN.{length};
+ghost use Rattle.order.specs.Sequences.{joined, runAll};
 ghost use Rattle.model.specs.Table.{count};
-ghost use Rattle.model.specs.References.{reads, refs, allRefs};
-ghost use Rattle.reader.specs.Store.{itemsFrom, startAt, tableIn};
-ghost use Rattle.reader.specs.Stored.{Row};
+ghost use Rattle.model.specs.References.{refs, touch};
+ghost use Rattle.reader.specs.Store.{startAt, tableIn};
 ghost use Rattle.reader.specs.Held.{Held};
-ghost use Rattle.chains.specs.Dependence.{meetIn, dependence, backward, forward};
+ghost use Rattle.chains.specs.Dependence.{meetIn, backward, forward};
 ghost use Rattle.chains.specs.TableGraph.{graph};
-ghost use Rattle.chains.specs.Walk.{required, shifts, peels};
+ghost use Rattle.chains.specs.Walk.{shifts, peels};
+ghost use Rattle.chains.specs.Steps.{placedFrom, pairsTo, at, raisedBy, takeUp, step, walked};
 ghost use Rattle.chains.specs.Threshold.{threshold};
-ghost use Rattle.amounts.specs.Rows.{refIn, loopReads};
-ghost use Rattle.amounts.specs.Walked.{ReferenceFits, Required, RequiredIn, noRequirement, Walked, Bounded};
+ghost use Rattle.amounts.specs.Rows.{refIn, pastRow};
+ghost use Rattle.amounts.specs.Columns.{storedAs, refAt, refsFrom, searched, withReference};
+ghost use Rattle.amounts.specs.Walked.{ReferenceFits, Pairable, Earlier, Bounded, numbersIn, Walked};
 use arithmetic::above;
 use arithmetic::larger;
+use arithmetic::narrow;
 use arithmetic::wide;
 use model::Reference;
+use records::MOST_ROWS;
 use records::Store;
+
+// References in columns, each at its position: its array; its array again where it stores, and where it reads NONE; its loop; its offset. What a
+// pair needs is one number of a column: a destination's partners have its array in the first, a read's have it in the second.
+const STORED_AT: usize = MOST_ROWS;
+
+const LOOPS_AT: usize = 2 * MOST_ROWS;
+
+const OFFSETS_AT: usize = 3 * MOST_ROWS;
+
+const COLUMNS: usize = 4 * MOST_ROWS;
+
+type Columns = [u32; COLUMNS];
+
+// No array's number.
+const NONE: u32 = 16;
 
 // The amounts of shifting and peeling, for each loop a shift and a peel; 0 past the last loop.
 pub struct Amounts {
@@ -28,16 +48,17 @@ pub struct Amounts {
     pub peels: [u32; 16],
 }
 
-// What the dependences taken up so far require of one loop.
-struct Requirement {
-    shift: usize,
-    peel: usize,
+// What a walk leaves: the amounts, and how many pairs it has taken up.
+struct Totals {
+    shifts: [u32; 16],
+    peels: [u32; 16],
+    made: usize,
 }
 
-fn either(a: bool, b: bool) -> bool
-    ensures { λ r. ⌜ r ≡ (a || b) ⌝ }
-{
-    if a { true } else { b }
+// How far a walk has come: how many references are in the columns, and how many pairs have been taken up.
+struct Progress {
+    references: usize,
+    made: usize,
 }
 
 // Whether some iterations of the loops of x and y, within their bounds, are at elements of one number. That the array is one is asked
@@ -58,21 +79,6 @@ fn meet(store: &Store, x: Reference, y: Reference) -> bool
     )
 }
 
-// Whether the references x and y make a dependence.
-fn depends(store: &Store, x: Reference, y: Reference) -> bool
-    requires { ⌜ Held (now store) × ReferenceFits (tableIn (now store)) x × ReferenceFits (tableIn (now store)) y ⌝ }
-    ensures { λ r. ⌜ r ≡ dependence (tableIn (now (store .entry))) x y ⌝ }
-{
-    if x.number < y.number {
-        if x.array == y.array {
-            if either(x.stores, y.stores) {
-                return meet(store, x, y);
-            }
-        }
-    }
-    false
-}
-
 // The reference in row r of loop k.
 fn reference_at(store: &Store, k: usize, r: usize, stores: bool) -> Reference
     requires { ⌜ r < 528 ⌝ }
@@ -86,228 +92,227 @@ fn reference_at(store: &Store, k: usize, r: usize, stores: bool) -> Reference
     }
 }
 
-// What a dependence requires, where that is more than was required before: s and p are the earlier loop's numbers, x and y the offsets.
-fn raise(before: Requirement, s: u32, p: u32, x: usize, y: usize) -> Requirement
-    requires { ⌜ (x < 65536) × (y < 65536) ⌝ }
-    ensures { λ r. ⌜ (r .shift ≡ max (before .shift) (s + (y - x))) × (r .peel ≡ max (before .peel) (p + (x - y))) ⌝ }
+// The reference at position x.
+fn reference_in(columns: &Columns, x: usize) -> Reference
+    requires { ⌜ x < 528 ⌝ }
+    ensures { λ r. ⌜ r ≡ refAt (now (columns .entry)) x ⌝ }
 {
-    Requirement {
-        shift: larger(before.shift, s as usize + above(y, x)),
-        peel: larger(before.peel, p as usize + above(x, y)),
+    Reference {
+        number: wide(columns[LOOPS_AT + x]),
+        array: wide(columns[x]),
+        offset: wide(columns[OFFSETS_AT + x]),
+        stores: columns[STORED_AT + x] == columns[x],
     }
 }
 
-// One step of the walk: takes up the pair of the references x and y.
-fn take_up(
-    store: &Store,
-    x: Reference,
-    y: Reference,
-    shifts: &[u32; 16],
-    peels: &[u32; 16],
-    before: Requirement,
-) -> Requirement
-    requires { ⌜ Held (now store) × ReferenceFits (tableIn (now store)) x × ReferenceFits (tableIn (now store)) y ⌝ }
-    ensures { λ r. ⌜ r .shift ≡ max (before .shift) (required backward (graph (tableIn (now (store .entry)))) (now (shifts .entry)) y x) ⌝ }
-    ensures { λ r. ⌜ r .peel ≡ max (before .peel) (required forward (graph (tableIn (now (store .entry)))) (now (peels .entry)) y x) ⌝ }
+// What stands in the second column for y.
+fn stored_of(y: Reference) -> u32
+    requires { ⌜ y .array < 16 ⌝ }
+    ensures { λ r. ⌜ r ≡ storedAs y ⌝ }
 {
-    if depends(store, x, y) {
-        let k = x.number;
-        return raise(before, shifts[k], peels[k], x.offset, y.offset);
-    }
-    before
+    if y.stores { narrow(y.array) } else { NONE }
 }
 
-// Takes up the pair of loop j's destination and y. References to different arrays make no dependence, so the arrays are asked first.
-fn take_destination(
-    store: &Store,
-    j: usize,
-    y: Reference,
-    shifts: &[u32; 16],
-    peels: &[u32; 16],
-    before: Requirement,
-) -> Requirement
-    requires { ⌜ Held (now store) × (j < count (tableIn (now store))) × ReferenceFits (tableIn (now store)) y ⌝ }
-    ensures { λ a. ⌜ Required (tableIn (now (store .entry))) (now (shifts .entry)) (now (peels .entry)) y (refIn (now (store .entry)) j (startAt (now (store .entry)) j) true ∷ []) before a ⌝ }
+// y put at position n.
+fn put_reference(n: usize, y: Reference, columns: &mut Columns)
+    requires { ⌜ (n < 528) × (y .array < 16) × (y .number < 16) × (y .offset ≤ 510) ⌝ }
+    ensures { λ _. ⌜ now (columns .exit) ≡ withReference n y (now (columns .entry)) ⌝ }
 {
-    let from = reader::start_at(store, j);
-    if wide(reader::array_at(store, from)) == y.array {
-        let x = reference_at(store, j, from, true);
-        return take_up(store, x, y, shifts, peels, before);
-    }
-    before
+    columns[n] = narrow(y.array);
+    columns[STORED_AT + n] = stored_of(y);
+    columns[LOOPS_AT + n] = narrow(y.number);
+    columns[OFFSETS_AT + n] = narrow(y.offset);
 }
 
-// Takes up the pair of row r of loop j and y, if the row reads y's array.
-fn take_row(
-    store: &Store,
-    j: usize,
-    r: usize,
-    y: Reference,
-    shifts: &[u32; 16],
-    peels: &[u32; 16],
-    before: Requirement,
-) -> Requirement
-    requires { ⌜ Held (now store) × (j < count (tableIn (now store))) × (r < 528) × Row (now store) r × ReferenceFits (tableIn (now store)) y ⌝ }
-    ensures { λ a. ⌜ Required (tableIn (now (store .entry))) (now (shifts .entry)) (now (peels .entry)) y (reads j (itemsFrom (now (store .entry)) r 1)) before a ⌝ }
-{
-    if reader::reads_array(store, r, y.array) {
-        let x = reference_at(store, j, r, false);
-        return take_up(store, x, y, shifts, peels, before);
-    }
-    before
-}
-
-// Takes up the pairs of the reads of loop j and y.
-fn take_reads(
-    store: &Store,
-    j: usize,
-    y: Reference,
-    shifts: &[u32; 16],
-    peels: &[u32; 16],
-    before: Requirement,
-) -> Requirement
-    requires { ⌜ Held (now store) × (j < count (tableIn (now store))) × ReferenceFits (tableIn (now store)) y ⌝ }
-    ensures { λ a. ⌜ Required (tableIn (now (store .entry))) (now (shifts .entry)) (now (peels .entry)) y (loopReads (now (store .entry)) j) before a ⌝ }
-{
-    let past = reader::start_at(store, j + 1);
-    let mut r = reader::start_at(store, j) + 1;
-    let mut a = before;
-    while r < past {
-        a = take_row(store, j, r, y, shifts, peels, a);
-        r += 1;
-    }
-    a
-}
-
-// Takes up the pairs of the references of loop j and y.
-fn take_loop(
-    store: &Store,
-    j: usize,
-    y: Reference,
-    shifts: &[u32; 16],
-    peels: &[u32; 16],
-    before: Requirement,
-) -> Requirement
-    requires { ⌜ Held (now store) × (j < count (tableIn (now store))) × ReferenceFits (tableIn (now store)) y ⌝ }
-    ensures { λ a. ⌜ Required (tableIn (now (store .entry))) (now (shifts .entry)) (now (peels .entry)) y (refs (tableIn (now (store .entry))) j) before a ⌝ }
-{
-    let a = take_destination(store, j, y, shifts, peels, before);
-    take_reads(store, j, y, shifts, peels, a)
-}
-
-// Takes up the pairs whose later reference is y. Only references of earlier loops can start a dependence.
-fn take_earlier(
-    store: &Store,
-    y: Reference,
-    shifts: &[u32; 16],
-    peels: &[u32; 16],
-    before: Requirement,
-) -> Requirement
-    requires { ⌜ Held (now store) × ReferenceFits (tableIn (now store)) y ⌝ }
-    ensures { λ a. ⌜ Required (tableIn (now (store .entry))) (now (shifts .entry)) (now (peels .entry)) y (allRefs (tableIn (now (store .entry)))) before a ⌝ }
-{
-    let k = y.number;
-    let mut a = before;
-    let mut j: usize = 0;
-    while j < k {
-        a = take_loop(store, j, y, shifts, peels, a);
-        j += 1;
-    }
-    a
-}
-
-// The same of a read. Two reads make no dependence, so it is paired with destinations alone.
-fn take_destinations(
-    store: &Store,
-    y: Reference,
-    shifts: &[u32; 16],
-    peels: &[u32; 16],
-    before: Requirement,
-) -> Requirement
-    requires { ⌜ Held (now store) × ReferenceFits (tableIn (now store)) y × (y .stores ≡ false) ⌝ }
-    ensures { λ a. ⌜ Required (tableIn (now (store .entry))) (now (shifts .entry)) (now (peels .entry)) y (allRefs (tableIn (now (store .entry)))) before a ⌝ }
-{
-    let k = y.number;
-    let mut a = before;
-    let mut j: usize = 0;
-    while j < k {
-        a = take_destination(store, j, y, shifts, peels, a);
-        j += 1;
-    }
-    a
-}
-
-// Takes up the pairs whose later reference is row r of loop k, if the row is a read.
-fn take_later(
-    store: &Store,
-    k: usize,
-    r: usize,
-    shifts: &[u32; 16],
-    peels: &[u32; 16],
-    before: Requirement,
-) -> Requirement
-    requires { ⌜ Held (now store) × (k < count (tableIn (now store))) × (k < 16) × (r < startAt (now store) (k + 1)) ⌝ }
-    ensures { λ a. ⌜ RequiredIn (now (store .entry)) (now (shifts .entry)) (now (peels .entry)) (reads k (itemsFrom (now (store .entry)) r 1)) before a ⌝ }
-{
-    if reader::kind_at(store, r) == reader::READ {
-        let y = reference_at(store, k, r, false);
-        return take_destinations(store, y, shifts, peels, before);
-    }
-    before
-}
-
-// What the dependences that end at loop k require of it: those of its destination, then those of its reads.
-fn required_of(store: &Store, k: usize, shifts: &[u32; 16], peels: &[u32; 16]) -> Requirement
-    requires { ⌜ Held (now store) × (k < count (tableIn (now store))) × (k < 16) ⌝ }
-    ensures { λ a. ⌜ RequiredIn (now (store .entry)) (now (shifts .entry)) (now (peels .entry)) (refs (tableIn (now (store .entry))) k) noRequirement a ⌝ }
-{
-    let from = reader::start_at(store, k);
-    let past = reader::start_at(store, k + 1);
-    let none = Requirement { shift: 0, peel: 0 };
-    let y = reference_at(store, k, from, true);
-    let mut a = take_earlier(store, y, shifts, peels, none);
-    let mut r = from + 1;
-    while r < past {
-        a = take_later(store, k, r, shifts, peels, a);
-        r += 1;
-    }
-    a
-}
-
-// A loop's number, once n is required of it.
-fn updated(number: u32, n: usize) -> u32
+// A loop's number, where n is required of it.
+fn raised(number: u32, n: usize) -> u32
     requires { ⌜ n < 4294967296 ⌝ }
     ensures { λ r. ⌜ r ≡ max number n ⌝ }
 {
-    larger(number as usize, n) as u32
+    narrow(larger(wide(number), n))
 }
 
-// The walk over the pairs whose later loop is k: of the shifts and peels it changes those of loop k.
-fn walk_loop(store: &Store, k: usize, shifts: &mut [u32; 16], peels: &mut [u32; 16])
-    requires { ⌜ Held (now store) × (k < count (tableIn (now store))) × (k < 16) × Bounded (now shifts) (now peels) ⌝ }
-    ensures { λ _. ⌜ Walked (tableIn (now (store .entry))) (refs (tableIn (now (store .entry))) k) (now (shifts .entry)) (now (peels .entry)) (now (shifts .exit)) (now (peels .exit)) ⌝ }
+// What the references x and y, to one array and one of them storing, leave of the shifts and peels: where they meet they make a dependence, and
+// the numbers of y's loop are raised to what it requires.
+fn raise(store: &Store, x: Reference, y: Reference, shifts: &mut [u32; 16], peels: &mut [u32; 16])
+    requires { ⌜ Held (now store) × ReferenceFits (tableIn (now store)) x × ReferenceFits (tableIn (now store)) y ⌝ }
+    requires { ⌜ (x .number < y .number) × (touch x y ≡ true) × Bounded (now shifts) (now peels) ⌝ }
+    ensures { λ _. ⌜ now (shifts .exit) ≡ raisedBy (graph (tableIn (now (store .entry)))) backward x y (now (shifts .entry)) ⌝ }
+    ensures { λ _. ⌜ now (peels .exit) ≡ raisedBy (graph (tableIn (now (store .entry)))) forward x y (now (peels .entry)) ⌝ }
 {
-    let a = required_of(store, k, shifts, peels);
-    shifts[k] = updated(shifts[k], a.shift);
-    peels[k] = updated(peels[k], a.peel);
+    if meet(store, x, y) {
+        let j = x.number;
+        let k = y.number;
+        shifts[k] = raised(shifts[k], wide(shifts[j]) + above(y.offset, x.offset));
+        peels[k] = raised(peels[k], wide(peels[j]) + above(x.offset, y.offset));
+    }
 }
 
-// A single walk over pairs of references of two loops, each pair at most once: the later reference in byte order, and for each the
-// references of earlier loops. Pairs of two reads, which make no dependence, are left out: in a full table they are about 8 of 9. Of the
-// shifts and peels a step changes only the later loop's.
+// The column in which a destination's partners have its array, and that in which a read's have it.
+fn searched_for(stores: bool) -> usize
+    ensures { λ r. ⌜ r ≡ searched stores ⌝ }
+{
+    if stores { 0 } else { STORED_AT }
+}
+
+// One step of the walk: takes up the pair of the reference at position x and y. `column` is y's. Answers how many have been taken up.
+fn take_up(
+    store: &Store,
+    columns: &Columns,
+    column: usize,
+    x: usize,
+    y: Reference,
+    made: usize,
+    shifts: &mut [u32; 16],
+    peels: &mut [u32; 16],
+) -> usize
+    requires { ⌜ Held (now store) × (column ≡ searched (y .stores)) × Pairable (tableIn (now store)) (now columns) x y ⌝ }
+    requires { ⌜ Bounded (now shifts) (now peels) × (made < 1000000) ⌝ }
+    ensures { λ r. ⌜ numbersIn (now (shifts .exit)) (now (peels .exit)) r ≡ takeUp (graph (tableIn (now (store .entry)))) (refAt (now (columns .entry)) x) y (numbersIn (now (shifts .entry)) (now (peels .entry)) made) ⌝ }
+{
+    if wide(columns[column + x]) != y.array {
+        return made + 1;
+    }
+    let e = reference_in(columns, x);
+    raise(store, e, y, shifts, peels);
+    made + 1
+}
+
+// Takes up the pairs of y with the references at positions below `from`, which are those of earlier loops. Answers how many pairs have been
+// taken up.
+fn take_earlier(
+    store: &Store,
+    columns: &Columns,
+    from: usize,
+    y: Reference,
+    before: Progress,
+    shifts: &mut [u32; 16],
+    peels: &mut [u32; 16],
+) -> usize
+    requires { ⌜ Held (now store) × Earlier (tableIn (now store)) (now columns) from y ⌝ }
+    requires { ⌜ Bounded (now shifts) (now peels) × (before .made ≤ 528 * 528) ⌝ }
+    ensures { λ r. ⌜ numbersIn (now (shifts .exit)) (now (peels .exit)) r ≡ runAll (step (graph (tableIn (now (store .entry))))) (pairsTo (at (before .references) y) (placedFrom 0 (refsFrom (now (columns .entry)) 0 from))) (numbersIn (now (shifts .entry)) (now (peels .entry)) (before .made)) ⌝ }
+    ensures { λ r. ⌜ Bounded (now (shifts .exit)) (now (peels .exit)) × (r ≤ before .made + 528) ⌝ }
+{
+    let column = searched_for(y.stores);
+    let mut made = before.made;
+    let mut x: usize = 0;
+    while x < from {
+        made = take_up(store, columns, column, x, y, made, shifts, peels);
+        x += 1;
+    }
+    made
+}
+
+// Takes up the pairs whose later reference is y, the next one of the table, and then puts y into the columns.
+fn take_later(
+    store: &Store,
+    y: Reference,
+    from: usize,
+    before: Progress,
+    columns: &mut Columns,
+    shifts: &mut [u32; 16],
+    peels: &mut [u32; 16],
+) -> Progress
+    requires { ⌜ Held (now store) × Earlier (tableIn (now store)) (now columns) from y ⌝ }
+    requires { ⌜ Bounded (now shifts) (now peels) × (before .made ≤ 528 * before .references) × (before .references < 528) ⌝ }
+    ensures { λ r. ⌜ (r .references ≡ before .references + 1) × (now (columns .exit) ≡ withReference (before .references) y (now (columns .entry))) ⌝ }
+    ensures { λ r. ⌜ numbersIn (now (shifts .exit)) (now (peels .exit)) (r .made) ≡ runAll (step (graph (tableIn (now (store .entry))))) (pairsTo (at (before .references) y) (placedFrom 0 (refsFrom (now (columns .entry)) 0 from))) (numbersIn (now (shifts .entry)) (now (peels .entry)) (before .made)) ⌝ }
+    ensures { λ r. ⌜ Bounded (now (shifts .exit)) (now (peels .exit)) × (r .made ≤ before .made + 528) ⌝ }
+{
+    let made = take_earlier(store, columns, from, y, before, shifts, peels);
+    let n = before.references;
+    put_reference(n, y, columns);
+    Progress {
+        references: n + 1,
+        made,
+    }
+}
+
+// The walk past row r of loop k, one of its items: a read is a reference, other items are none. There are `from` references in earlier loops.
+fn walk_row(
+    store: &Store,
+    k: usize,
+    r: usize,
+    from: usize,
+    before: Progress,
+    columns: &mut Columns,
+    shifts: &mut [u32; 16],
+    peels: &mut [u32; 16],
+) -> Progress
+    requires { ⌜ Held (now store) × (k < count (tableIn (now store))) × (from ≡ length (joined k (refs (tableIn (now store))))) ⌝ }
+    requires { ⌜ (startAt (now store) k < r) × (r < startAt (now store) (k + 1)) ⌝ }
+    requires { ⌜ Walked (tableIn (now store)) (pastRow (now store) k r) (now columns) (now shifts) (now peels) before ⌝ }
+    ensures { λ a. ⌜ Walked (tableIn (now (store .entry))) (pastRow (now (store .entry)) k (r + 1)) (now (columns .exit)) (now (shifts .exit)) (now (peels .exit)) a ⌝ }
+{
+    if reader::kind_at(store, r) == reader::READ {
+        let y = reference_at(store, k, r, false);
+        return take_later(store, y, from, before, columns, shifts, peels);
+    }
+    before
+}
+
+// The walk past the references of loop k: its destination, then its reads. Of the shifts and peels it changes those of loop k.
+fn walk_loop(
+    store: &Store,
+    k: usize,
+    before: Progress,
+    columns: &mut Columns,
+    shifts: &mut [u32; 16],
+    peels: &mut [u32; 16],
+) -> Progress
+    requires { ⌜ Held (now store) × (k < count (tableIn (now store))) ⌝ }
+    requires { ⌜ Walked (tableIn (now store)) (joined k (refs (tableIn (now store)))) (now columns) (now shifts) (now peels) before ⌝ }
+    ensures { λ a. ⌜ Walked (tableIn (now (store .entry))) (joined (k + 1) (refs (tableIn (now (store .entry))))) (now (columns .exit)) (now (shifts .exit)) (now (peels .exit)) a ⌝ }
+{
+    let start = reader::start_at(store, k);
+    let past = reader::start_at(store, k + 1);
+    let from = before.references;
+    let y = reference_at(store, k, start, true);
+    let mut a = take_later(store, y, from, before, columns, shifts, peels);
+    let mut r = start + 1;
+    while r < past {
+        a = walk_row(store, k, r, from, a, columns, shifts, peels);
+        r += 1;
+    }
+    a
+}
+
+// The walk: over all references in byte order, and for each over the references of earlier loops. Every pair of references of two loops is taken
+// up, pairs of two reads too, and each once; what is left is what the steps leave, one after the other.
+fn walk(store: &Store) -> Totals
+    requires { ⌜ Held (now store) ⌝ }
+    ensures { λ r. ⌜ numbersIn (r .shifts) (r .peels) (r .made) ≡ walked (graph (tableIn (now (store .entry)))) ⌝ }
+{
+    let count = reader::loops_in(store);
+    let mut columns = [0u32; COLUMNS];
+    let mut ss = [0u32; 16];
+    let mut ps = [0u32; 16];
+    let mut a = Progress {
+        references: 0,
+        made: 0,
+    };
+    let mut k: usize = 0;
+    while k < count {
+        a = walk_loop(store, k, a, &mut columns, &mut ss, &mut ps);
+        k += 1;
+    }
+    Totals {
+        shifts: ss,
+        peels: ps,
+        made: a.made,
+    }
+}
+
+// The amounts that the walk leaves, which are the largest totals over all chains.
 pub fn amounts_of(store: &Store) -> Amounts
     requires { ⌜ Held (now store) ⌝ }
     ensures { λ r. ⌜ r .shifts ≡ shifts (graph (tableIn (now (store .entry)))) ⌝ }
     ensures { λ r. ⌜ r .peels ≡ peels (graph (tableIn (now (store .entry)))) ⌝ }
 {
-    let count = reader::loops_in(store);
-    let mut ss = [0u32; 16];
-    let mut ps = [0u32; 16];
-    let mut k: usize = 0;
-    while k < count {
-        walk_loop(store, k, &mut ss, &mut ps);
-        k += 1;
-    }
+    let t = walk(store);
+    let ss = t.shifts;
+    let ps = t.peels;
     Amounts {
         shifts: ss,
         peels: ps,

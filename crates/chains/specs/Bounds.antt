@@ -1,16 +1,20 @@
 -- How large shifts, peels and the threshold can be: a chain that ends at loop k has at most k dependences.
-use Prim.Native.Nat.{ℕ, _+_, _*_, _≤_}
+use Prim.Native.Nat.{ℕ, _+_, _*_, max, _≤_, _<_}
+use mathlib.Core.Path.{_≡_, refl}
+use mathlib.Core.Bool.{Bool, true, false}
 use mathlib.Core.List.{List}
 use mathlib.Core.List.{List·Memᴰ as Mem}
 use native.Mathlib.Nat.{mul-le-mul-left, le-trans}
-use native.Mathlib.Decide.{decLe}
+use native.Mathlib.Decide.{ℕ-discrete, decLe}
 use native.Mathlib.Omega.{arith}
-use lib.ListN.{length, getD, List·getD-eq-default}
+use lib.ListN.{length, getD, set, List·getD-eq-default}
+use lib.Seq.{getD-set-same, getD-set-other}
 use Rattle.model.specs.declared.Reference.{Reference}
 use Rattle.chains.specs.Graph.{Graph, Dependence}
 use Rattle.chains.specs.Dependence.{backward, forward}
-use Rattle.chains.specs.Walk.{walk, numbers, shifts, peels, Below}
-use Rattle.chains.specs.WalkLaws.{walk-of, numbers-of, numbers-length}
+use Rattle.chains.specs.Walk.{required, walk, numbers, shifts, peels, Below}
+use Rattle.chains.specs.WalkLaws.{required-met, required-none, numbers-of, numbers-length}
+use Rattle.chains.specs.Steps.{raisedBy}
 use Rattle.chains.specs.Threshold.{threshold}
 use Rattle.chains.specs.ThresholdLaws.{threshold-bound}
 
@@ -26,13 +30,23 @@ AtMost {R} m amount rs = (x y : R) → Mem x rs → Mem y rs → amount x y ≤ 
 abbrev pub InRange : List Reference → Type 0
 InRange rs = (x : Reference) → Mem x rs → x .offset ≤ 510
 
+-- one step of the walk keeps them so
+pub raisedBy-small : {R : Type 0} (amount : R → R → ℕ) (g : Graph R) (m : ℕ) (x y : R) (s : List ℕ) → amount x y ≤ m → g .number y < length s
+    → Small m s → Small m (raisedBy g amount x y s)
+unfolding raisedBy
+raisedBy-small amount g m x y s most l small k = go (ℕ-discrete k (g .number y))
+  where
+    of : (b : Bool) → g .depends x y ≡ b → required amount g s y x ≤ m * g .number y
+    of true e = rw (required-met amount g s y x e) (omega (arith, small (g .number x), most, mul-le-mul-left m (g .earlier x y e)))
+    of false e = rw (required-none amount g s y x e) (omega arith)
+
+    go : Dec (k ≡ g .number y) → getD (set s (g .number y) (max (getD s (g .number y) 0) (required amount g s y x))) k 0 ≤ m * k
+    go (yes e) = rw (e, getD-set-same s (g .number y) (max (getD s (g .number y) 0) (required amount g s y x)) 0 l) (omega (arith, small (g .number y), of (g .depends x y) refl))
+    go (no e) = rw (getD-set-other s (g .number y) k (max (getD s (g .number y) 0) (required amount g s y x)) 0 e) (small k)
+
 module _ {R : Type 0} (amount : R → R → ℕ) (g : Graph R) (m : ℕ) (most : AtMost m amount (g .references)) where
   along : (x y : R) → Dependence g x y → (n : ℕ) → n ≤ m * (g .number x) → n + amount x y ≤ m * (g .number y)
   along x y d n h = omega (arith, most x y (d .from) (d .to), mul-le-mul-left m (g .earlier x y (d .joined)))
-
-  pub walk-small : (ys : List R) (s : List ℕ) → Below (length s) g ys → ((y : R) → Mem y ys → Mem y (g .references)) → Small m s
-      → Small m (walk amount g ys s)
-  walk-small = walk-of amount g (λ k n. n ≤ m * k) (λ k. omega arith) along
 
   module _ (below : Below 16 g (g .references)) where
     pub numbers-small : Small m (numbers amount g)

@@ -4,7 +4,7 @@ use mathlib.Core.Path.{_≡_}
 use mathlib.Core.Logic.{_↔_, ⊎-elim}
 use mathlib.Core.Bool.{true, false, _&&_, _||_, or-true, and-false}
 use native.Mathlib.Omega.{arith}
-use borrow.Author.Tests.{ltb-true, lt-ltb, eqb-true, eq-eqb, ne-eqb}
+use borrow.Author.Tests.{ltb-true, lt-ltb, eqb-true, eq-eqb}
 use lib.Dec.{ltb, eqb}
 use Rattle.model.specs.declared.Reference.{Reference}
 use Rattle.model.specs.Table.{Table, first, last}
@@ -72,12 +72,16 @@ module _ (t : Table) (x y : Reference) where
   pub earlier : dependence t x y ≡ true → x .number < y .number
   earlier e = dependence-meets .0 e .earlier-loop
 
+  -- of references to one array, one of them storing, the first in the earlier loop, the bounds alone are asked; other references make none
+  pub dependence-bounds : x .number < y .number → touch x y ≡ true → dependence t x y ≡ meetIn t x y
+  unfolding dependence
+  dependence-bounds l e = rw (lt-ltb _ _ l, e)
+
+  pub none-untouched : touch x y ≡ false → dependence t x y ≡ false
+  unfolding dependence
+  none-untouched e = rw e (and-false (ltb (x .number) (y .number)))
+
   -- two reads make none
   pub none-of-reads : x .stores ≡ false → y .stores ≡ false → dependence t x y ≡ false
   unfolding dependence
   none-of-reads e f = rw (e, f, and-false (eqb (x .array) (y .array))) (and-false (ltb (x .number) (y .number)))
-
-  -- nor do references to different arrays
-  pub none-apart : (x .array ≡ y .array → ⊥) → dependence t x y ≡ false
-  unfolding dependence
-  none-apart n = rw (ne-eqb _ _ n) (and-false (ltb (x .number) (y .number)))

@@ -26,6 +26,8 @@ pub mod WalkLaws
 pub mod Steps
 -- each pair is a step once; the steps leave the numbers above
 pub mod StepLaws
+-- walks by computation
+pub mod StepKnown
 -- they are the largest totals; they are legal, and no legal ones are smaller
 pub mod Largest
 -- the largest sum of shift and peel of one loop

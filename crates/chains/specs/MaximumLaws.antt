@@ -1,9 +1,9 @@
 -- Laws of the largest of several numbers.
 use Prim.Native.Nat.{ℕ, zero, suc, _+_, max, _≤_, _<_}
-use mathlib.Core.Path.{_≡_, refl, sym, ap, _∙_}
-use mathlib.Core.List.{List, [], _∷_, _++_}
+use mathlib.Core.Path.{_≡_, refl}
+use mathlib.Core.List.{List, [], _∷_}
 use mathlib.Core.List.{List·Memᴰ as Mem, List·Memᴰ·head as mhere, List·Memᴰ·tail as mthere}
-use native.Mathlib.Nat.{le-max-left, le-max-right, le-trans, max-eq-left, max-eq-right, zero-max}
+use native.Mathlib.Nat.{le-max-left, le-max-right, le-trans, max-eq-left, max-eq-right}
 use native.Mathlib.Decide.{ℕ-discrete, decLe}
 use native.Mathlib.Numerals.{add-one}
 use native.Mathlib.Omega.{arith}
@@ -31,23 +31,11 @@ unfolding maximumBelow
 maximumBelow-of P f zero z h = z
 maximumBelow-of P f (suc n) z h = max-of P (maximumBelow n f) (f n) (maximumBelow-of P f n z (λ k l. h k (omega arith))) (h n (omega arith))
 
--- over two lists, one after the other
-pub maximum-append : {A : Type 0} (f : A → ℕ) (xs ys : List A) → maximum f (xs ++ ys) ≡ max (maximum f xs) (maximum f ys)
-unfolding maximum
-maximum-append f [] ys = sym (zero-max _)
-maximum-append f (x ∷ xs) ys = ap (λ (n : ℕ). max (f x) n) (maximum-append f xs ys) ∙ sym (max-right (f x) (maximum f xs) (maximum f ys))
-
 -- of what is the same at each
 pub maximum-same : {A : Type 0} (f g : A → ℕ) (xs : List A) → ((x : A) → Mem x xs → f x ≡ g x) → maximum f xs ≡ maximum g xs
 unfolding maximum
 maximum-same f g [] e = refl
 maximum-same f g (x ∷ xs) e = rw (e x (mhere refl), maximum-same f g xs (λ y m. e y (mthere m)))
-
--- of zeros
-pub maximum-none : {A : Type 0} (f : A → ℕ) (xs : List A) → ((x : A) → Mem x xs → f x ≡ 0) → maximum f xs ≡ 0
-unfolding maximum
-maximum-none f [] e = refl
-maximum-none f (x ∷ xs) e = rw (e x (mhere refl), maximum-none f xs (λ y m. e y (mthere m)))
 
 -- none is larger
 pub maximum-upper : {A : Type 0} (f : A → ℕ) {xs : List A} {x : A} → Mem x xs → f x ≤ maximum f xs

@@ -1,11 +1,11 @@
 -- Laws of the walk over pairs: which pairs are steps, that none is one twice, what a step changes, and what all of them leave.
-use Prim.Native.Nat.{ℕ, zero, suc, _+_, max, _≤_, _<_}
+use Prim.Native.Nat.{ℕ, suc, _+_, max, _≤_, _<_}
 use mathlib.Core.Path.{_≡_, refl, sym, ap, _∙_}
 use mathlib.Core.Logic.{_⊎_, inl, inr, ⊎-elim, _≢_, _↔_}
-use mathlib.Core.Bool.{Bool, true, false}
+use mathlib.Core.Bool.{true, false}
 use mathlib.Core.List.{List, [], _∷_, _++_, append-nil, append-assoc, Memᴰ·append-left, Memᴰ·append-right, List·Memᴰ·append-cases}
 use mathlib.Core.List.{List·Memᴰ as Mem, List·Memᴰ·head as mhere, List·Memᴰ·tail as mthere, List·Memᴰ·cases-cons as cases-cons, List·Memᴰ·not-nil as not-nil}
-use native.Mathlib.Decide.{ℕ-discrete, decLt}
+use native.Mathlib.Decide.{decLt}
 use native.Mathlib.Nat.{max-zero, zero-max}
 use native.Mathlib.Omega.{arith}
 use lib.ListN.{length, getD, set, length-set, replicate}
@@ -20,7 +20,7 @@ use Rattle.chains.specs.Maximum.{maximum}
 use Rattle.chains.specs.MaximumLaws.{max-right, maximum-same}
 use Rattle.chains.specs.Walk.{required, raised, walk, numbers, shifts, peels, Ordered, Below}
 use Rattle.chains.specs.WalkLaws.{required-met, required-none, required-late, required-own, length-raised}
-use Rattle.chains.specs.Steps.{Placed, Pair, placedFrom, pairsTo, at, pairOf, pairs, placed, Rises, rises, stepsTo, steps, raisedBy, Numbers, step, noNumbers, walked}
+use Rattle.chains.specs.Steps.{Placed, Pair, placedFrom, pairsTo, at, pairOf, pairs, placed, Rises, rises, stepsTo, steps, raisedBy, rowStep, Numbers, step, noNumbers, walked}
 
 -- WHICH PAIRS ARE STEPS
 module _ {R : Type 0} where
@@ -151,10 +151,6 @@ module _ {R : Type 0} (g : Graph R) (amount : R → R → ℕ) where
   pub raisedBy-none : (x y : R) (s : List ℕ) → g .depends x y ≡ false → raisedBy g amount x y s ≡ s
   unfolding raisedBy
   raisedBy-none x y s e = rw (required-none amount g s y x e, max-zero (getD s (g .number y) 0)) (set-getD s (g .number y) 0)
-
-  -- what a step leaves of one row of numbers
-  abbrev pub rowStep : Pair R → List ℕ → List ℕ
-  rowStep p = raisedBy g amount (p .earlier .reference) (p .later .reference)
 
 -- at most two numbers, the shift and the peel of the later loop; every other is as before
 pub step-changes : (g : Graph Reference) (p : Pair Reference) (n : Numbers) (k : ℕ) → k ≢ g .number (p .later .reference)

@@ -66,6 +66,10 @@ module _ {R : Type 0} (g : Graph R) where
   unfolding required
   raisedBy amount x y s = set s (g .number y) (max (getD s (g .number y) 0) (required amount g s y x))
 
+  -- what a step leaves of it
+  abbrev pub rowStep : (R → R → ℕ) → Pair R → List ℕ → List ℕ
+  rowStep amount p = raisedBy amount (p .earlier .reference) (p .later .reference)
+
 -- the shifts, the peels, and how many pairs have been taken up
 pub record Numbers : Type 0 where
   pub shifts : List ℕ

@@ -5,7 +5,8 @@ use mathlib.Core.Logic.{_↔_, ⊎-elim}
 use mathlib.Core.List.{List, [], _∷_, List·Memᴰ·append-cases}
 use mathlib.Core.List.{List·Memᴰ as Mem, List·Memᴰ·cases-cons as cases-cons, List·Memᴰ·not-nil as not-nil}
 use native.Mathlib.Omega.{arith}
-use lib.ListN.{getD}
+use lib.ListN.{length, getD}
+use Rattle.order.specs.Sequences.{Before}
 use Rattle.order.specs.Lists.{before-left, before-right, before-joined, mem-joined, joined-mem}
 use Rattle.model.specs.declared.Reference.{Reference}
 use Rattle.model.specs.declared.Iteration.{Iteration}
@@ -18,6 +19,8 @@ use Rattle.chains.specs.TableGraph.{graph}
 use Rattle.chains.specs.Chains.{Largest}
 use Rattle.chains.specs.Legal.{LegalPlan}
 use Rattle.chains.specs.Walk.{shifts, peels, Ordered, Below}
+use Rattle.chains.specs.Steps.{Pair, steps, walked}
+use Rattle.chains.specs.StepLaws.{walked-numbers, step-final}
 use Rattle.chains.specs.Largest.{numbers-largest, numbers-legal, numbers-least}
 
 -- the references of loop k have its number
@@ -92,3 +95,15 @@ module _ (t : Table) where
         → (getD (shifts (graph t)) k 0 ≤ getD s k 0) × (getD (peels (graph t)) k 0 ≤ getD p k 0)
     plan-least s p l k =
         (numbers-least backward (graph t) allRefs-ordered allRefs-below s (l .0) k, numbers-least forward (graph t) allRefs-ordered allRefs-below p (l .1) k)
+
+    -- what the steps of the walk over pairs leave, one after the other, from zeros: these numbers, when each pair has been taken up
+    pub walk-leaves : walked (graph t) ≡ record { shifts = shifts (graph t); peels = peels (graph t); made = length (steps (graph t)) }
+    walk-leaves = walked-numbers (graph t) allRefs-below
+
+    pub walk-largest : (k : ℕ)
+        → Largest backward (graph t) k (getD (walked (graph t) .shifts) k 0) × Largest forward (graph t) k (getD (walked (graph t) .peels) k 0)
+    walk-largest k = rw walk-leaves (shift-largest k, peel-largest k)
+
+  -- no step looks at a number that a later step changes
+  pub walk-final : (p q : Pair Reference) → Before p q (steps (graph t)) → p .earlier .reference .number < q .later .reference .number
+  walk-final = step-final (graph t) allRefs-ordered

@@ -1,18 +1,17 @@
 -- Laws of the walk: what a step of it changes.
 use Prim.Native.Nat.{ℕ, zero, suc, _+_, max, _≤_, _<_}
-use mathlib.Core.Path.{_≡_, refl, sym, ap, _∙_}
+use mathlib.Core.Path.{_≡_, refl, _∙_}
 use mathlib.Core.Logic.{_≢_}
 use mathlib.Core.Bool.{Bool, true, false, cond}
-use mathlib.Core.List.{List, [], _∷_, _++_}
+use mathlib.Core.List.{List, [], _∷_}
 use mathlib.Core.List.{List·Memᴰ as Mem, List·Memᴰ·head as mhere, List·Memᴰ·tail as mthere}
 use native.Mathlib.Decide.{ℕ-discrete}
-use native.Mathlib.Nat.{max-zero}
 use native.Mathlib.Omega.{arith}
 use lib.ListN.{length, getD, set, length-set, replicate}
-use lib.Seq.{getD-set-same, getD-set-other, set-set, set-getD}
+use lib.Seq.{getD-set-same, getD-set-other}
 use Rattle.chains.specs.Graph.{Graph, Dependence}
 use Rattle.chains.specs.Maximum.{maximum}
-use Rattle.chains.specs.MaximumLaws.{max-of, maximum-of, maximum-same, max-right}
+use Rattle.chains.specs.MaximumLaws.{max-of, maximum-of}
 use Rattle.chains.specs.Walk.{required, raised, walk, numbers, Below}
 
 pub zeros : (n k : ℕ) → _≡_ {A = ℕ} (getD (replicate n 0) k 0) 0
@@ -53,11 +52,6 @@ module _ {R : Type 0} (amount : R → R → ℕ) (g : Graph R) where
   unfolding raised
   raised-same s y h = getD-set-same s _ _ 0 h
 
-  pub walk-append : (xs ys : List R) (s : List ℕ) → walk amount g (xs ++ ys) s ≡ walk amount g ys (walk amount g xs s)
-  unfolding walk
-  walk-append [] ys s = refl
-  walk-append (x ∷ xs) ys s = walk-append xs ys (raised amount g s x)
-
   -- the number of a loop does not count where something is required of that loop
   pub required-own : (s : List ℕ) (k v : ℕ) (y x : R) → g .number y ≡ k → required amount g (set s k v) y x ≡ required amount g s y x
   unfolding required
@@ -66,25 +60,6 @@ module _ {R : Type 0} (amount : R → R → ℕ) (g : Graph R) where
       go : (b : Bool) → g .depends x y ≡ b → cond b (getD (set s k v) (g .number x) 0 + amount x y) 0 ≡ cond b (getD s (g .number x) 0 + amount x y) 0
       go true d = let l = g .earlier x y d in rw (getD-set-other s k (g .number x) v 0 (λ z. omega arith))
       go false d = refl
-
-  -- the walk over references of one loop
-  pub walk-loop : (k : ℕ) (ys : List R) (s : List ℕ) → k < length s → ((y : R) → Mem y ys → g .number y ≡ k)
-      → walk amount g ys s ≡ set s k (max (getD s k 0) (maximum (λ y. maximum (required amount g s y) (g .references)) ys))
-  unfolding walk raised maximum
-  walk-loop k [] s l own = sym (rw (max-zero (getD s k 0)) (set-getD s k 0))
-  walk-loop k (y ∷ ys) s l own =
-      let e = own y (mhere refl) in
-      let v = max (getD s k 0) (maximum (required amount g s y) (g .references)) in
-      let d = set s k v in
-      let n = maximum (λ z. maximum (required amount g s z) (g .references)) ys in
-      let same : maximum (λ z. maximum (required amount g d z) (g .references)) ys ≡ n =
-      maximum-same _ _ ys (λ z m. maximum-same _ _ (g .references) (λ x i. required-own s k v z x (own z (mthere m)))) in
-      ap (λ (i : ℕ). walk amount g ys (set s i (max (getD s i 0) (maximum (required amount g s y) (g .references))))) e
-      ∙ walk-loop k ys d (rw (length-set s k v) l) (λ z m. own z (mthere m))
-      ∙ set-set s k v (max (getD d k 0) (maximum (λ z. maximum (required amount g d z) (g .references)) ys))
-      ∙ ap (λ (i : ℕ). set s k (max i (maximum (λ z. maximum (required amount g d z) (g .references)) ys))) (getD-set-same s k v 0 l)
-      ∙ ap (λ (i : ℕ). set s k (max v i)) same
-      ∙ ap (set s k) (max-right (getD s k 0) (maximum (required amount g s y) (g .references)) n)
 
   walk-length : (ys : List R) (s : List ℕ) → length (walk amount g ys s) ≡ length s
   unfolding walk

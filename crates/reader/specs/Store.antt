@@ -41,7 +41,7 @@ module _ (c : List ℕ) where
 abbrev pub Sized : List ℕ → Type 0
 Sized c = length c ≡ 1123
 
--- the kind of a row: 0 a read, whose head is then its array, 1 a destination, 2 a constant, 3 an operation
+-- the kind of a row: 0 a read, 1 a destination, 2 a constant, 3 an operation
 unfoldable pub itemOf : ℕ → ℕ → ℕ → Item
 itemOf kind q v = cond (eqb kind 0) (read q v) (cond (eqb kind 2) (constant v) (operation v))
 

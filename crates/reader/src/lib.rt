@@ -11,8 +11,6 @@ use records::Tested;
 use refusals::Refusal;
 use refusals::TAIL;
 ghost use mathlib.Core.Path.{_≡_};
-ghost use mathlib.Core.Bool.{_&&_};
-ghost use lib.Dec.{eqb};
 ghost use Prim.Native.Nat.{_+_, _<_, _≤_};
 ghost use Rattle.records.specs.Clear.{Room};
 ghost use Rattle.reader.specs.Reading.{reading};
@@ -34,7 +32,7 @@ const LOOPS_AT: usize = ARRAYS_AT + 1;
 // row has one number less to write, and there is less to set to 0 at each call.
 const SPLIT: u32 = 16;
 
-// The kinds of rows. A read's head is its array, so that one comparison finds the reads of an array.
+// The kinds of rows.
 pub const READ: u32 = 0;
 
 const DESTINATION: u32 = 1;
@@ -99,14 +97,6 @@ pub fn value_at(store: &Store, r: usize) -> u32
     ensures { λ x. ⌜ x ≡ valueAt (now (store .entry)) r ⌝ }
 {
     store[ROWS_AT + ROW * r + 1]
-}
-
-// Whether row r is a read of array q.
-pub fn reads_array(store: &Store, r: usize, q: usize) -> bool
-    requires { ⌜ (r < 528) × (q < 16) ⌝ }
-    ensures { λ x. ⌜ x ≡ (eqb (kindAt (now (store .entry)) r) 0 && eqb (arrayAt (now (store .entry)) r) q) ⌝ }
-{
-    wide(store[ROWS_AT + ROW * r]) == q
 }
 
 // One row more: loop k begins past it.

@@ -1,48 +1,58 @@
--- `take_earlier` meets its contract. The invariant: a has what the loops before j require.
-use Prim.Native.Nat.{_-_, _≤_}
+-- `take_earlier` meets its contract. The invariant: the pairs that are left, from the numbers so far, give what all of them give.
+use Prim.Native.Nat.{_-_}
 use native.Mathlib.Omega.{arith}
+use borrow.Author.Needs.{needs}
 use denote.Ref.{now}
-use Rattle.order.specs.Sequences.{joined}
-use Rattle.model.specs.References.{refs}
 use Rattle.reader.specs.Store.{tableIn}
-use Rattle.amounts.specs.Walked.{Required}
-use Rattle.amounts.proofs.Laws.{count-few, required-no, loops-next, loops-end}
+use Rattle.amounts.specs.Walked.{numbersIn}
+use Rattle.amounts.proofs.Laws.{Remaining, remaining-start, remaining-next, remaining-end}
 use Rattle.amounts.proofs.take_earlier.Statement.{statement}
 use Rattle.amounts.proofs.take_earlier.Tie as tie
 
 abbrev Inv-loop : tie.InvT-loop
-Inv-loop store y shifts peels k a₀ j₀ a j = (j ≤ k) × Required (tableIn store) shifts peels y (joined j (refs (tableIn store))) a₀ a
+Inv-loop store columns from y shifts₀ peels₀ column made₀ x₀ shifts peels made x =
+    Remaining (tableIn store) columns from y (numbersIn shifts₀ peels₀ made₀) x made shifts peels
 
 abbrev μ-loop : tie.MeasureT-loop
-μ-loop store y shifts peels k a₀ j₀ a j = k - j
+μ-loop store columns from y shifts₀ peels₀ column made₀ x₀ shifts peels made x = from - x
 
 loop-holds : tie.Need-loop-holds Inv-loop μ-loop
-loop-holds c = (omega arith, required-no)
+loop-holds c =
+    let a = c .before .args in
+    remaining-start (tableIn (now (a .store))) (now (a .columns)) (a .from) (a .y) (a .before .made) (now (a .shifts)) (now (a .peels)) (c .before .pre .1 .0)
 
-take-loop-requires : tie.Need-take-loop-requires Inv-loop μ-loop
-take-loop-requires c κs = let p = c .before .before .pre in (p .0, omega (arith, c .loop-test .taken, p .1 .number), p .1)
+take-up-requires : tie.Need-take-up-requires Inv-loop μ-loop
+take-up-requires c κs =
+    let l = c .before .before .before .loop in
+    let s = c .before .before .before .before in
+    let p = s .before .pre in
+    let i = c .before .before .loop-test .taken in (
+      (p .0 .0, s .searched-for .ensures, p .0 .1 .each (l .x) i),
+      (l .inv .bounded, omega (arith, l .inv .few, p .1 .1, i, p .0 .1 .few)),
+    )
 
-add-j : tie.Need-add-j Inv-loop μ-loop
-add-j c = let p = c .before .before .before .pre in omega (arith, c .before .loop-test .taken, p .1 .number, count-few (p .0))
+add-x : tie.Need-add-x Inv-loop μ-loop
+add-x c = let p = c .before .before .before .before .before .before .pre in omega (arith, c .before .before .before .loop-test .taken, p .0 .1 .few)
 
 loop-again : tie.Need-loop-again Inv-loop μ-loop
 loop-again c =
-    let l = c .before .before .loop in
-    let a = c .before .before .before .args in (
-      omega (arith, c .before .loop-test .taken),
-      loops-next (tableIn (now (a .store))) (now (a .shifts)) (now (a .peels)) (a .y) (a .before) (l .j) (l .a) _ (l .inv .1)
-          (c .take-loop .ensures),
-    )
+    let l = c .before .before .before .before .loop in
+    let b = c .before .before .before .before .before .before in
+    let a = b .args in
+    let i = c .before .before .before .loop-test .taken in
+    remaining-next (tableIn (now (a .store))) (now (a .columns)) (a .from) (a .y) (numbersIn (now (a .shifts)) (now (a .peels)) (a .before .made)) (l .x) (l .made) _
+    (l .shifts) (l .peels) _ _ (b .pre .0 .1 .each (l .x) i) i (l .inv) (c .take-up .ensures)
 
 returns : tie.Need-returns Inv-loop μ-loop
 returns c =
     let l = c .before .loop in
-    let b = c .before .before in
-    let a = b .args in
-    loops-end (tableIn (now (a .store))) (now (a .shifts)) (now (a .peels)) (a .y) (a .before) (l .j) (l .a) (l .inv .1)
-    (c .loop-test .left) (omega (arith, l .inv .0, b .pre .1 .number))
+    let b = c .before .before .before in
+    let a = b .args in (
+      remaining-end (tableIn (now (a .store))) (now (a .columns)) (a .from) (a .y) (numbersIn (now (a .shifts)) (now (a .peels)) (a .before .made)) (l .x) (l .made)
+          (l .shifts) (l .peels) (c .loop-test .left) (l .inv) (a .before .references),
+      (l .inv .bounded, omega (arith, l .inv .few, l .inv .past, b .pre .0 .1 .few)),
+    )
 
 pub take-earlier-spec : {M : Type 1} → statement M
 take-earlier-spec =
-    tie.close (tie.spec
-    Inv-loop μ-loop loop-holds take-loop-requires add-j (λ c. omega arith) loop-again returns)
+    tie.close (tie.spec Inv-loop μ-loop (λ c κs. search needs) loop-holds take-up-requires add-x (λ c. omega arith) loop-again returns)
