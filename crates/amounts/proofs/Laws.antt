@@ -31,8 +31,8 @@ use Rattle.chains.specs.Bounds.{Small, raisedBy-small}
 use Rattle.chains.specs.Tables.{refs-number, refs-allRefs, allRefs-below}
 use Rattle.amounts.specs.declared.Progress.{Progress}
 use Rattle.amounts.specs.Rows.{refIn, pastRow, row-read, row-other, past-few, row-in, start-in, past-start, past-next, joined-few, past-few-references, in-range}
-use Rattle.amounts.specs.Columns.{refAt, refsFrom, Marked, withReference}
-use Rattle.amounts.specs.ColumnLaws.{with-sized, other-marked, here-marked, refs-with, refs-length, refs-mem, refs-first, refs-next, refs-end}
+use Rattle.columns.specs.Columns.{refAt, refsFrom, Marked, withReference}
+use Rattle.columns.specs.ColumnLaws.{with-sized, other-marked, here-marked, refs-with, refs-length, refs-mem, refs-first, refs-next, refs-end}
 use Rattle.amounts.specs.Walked.{ReferenceFits, Pairable, Earlier, Bounded, numbersIn, Walked}
 
 pub count-few : {c : List ℕ} → Held c → count (tableIn c) ≤ 16

@@ -10,7 +10,7 @@ use Rattle.chains.specs.TableGraph.{graph}
 use Rattle.chains.specs.Steps.{placedFrom, stepsTo, step, Numbers, noNumbers}
 use Rattle.chains.specs.Bounds.{Small}
 use Rattle.amounts.specs.declared.Progress.{Progress}
-use Rattle.amounts.specs.Columns.{refAt, refsFrom, Marked}
+use Rattle.columns.specs.Columns.{refAt, refsFrom, Marked}
 
 -- a reference of one of the table's loops, with an offset that a table can have
 pub record ReferenceFits (t : Table) (x : Reference) : Type 0 where

@@ -17,30 +17,16 @@ ghost use Rattle.chains.specs.Walk.{shifts, peels};
 ghost use Rattle.chains.specs.Steps.{placedFrom, pairsTo, at, raisedBy, takeUp, step, walked};
 ghost use Rattle.chains.specs.Threshold.{threshold};
 ghost use Rattle.amounts.specs.Rows.{refIn, pastRow};
-ghost use Rattle.amounts.specs.Columns.{storedAs, refAt, refsFrom, searched, withReference};
+ghost use Rattle.columns.specs.Columns.{refAt, refsFrom, searched, withReference};
 ghost use Rattle.amounts.specs.Walked.{ReferenceFits, Pairable, Earlier, Bounded, numbersIn, Walked};
 use arithmetic::above;
 use arithmetic::larger;
 use arithmetic::narrow;
 use arithmetic::wide;
+use columns::COLUMNS;
+use columns::Columns;
 use model::Reference;
-use records::MOST_ROWS;
 use records::Store;
-
-// References in columns, each at its position: its array; its array again where it stores, and where it reads NONE; its loop; its offset. What a
-// pair needs is one number of a column: a destination's partners have its array in the first, a read's have it in the second.
-const STORED_AT: usize = MOST_ROWS;
-
-const LOOPS_AT: usize = 2 * MOST_ROWS;
-
-const OFFSETS_AT: usize = 3 * MOST_ROWS;
-
-const COLUMNS: usize = 4 * MOST_ROWS;
-
-type Columns = [u32; COLUMNS];
-
-// No array's number.
-const NONE: u32 = 16;
 
 // The amounts of shifting and peeling, for each loop a shift and a peel; 0 past the last loop.
 pub struct Amounts {
@@ -92,38 +78,6 @@ fn reference_at(store: &Store, k: usize, r: usize, stores: bool) -> Reference
     }
 }
 
-// The reference at position x.
-fn reference_in(columns: &Columns, x: usize) -> Reference
-    requires { ⌜ x < 528 ⌝ }
-    ensures { λ r. ⌜ r ≡ refAt (now (columns .entry)) x ⌝ }
-{
-    Reference {
-        number: wide(columns[LOOPS_AT + x]),
-        array: wide(columns[x]),
-        offset: wide(columns[OFFSETS_AT + x]),
-        stores: columns[STORED_AT + x] == columns[x],
-    }
-}
-
-// What stands in the second column for y.
-fn stored_of(y: Reference) -> u32
-    requires { ⌜ y .array < 16 ⌝ }
-    ensures { λ r. ⌜ r ≡ storedAs y ⌝ }
-{
-    if y.stores { narrow(y.array) } else { NONE }
-}
-
-// y put at position n.
-fn put_reference(n: usize, y: Reference, columns: &mut Columns)
-    requires { ⌜ (n < 528) × (y .array < 16) × (y .number < 16) × (y .offset ≤ 510) ⌝ }
-    ensures { λ _. ⌜ now (columns .exit) ≡ withReference n y (now (columns .entry)) ⌝ }
-{
-    columns[n] = narrow(y.array);
-    columns[STORED_AT + n] = stored_of(y);
-    columns[LOOPS_AT + n] = narrow(y.number);
-    columns[OFFSETS_AT + n] = narrow(y.offset);
-}
-
 // A loop's number, where n is required of it.
 fn raised(number: u32, n: usize) -> u32
     requires { ⌜ n < 4294967296 ⌝ }
@@ -148,13 +102,6 @@ fn raise(store: &Store, x: Reference, y: Reference, shifts: &mut [u32; 16], peel
     }
 }
 
-// The column in which a destination's partners have its array, and that in which a read's have it.
-fn searched_for(stores: bool) -> usize
-    ensures { λ r. ⌜ r ≡ searched stores ⌝ }
-{
-    if stores { 0 } else { STORED_AT }
-}
-
 // One step of the walk: takes up the pair of the reference at position x and y. `column` is y's. Answers how many have been taken up.
 fn take_up(
     store: &Store,
@@ -173,7 +120,7 @@ fn take_up(
     if wide(columns[column + x]) != y.array {
         return made + 1;
     }
-    let e = reference_in(columns, x);
+    let e = columns::reference_in(columns, x);
     raise(store, e, y, shifts, peels);
     made + 1
 }
@@ -194,7 +141,7 @@ fn take_earlier(
     ensures { λ r. ⌜ numbersIn (now (shifts .exit)) (now (peels .exit)) r ≡ runAll (step (graph (tableIn (now (store .entry))))) (pairsTo (at (before .references) y) (placedFrom 0 (refsFrom (now (columns .entry)) 0 from))) (numbersIn (now (shifts .entry)) (now (peels .entry)) (before .made)) ⌝ }
     ensures { λ r. ⌜ Bounded (now (shifts .exit)) (now (peels .exit)) × (r ≤ before .made + 528) ⌝ }
 {
-    let column = searched_for(y.stores);
+    let column = columns::searched_for(y.stores);
     let mut made = before.made;
     let mut x: usize = 0;
     while x < from {
@@ -222,7 +169,7 @@ fn take_later(
 {
     let made = take_earlier(store, columns, from, y, before, shifts, peels);
     let n = before.references;
-    put_reference(n, y, columns);
+    columns::put_reference(n, y, columns);
     Progress {
         references: n + 1,
         made,

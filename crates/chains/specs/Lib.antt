@@ -24,10 +24,10 @@ pub mod Walk
 pub mod WalkLaws
 -- the walk over pairs of references: its steps, and what each changes
 pub mod Steps
--- each pair is a step once; the steps leave the numbers above
-pub mod StepLaws
 -- walks by computation
 pub mod StepKnown
+-- each pair is a step once; the steps leave the numbers above
+pub mod StepLaws
 -- they are the largest totals; they are legal, and no legal ones are smaller
 pub mod Largest
 -- the largest sum of shift and peel of one loop

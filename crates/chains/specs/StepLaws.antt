@@ -91,7 +91,7 @@ module _ {R : Type 0} where
 
 module _ {R : Type 0} (g : Graph R) where
   -- a pair is a step exactly if both are references of the graph, the first in the loop that comes before the second's
-  pub step-mem : (p : Pair R) → Mem p (steps g) ↔ (Mem (p .earlier) (placed g) × Mem (p .later) (placed g) × Rises g p)
+  pub step-mem : (p : Pair R) → Mem p (steps g) ↔ (Mem (p .earlier) (placed g) × Mem (p .later) (placed g) × (g .number (p .earlier .reference) < g .number (p .later .reference)))
   unfolding steps
   step-mem p = (
     λ m. let (a, b) = pairs-mem (placed g) (placed g) p .0 (mem-only (rises g) (pairs (placed g) (placed g)) m) in

@@ -6,8 +6,8 @@ use denote.Ref.{now}
 use lib.ListN.{getD}
 use Prim.Native.Nat.{ℕ, _+_}
 use Rattle.reader.specs.Store.{tableIn}
-use Rattle.amounts.specs.Columns.{refAt}
-use Rattle.amounts.specs.ColumnLaws.{searched-few, pair-touches, pair-apart}
+use Rattle.columns.specs.Columns.{refAt}
+use Rattle.columns.specs.ColumnLaws.{searched-few, pair-touches, pair-apart}
 use Rattle.amounts.proofs.Laws.{taken-touching, taken-apart}
 use Rattle.amounts.proofs.take_up.Statement.{statement}
 use Rattle.amounts.proofs.take_up.Tie as tie

@@ -1,7 +1,7 @@
 -- `reference_in` meets its contract: the numbers at the position, each from its column.
 use borrow.Author.Needs.{needs}
-use Rattle.amounts.proofs.reference_in.Statement.{statement}
-use Rattle.amounts.proofs.reference_in.Tie as tie
+use Rattle.columns.proofs.reference_in.Statement.{statement}
+use Rattle.columns.proofs.reference_in.Tie as tie
 
 returns : tie.Need-returns
 returns c = cc

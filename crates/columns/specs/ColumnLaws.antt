@@ -13,7 +13,7 @@ use lib.ListN.{getD, set, length, length-set}
 use lib.Seq.{getD-set-same, getD-set-other}
 use Rattle.model.specs.declared.Reference.{Reference}
 use Rattle.model.specs.References.{touch}
-use Rattle.amounts.specs.Columns.{arrayOf, storedOf, loopOf, offsetOf, refAt, refsFrom, Marked, storedAs, withReference, searched}
+use Rattle.columns.specs.Columns.{arrayOf, storedOf, loopOf, offsetOf, refAt, refsFrom, Marked, storedAs, withReference, searched}
 
 module _ (n : ℕ) (y : Reference) (c : List ℕ) (few : n < 528) where
   pub with-sized : length (withReference n y c) ≡ length c

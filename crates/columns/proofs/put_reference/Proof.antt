@@ -1,8 +1,8 @@
 -- `put_reference` meets its contract: one number goes into each column.
 use borrow.Author.Needs.{needs}
-use Rattle.amounts.specs.Columns.{withReference}
-use Rattle.amounts.proofs.put_reference.Statement.{statement}
-use Rattle.amounts.proofs.put_reference.Tie as tie
+use Rattle.columns.specs.Columns.{withReference}
+use Rattle.columns.proofs.put_reference.Statement.{statement}
+use Rattle.columns.proofs.put_reference.Tie as tie
 
 returns : tie.Need-returns
 unfolding withReference

@@ -1,0 +1,4 @@
+-- references in columns
+pub mod Columns
+-- laws of them
+pub mod ColumnLaws
