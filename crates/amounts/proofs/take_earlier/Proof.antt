@@ -1,5 +1,5 @@
 -- `take_earlier` meets its contract. The invariant: the pairs that are left, from the numbers so far, give what all of them give.
-use Prim.Native.Nat.{_-_}
+use Prim.Native.Nat.{_-_, _<_}
 use native.Mathlib.Omega.{arith}
 use borrow.Author.Needs.{needs}
 use denote.Ref.{now}
@@ -26,7 +26,7 @@ take-up-requires c κs =
     let l = c .before .before .before .loop in
     let s = c .before .before .before .before in
     let p = s .before .pre in
-    let i = c .before .before .loop-test .taken in (
+    let i : l .x < s .before .args .from = omega (arith, c .before .before .loop-test .taken) in (
       (p .0 .0, s .searched-for .ensures, p .0 .1 .each (l .x) i),
       (l .inv .bounded, omega (arith, l .inv .few, p .1 .1, i, p .0 .1 .few)),
     )
@@ -39,7 +39,7 @@ loop-again c =
     let l = c .before .before .before .before .loop in
     let b = c .before .before .before .before .before .before in
     let a = b .args in
-    let i = c .before .before .before .loop-test .taken in
+    let i : l .x < a .from = omega (arith, c .before .before .before .loop-test .taken) in
     remaining-next (tableIn (now (a .store))) (now (a .columns)) (a .from) (a .y) (numbersIn (now (a .shifts)) (now (a .peels)) (a .before .made)) (l .x) (l .made) _
     (l .shifts) (l .peels) _ _ (b .pre .0 .1 .each (l .x) i) i (l .inv) (c .take-up .ensures)
 
@@ -49,7 +49,7 @@ returns c =
     let b = c .before .before .before in
     let a = b .args in (
       remaining-end (tableIn (now (a .store))) (now (a .columns)) (a .from) (a .y) (numbersIn (now (a .shifts)) (now (a .peels)) (a .before .made)) (l .x) (l .made)
-          (l .shifts) (l .peels) (c .loop-test .left) (l .inv) (a .before .references),
+          (l .shifts) (l .peels) (omega (arith, c .loop-test .left)) (l .inv) (a .before .references),
       (l .inv .bounded, omega (arith, l .inv .few, l .inv .past, b .pre .0 .1 .few)),
     )
 
