@@ -117,11 +117,11 @@ fn take_up(
     requires { ⌜ Bounded (now shifts) (now peels) × (made < 1000000) ⌝ }
     ensures { λ r. ⌜ numbersIn (now (shifts .exit)) (now (peels .exit)) r ≡ takeUp (graph (tableIn (now (store .entry)))) (refAt (now (columns .entry)) x) y (numbersIn (now (shifts .entry)) (now (peels .entry)) made) ⌝ }
 {
-    if wide(columns[column + x]) != y.array {
+    if columns::touches(columns, column, x, y) {
+        let e = columns::reference_in(columns, x);
+        raise(store, e, y, shifts, peels);
         return made + 1;
     }
-    let e = columns::reference_in(columns, x);
-    raise(store, e, y, shifts, peels);
     made + 1
 }
 
@@ -232,7 +232,7 @@ fn walk(store: &Store) -> Totals
     ensures { λ r. ⌜ numbersIn (r .shifts) (r .peels) (r .made) ≡ walked (graph (tableIn (now (store .entry)))) ⌝ }
 {
     let count = reader::loops_in(store);
-    let mut columns = [0u32; COLUMNS];
+    let mut columns = [0u16; COLUMNS];
     let mut ss = [0u32; 16];
     let mut ps = [0u32; 16];
     let mut a = Progress {

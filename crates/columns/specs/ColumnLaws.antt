@@ -156,7 +156,7 @@ searched-few true = omega arith
 searched-few false = omega arith
 
 -- THE TEST OF A PAIR: y's array stands in y's column at the position of x exactly if the two refer to one array and one of them stores
-pair-test : (c : List ℕ) (x : ℕ) (y : Reference) → Marked c x → y .array < 16 → eqb (getD c (searched (y .stores) + x) 0) (y .array) ≡ touch (refAt c x) y
+pub pair-test : (c : List ℕ) (x : ℕ) (y : Reference) → Marked c x → y .array < 16 → eqb (getD c (searched (y .stores) + x) 0) (y .array) ≡ touch (refAt c x) y
 unfolding touch
 pair-test c x y m l = go (y .stores) m
   where
@@ -175,10 +175,3 @@ pair-test c x y m l = go (y .stores) m
         ∙ ap (λ (b : Bool). eqb (arrayOf c x) (y .array) && b) (sym (or-true (eqb (storedOf c x) (arrayOf c x))))
     go false m =
         ⊎-elim (λ e. rw e (stored (arrayOf c x) (y .array))) (λ e. rw e (read (arrayOf c x) (y .array) l (ℕ-discrete (arrayOf c x) (y .array)))) m
-
-module _ (c : List ℕ) (x : ℕ) (y : Reference) (m : Marked c x) (l : y .array < 16) (v : ℕ) (at : v ≡ getD c (searched (y .stores) + x) 0) where
-  pub pair-touches : v ≡ y .array → touch (refAt c x) y ≡ true
-  pair-touches e = sym (pair-test c x y m l) ∙ eq-eqb (getD c (searched (y .stores) + x) 0) (y .array) (sym at ∙ e)
-
-  pub pair-apart : v ≢ y .array → touch (refAt c x) y ≡ false
-  pair-apart n = sym (pair-test c x y m l) ∙ ne-eqb (getD c (searched (y .stores) + x) 0) (y .array) (λ e. n (at ∙ e))
