@@ -20,13 +20,20 @@ module _ (n : ℕ) (y : Reference) (c : List ℕ) (few : n < 528) where
   unfolding withReference
   with-sized = simp length-set
 
+  -- one number after the other
+  abbrev c₁ : List ℕ
+  c₁ = set c n (y .array)
+
+  abbrev c₂ : List ℕ
+  c₂ = set c₁ (528 + n) (storedAs y)
+
+  abbrev c₃ : List ℕ
+  c₃ = set c₂ (1056 + n) (y .number)
+
   -- what stands elsewhere is as it was
   elsewhere : (j : ℕ) → j ≢ n → j ≢ 528 + n → j ≢ 1056 + n → j ≢ 1584 + n → getD (withReference n y c) j 0 ≡ getD c j 0
   unfolding withReference
   elsewhere j p q r s =
-      let c₁ = set c n (y .array) in
-      let c₂ = set c₁ (528 + n) (storedAs y) in
-      let c₃ = set c₂ (1056 + n) (y .number) in
       getD-set-other c₃ (1584 + n) j (y .offset) 0 s ∙ getD-set-other c₂ (1056 + n) j (y .number) 0 r
       ∙ getD-set-other c₁ (528 + n) j (storedAs y) 0 q
       ∙ getD-set-other c n j (y .array) 0 p
@@ -52,9 +59,6 @@ module _ (n : ℕ) (y : Reference) (c : List ℕ) (few : n < 528) where
     array-here : arrayOf (withReference n y c) n ≡ y .array
     unfolding withReference
     array-here =
-        let c₁ = set c n (y .array) in
-        let c₂ = set c₁ (528 + n) (storedAs y) in
-        let c₃ = set c₂ (1056 + n) (y .number) in
         getD-set-other c₃ (1584 + n) n (y .offset) 0 (λ e. omega arith) ∙ getD-set-other c₂ (1056 + n) n (y .number) 0 (λ e. omega arith)
         ∙ getD-set-other c₁ (528 + n) n (storedAs y) 0 (λ e. omega arith)
         ∙ getD-set-same c n (y .array) 0 (omega arith)
@@ -62,27 +66,18 @@ module _ (n : ℕ) (y : Reference) (c : List ℕ) (few : n < 528) where
     stored-here : storedOf (withReference n y c) n ≡ storedAs y
     unfolding withReference
     stored-here =
-        let c₁ = set c n (y .array) in
-        let c₂ = set c₁ (528 + n) (storedAs y) in
-        let c₃ = set c₂ (1056 + n) (y .number) in
         getD-set-other c₃ (1584 + n) (528 + n) (y .offset) 0 (λ e. omega arith) ∙ getD-set-other c₂ (1056 + n) (528 + n) (y .number) 0 (λ e. omega arith)
         ∙ getD-set-same c₁ (528 + n) (storedAs y) 0 (omega (arith, length-set c n (y .array)))
 
     loop-here : loopOf (withReference n y c) n ≡ y .number
     unfolding withReference
     loop-here =
-        let c₁ = set c n (y .array) in
-        let c₂ = set c₁ (528 + n) (storedAs y) in
-        let c₃ = set c₂ (1056 + n) (y .number) in
         getD-set-other c₃ (1584 + n) (1056 + n) (y .offset) 0 (λ e. omega arith)
         ∙ getD-set-same c₂ (1056 + n) (y .number) 0 (omega (arith, length-set c n (y .array), length-set c₁ (528 + n) (storedAs y)))
 
     offset-here : offsetOf (withReference n y c) n ≡ y .offset
     unfolding withReference
     offset-here =
-        let c₁ = set c n (y .array) in
-        let c₂ = set c₁ (528 + n) (storedAs y) in
-        let c₃ = set c₂ (1056 + n) (y .number) in
         getD-set-same c₃ (1584 + n) (y .offset) 0
         (omega (arith, length-set c n (y .array), length-set c₁ (528 + n) (storedAs y), length-set c₂ (1056 + n) (y .number)))
 

@@ -1,6 +1,6 @@
 -- What the definitions tell of a table's bytes, with everything unfolded that has to be computed.
 use Prim.Native.Nat.{ℕ, suc, _-_}
-use mathlib.Core.List.{List, [], _∷_}
+use mathlib.Core.List.{List, [], _∷_, _++_}
 use lib.ListN.{take}
 use Rattle.records.specs.Bytes.{two, four, offset, kindOf, bodyLength, recordOf, recordAt}
 use Rattle.records.specs.Grounds.{early, edge, fields, ground, passed, tested}
@@ -14,6 +14,7 @@ use Rattle.serial.specs.Serial.{collides, hit, loopHit, serialFrom, through, ta
 use Rattle.chains.specs.Dependence.{dependence}
 use Rattle.chains.specs.TableGraph.{graph}
 use Rattle.chains.specs.Walk.{required, raised, walk, numbers, shifts, peels}
+use Rattle.chains.specs.Steps.{Pair, steps, walked}
 use Rattle.chains.specs.Threshold.{threshold}
 use Rattle.blocks.specs.Span.{spanOf}
 use Rattle.blocks.specs.Blocks.{size, start, isShort}
@@ -53,6 +54,17 @@ peelsIn s = told (λ t. take (count t) (peels (graph t))) (table s)
 
 abbrev pub thresholdIn : List ℕ → List ℕ
 thresholdIn s = told (λ t. thresholdOf t ∷ []) (table s)
+
+-- the steps of the walk over pairs: of each the position of its earlier and of its later reference; what they leave, with their count
+abbrev places : {R : Type 0} → List (Pair R) → List ℕ
+places [] = []
+places (p ∷ ps) = p .earlier .position ∷ p .later .position ∷ places ps
+
+abbrev pub stepsIn : List ℕ → List ℕ
+stepsIn s = told (λ t. places (steps (graph t))) (table s)
+
+abbrev pub walkIn : List ℕ → List ℕ
+walkIn s = told (λ t. take (count t) (walked (graph t) .shifts) ++ take (count t) (walked (graph t) .peels) ++ (walked (graph t) .made ∷ [])) (table s)
 
 abbrev blockSize : Planned → ℕ → ℕ
 blockSize q b = q .plan .edge (suc b) - q .plan .edge b
