@@ -1,5 +1,5 @@
 -- The walk as the code makes it: over pairs, over the rows of a loop, and over the loops.
-use Prim.Native.Nat.{ℕ, _+_, _-_, max, _≤_, _<_}
+use Prim.Native.Nat.{ℕ, suc, _+_, _-_, max, _≤_, _<_}
 use mathlib.Core.Path.{_≡_, refl, sym, ap, subst, _∙_}
 use mathlib.Core.Bool.{Bool, true, false}
 use mathlib.Core.List.{List, [], _∷_, _++_, append-nil}
@@ -25,15 +25,15 @@ use Rattle.chains.specs.Graph.{Graph}
 use Rattle.chains.specs.TableGraph.{graph}
 use Rattle.chains.specs.Walk.{shifts, peels}
 use Rattle.chains.specs.WalkLaws.{zeros}
-use Rattle.chains.specs.Steps.{Placed, Pair, at, placedFrom, pairsTo, stepsTo, steps, raisedBy, Numbers, takeUp, step, noNumbers, walked}
-use Rattle.chains.specs.StepLaws.{placed-append, stepsTo-append, stepsTo-one, raisedBy-length, raisedBy-met, raisedBy-none, walked-numbers}
+use Rattle.chains.specs.Steps.{Placed, Pair, at, pairOf, placedFrom, pairsTo, stepsTo, steps, raisedBy, Following, Numbers, takeUp, step, noNumbers, walked}
+use Rattle.chains.specs.StepLaws.{following-first, following-next, made-steps, placed-append, stepsTo-append, stepsTo-one, raisedBy-length, raisedBy-met, raisedBy-none, walked-numbers}
 use Rattle.chains.specs.Bounds.{Small, raisedBy-small}
 use Rattle.chains.specs.Tables.{refs-number, refs-allRefs, allRefs-below}
 use Rattle.amounts.specs.declared.Progress.{Progress}
-use Rattle.amounts.specs.Rows.{refIn, pastRow, row-read, row-other, past-few, row-in, start-in, past-start, past-next, joined-few, past-few-references, in-range}
+use Rattle.amounts.specs.Rows.{refIn, readsIn, pastRow, row-read, reads-next, past-ahead, start-ahead, row-other, past-few, row-in, start-in, past-start, past-next, joined-few, past-few-references, in-range}
 use Rattle.columns.specs.Columns.{refAt, refsFrom, Marked, withReference}
 use Rattle.columns.specs.ColumnLaws.{with-sized, other-marked, here-marked, refs-with, refs-length, refs-mem, refs-first, refs-next, refs-end}
-use Rattle.amounts.specs.Walked.{ReferenceFits, Pairable, Earlier, Bounded, numbersIn, Walked}
+use Rattle.amounts.specs.Walked.{ReferenceFits, Pairable, Earlier, NextStep, NextSteps, Bounded, numbersIn, Walked}
 
 pub count-few : {c : List ℕ} → Held c → count (tableIn c) ≤ 16
 count-few h = omega (arith, count-held h, few-loops h)
@@ -97,22 +97,41 @@ pub record Remaining (t : Table) (columns : List ℕ) (from : ℕ) (y : Referenc
   pub bounded : Bounded shifts peels
   pub few : made ≤ start .made + i
   pub past : i ≤ from
+  pub next : (n : ℕ) × Following (graph t) made (toTake columns from n y i)
   pub rest : (n : ℕ) → runAll (step (graph t)) (toTake columns from n y i) (numbersIn shifts peels made) ≡ runAll (step (graph t)) (toTake columns from n y 0) start
 
 module _ (t : Table) (columns : List ℕ) (from : ℕ) (y : Reference) where
-  pub remaining-start : (made : ℕ) (shifts peels : List ℕ) → Bounded shifts peels → Remaining t columns from y (numbersIn shifts peels made) 0 made shifts peels
-  remaining-start made shifts peels b = record { bounded = b; few = omega arith; past = omega arith; rest = λ n. refl }
+  pub remaining-start : (made n : ℕ) (shifts peels : List ℕ) → Bounded shifts peels → NextSteps t columns from n y made
+      → Remaining t columns from y (numbersIn shifts peels made) 0 made shifts peels
+  remaining-start made n shifts peels b f =
+      let z : from - 0 ≡ from = omega arith in
+      record { bounded = b; few = omega arith; past = omega arith; next = (n, rw z f); rest = λ n. refl }
 
-  pub remaining-next : (start : Numbers) (i made made′ : ℕ) (s p s′ p′ : List ℕ) → Pairable t columns i y → i < from → Remaining t columns from y start i made s p
-      → numbersIn s′ p′ made′ ≡ takeUp (graph t) (refAt columns i) y (numbersIn s p made) → Remaining t columns from y start (i + 1) made′ s′ p′
-  remaining-next start i made made′ s p s′ p′ h l r e = record {
-    bounded =
-        rw (ap (λ (q : Numbers). q .shifts) e, ap (λ (q : Numbers). q .peels) e)
-        (raised-bounded t (refAt columns i) y s p (h .fits .offset) (h .later) (r .bounded));
-    few = omega (arith, ap (λ (q : Numbers). q .made) e, r .few);
-    past = omega arith;
-    rest = λ n. rw (add-one i) (rw e (ap (λ (xs : List Reference). runAll (step (graph t)) (pairsTo (at n y) (placedFrom i xs)) (numbersIn s p made)) (sym (refs-next columns i from l)) ∙ r .rest n));
-  }
+  module _ (start : Numbers) (i made : ℕ) (s p : List ℕ) (l : i < from) (r : Remaining t columns from y start i made s p) where
+    following : Following (graph t) made (pairOf (at i (refAt columns i)) (at (r .next .0) y) ∷ pairsTo (at (r .next .0) y) (placedFrom (suc i) (refsFrom columns (suc i) (from - suc i))))
+    following = rw (refs-next columns i from l) at (r .next .1)
+
+    -- the next pair is the next step
+    pub remaining-step : NextStep t columns i y made
+    remaining-step = (r .next .0, following-first following)
+
+    pub remaining-next : (made′ : ℕ) (s′ p′ : List ℕ) → Pairable t columns i y → numbersIn s′ p′ made′ ≡ takeUp (graph t) (refAt columns i) y (numbersIn s p made)
+        → Remaining t columns from y start (i + 1) made′ s′ p′
+    remaining-next made′ s′ p′ h e =
+        let counted : made′ ≡ made + 1 = omega (arith, ap (λ (q : Numbers). q .made) e) in
+        record {
+          bounded =
+              rw (ap (λ (q : Numbers). q .shifts) e, ap (λ (q : Numbers). q .peels) e)
+              (raised-bounded t (refAt columns i) y s p (h .fits .offset) (h .later) (r .bounded));
+          few = omega (arith, counted, r .few);
+          past = omega arith;
+          next = (r .next .0, rw (add-one i, counted) (following-next following));
+          rest = λ n.
+              rw (add-one i)
+              (rw e
+              (ap (λ (xs : List Reference). runAll (step (graph t)) (pairsTo (at n y) (placedFrom i xs)) (numbersIn s p made)) (sym (refs-next columns i from l))
+              ∙ r .rest n));
+        }
 
   pub remaining-end : (start : Numbers) (i made : ℕ) (s p : List ℕ) → from ≤ i → Remaining t columns from y start i made s p
       → (n : ℕ) → numbersIn s p made ≡ runAll (step (graph t)) (pairsTo (at n y) (placedFrom 0 (refsFrom columns 0 from))) start
@@ -173,6 +192,40 @@ module _ {c : List ℕ} (h : Held c) (k : ℕ) (l : k < count (tableIn c)) where
         stepsTo-one (graph (tableIn c)) (at n y) (joined k (refs (tableIn c))) rest same (λ x m. omega (arith, joined-fits x m .0))
         (λ z m. let (j, u, v, i) = of z m in omega (arith, refs-number (tableIn c) j z i))
 
+    early : (from : ℕ) → from ≡ length (joined k (refs (tableIn c))) → refsFrom columns 0 from ≡ joined k (refs (tableIn c))
+    early from e = rw e (first-kept columns own (w .kept))
+
+    -- which are the next ones, where it is the next reference of all
+    pub next-steps : (from : ℕ) → from ≡ length (joined k (refs (tableIn c))) → (zs : List Reference)
+        → allRefs (tableIn c) ≡ (joined k (refs (tableIn c)) ++ own) ++ (y ∷ zs) → NextSteps (tableIn c) columns from (a .references) y (a .made)
+    unfolding steps
+    next-steps from e zs ahead = record {
+      done = stepsTo g (placedFrom 0 ys);
+      rest = stepsTo g (placedFrom (suc n) zs);
+      all =
+          ap (λ (rs : List Reference). stepsTo g (placedFrom 0 rs)) ahead
+          ∙ ap (stepsTo g) place
+          ∙ stepsTo-append g (placedFrom 0 ys) (at n y ∷ placedFrom (suc n) zs)
+          ∙ ap (λ (ps : List (Pair Reference)). stepsTo g (placedFrom 0 ys) ++ ps)
+          (stepsTo-append g (at n y ∷ []) (placedFrom (suc n) zs) ∙ ap (λ (ps : List (Pair Reference)). ps ++ stepsTo g (placedFrom (suc n) zs)) mine-steps);
+      count = omega (arith, ap (λ (q : Numbers). q .made) (w .numbers), made-steps g (stepsTo g (placedFrom 0 ys)) noNumbers);
+    }
+      where
+        g : Graph Reference
+        g = graph (tableIn c)
+
+        n : ℕ
+        n = a .references
+
+        ys : List Reference
+        ys = joined k (refs (tableIn c)) ++ own
+
+        place : placedFrom 0 (ys ++ (y ∷ zs)) ≡ placedFrom 0 ys ++ (at n y ∷ placedFrom (suc n) zs)
+        place = let z : 0 + length ys ≡ n = omega (arith, w .references) in rw z at (placed-append 0 ys (y ∷ zs))
+
+        mine-steps : stepsTo g (at n y ∷ []) ≡ pairsTo (at n y) (placedFrom 0 (refsFrom columns 0 from))
+        mine-steps = rw (early from e) (steps-next n)
+
     -- and what the walk has come to when they are made
     pub walked-next : (from : ℕ) → from ≡ length (joined k (refs (tableIn c))) → a .references < 528 → (columns′ s′ p′ : List ℕ) (r : Progress)
         → (r .references ≡ a .references + 1) × (columns′ ≡ withReference (a .references) y columns)
@@ -186,7 +239,7 @@ module _ {c : List ℕ} (h : Held c) (k : ℕ) (l : k < count (tableIn c)) where
       marked = λ x i. rw put (mark x (omega (arith, w .references, longer)) (ℕ-discrete x (a .references)));
       numbers =
           made
-          ∙ ap (λ (xs : List Reference). runAll (step g) (pairsTo (at n y) (placedFrom 0 xs)) (numbersIn s p (a .made))) early
+          ∙ ap (λ (xs : List Reference). runAll (step g) (pairsTo (at n y) (placedFrom 0 xs)) (numbersIn s p (a .made))) (early from e)
           ∙ ap (runAll (step g) (pairsTo (at n y) (placedFrom 0 (joined k (refs (tableIn c)))))) (w .numbers)
           ∙ ap (λ (ps : List (Pair Reference)). runAll (step g) ps (runAll (step g) (stepsTo g (placedFrom 0 ys)) noNumbers)) (sym (steps-next n))
           ∙ sym (runAll-append (step g) (stepsTo g (placedFrom 0 ys)) (stepsTo g (at n y ∷ [])) noNumbers)
@@ -204,9 +257,6 @@ module _ {c : List ℕ} (h : Held c) (k : ℕ) (l : k < count (tableIn c)) where
 
         ys : List Reference
         ys = joined k (refs (tableIn c)) ++ own
-
-        early : refsFrom columns 0 from ≡ joined k (refs (tableIn c))
-        early = rw e (first-kept columns own (w .kept))
 
         longer : length ((joined k (refs (tableIn c)) ++ own) ++ (y ∷ [])) ≡ length (joined k (refs (tableIn c)) ++ own) + 1
         longer = length-append (joined k (refs (tableIn c)) ++ own) (y ∷ [])
@@ -236,6 +286,12 @@ module _ {c : List ℕ} (h : Held c) (k : ℕ) (l : k < count (tableIn c)) (colu
     pub destination-earlier : Earlier (tableIn c) columns from (refIn c k (startAt c k) true)
     destination-earlier = earlier-of h k l [] columns s p a alone (refIn c k (startAt c k) true) refl (omega arith) offset-here from e
 
+    pub destination-steps : NextSteps (tableIn c) columns from (a .references) (refIn c k (startAt c k) true) (a .made)
+    destination-steps =
+        let (rest, same) = start-ahead h k l in
+        next-steps h k l [] columns s p a alone (refIn c k (startAt c k) true) refl (omega arith) offset-here from e rest
+        (same ∙ ap (λ (xs : List Reference). xs ++ (refIn c k (startAt c k) true ∷ rest)) (sym (append-nil (joined k (refs (tableIn c))))))
+
     pub destination-next : (columns′ s′ p′ : List ℕ) (r : Progress)
         → (r .references ≡ a .references + 1) × (columns′ ≡ withReference (a .references) (refIn c k (startAt c k) true) columns)
         → numbersIn s′ p′ (r .made) ≡ runAll (step (graph (tableIn c))) (pairsTo (at (a .references) (refIn c k (startAt c k) true)) (placedFrom 0 (refsFrom columns 0 from))) (numbersIn s p (a .made))
@@ -257,6 +313,12 @@ module _ {c : List ℕ} (h : Held c) (k : ℕ) (l : k < count (tableIn c)) (colu
 
       pub read-earlier : Earlier (tableIn c) columns from (refIn c k r false)
       read-earlier = earlier-of h k l _ columns s p a w (refIn c k r false) refl (omega arith) read-offset from e
+
+      pub read-steps : NextSteps (tableIn c) columns from (a .references) (refIn c k r false) (a .made)
+      read-steps =
+          let (rest, same) = past-ahead h k l r u (omega arith) in
+          next-steps h k l _ columns s p a w (refIn c k r false) refl (omega arith) read-offset from e (readsIn c k (r + 1) (startAt c (k + 1)) ++ rest)
+          (rw (reads-next c k r (startAt c (k + 1)) v, row-read c k r q) at same)
 
       pub read-next : (columns′ s′ p′ : List ℕ) (d : Progress)
           → (d .references ≡ a .references + 1) × (columns′ ≡ withReference (a .references) (refIn c k r false) columns)

@@ -13,7 +13,7 @@ use lib.Dec.{eqb}
 use lib.ListN.{length, length-append}
 use borrow.Author.Tests.{ne-eqb}
 use Rattle.order.specs.Sequences.{joined}
-use Rattle.order.specs.Lists.{mem-joined}
+use Rattle.order.specs.Lists.{mem-joined, joined-split}
 use Rattle.model.specs.declared.Reference.{Reference}
 use Rattle.model.specs.Table.{Item, read, constant, operation, count}
 use Rattle.model.specs.References.{reads, refs, allRefs}
@@ -68,19 +68,18 @@ module _ (c : List ℕ) (k : ℕ) where
   unfolding itemsFrom
   reads-end r past l = let e : past - r ≡ 0 = omega arith in rw e
 
-  -- one more at the end
-  pub reads-last : (from n : ℕ) → readsIn from (from + n + 1) ≡ readsIn from (from + n) ++ reads k (itemsFrom c (from + n) 1)
-  reads-last from zero =
+  -- those up to a row, and those from it on
+  pub reads-split : (from n past : ℕ) → from + n ≤ past → readsIn from past ≡ readsIn from (from + n) ++ readsIn (from + n) past
+  reads-split from zero past l =
       let e : from + 0 ≡ from = omega arith in
-      let one : from + 1 - from ≡ 1 = omega arith in
-      rw (e, one) (ap (λ (l : List Reference). l ++ reads k (itemsFrom c from 1)) (sym (reads-end from from (omega arith))))
-  reads-last from (suc n) =
+      rw e (ap (λ (xs : List Reference). xs ++ readsIn from past) (sym (reads-end from from (omega arith))))
+  reads-split from (suc n) past l =
       let e : from + suc n ≡ from + 1 + n = omega arith in
       rw e
-      (reads-next from (from + 1 + n + 1) (omega arith)
-      ∙ ap (λ (l : List Reference). reads k (itemsFrom c from 1) ++ l) (reads-last (from + 1) n)
-      ∙ sym (append-assoc (reads k (itemsFrom c from 1)) (readsIn (from + 1) (from + 1 + n)) (reads k (itemsFrom c (from + 1 + n) 1)))
-      ∙ ap (λ (l : List Reference). l ++ reads k (itemsFrom c (from + 1 + n) 1)) (sym (reads-next from (from + 1 + n) (omega arith))))
+      (reads-next from past (omega arith)
+      ∙ ap (λ (xs : List Reference). reads k (itemsFrom c from 1) ++ xs) (reads-split (from + 1) n past (omega arith))
+      ∙ sym (append-assoc (reads k (itemsFrom c from 1)) (readsIn (from + 1) (from + 1 + n)) (readsIn (from + 1 + n) past))
+      ∙ ap (λ (xs : List Reference). xs ++ readsIn (from + 1 + n) past) (sym (reads-next from (from + 1 + n) (omega arith))))
 
   -- there are no more of them than rows
   reads-few : (xs : List Item) → length (reads k xs) ≤ length xs
@@ -141,15 +140,39 @@ module _ {c : List ℕ} (h : Held c) (k : ℕ) (l : k < count (tableIn c)) where
   past-start =
       ap (λ (xs : List Reference). joined k (refs (tableIn c)) ++ (refIn c k (startAt c k) true ∷ xs)) (reads-end c k (startAt c k + 1) (startAt c k + 1) (omega arith))
 
-  pub past-next : (r : ℕ) → startAt c k < r → pastRow c k (r + 1) ≡ pastRow c k r ++ reads k (itemsFrom c r 1)
-  past-next r i =
+  past-split : (r past : ℕ) → startAt c k < r → r ≤ past → pastRow c k past ≡ pastRow c k r ++ readsIn c k r past
+  past-split r past i j =
       let e : startAt c k + 1 + (r - (startAt c k + 1)) ≡ r = omega arith in
       ap (λ (xs : List Reference). joined k (refs (tableIn c)) ++ (refIn c k (startAt c k) true ∷ xs))
-      (rw e at (reads-last c k (startAt c k + 1) (r - (startAt c k + 1))))
-      ∙ sym (append-assoc (joined k (refs (tableIn c))) (refIn c k (startAt c k) true ∷ readsIn c k (startAt c k + 1) r) (reads k (itemsFrom c r 1)))
+      (rw e at (reads-split c k (startAt c k + 1) (r - (startAt c k + 1)) past (omega arith)))
+      ∙ sym (append-assoc (joined k (refs (tableIn c))) (refIn c k (startAt c k) true ∷ readsIn c k (startAt c k + 1) r) (readsIn c k r past))
+
+  pub past-next : (r : ℕ) → startAt c k < r → pastRow c k (r + 1) ≡ pastRow c k r ++ reads k (itemsFrom c r 1)
+  past-next r i = let one : r + 1 - r ≡ 1 = omega arith in rw one at (past-split r (r + 1) i (omega arith))
 
   pub past-end : pastRow c k (startAt c (k + 1)) ≡ joined (k + 1) (refs (tableIn c))
   past-end = rw (add-one k) (ap (λ (xs : List Reference). joined k (refs (tableIn c)) ++ xs) (sym (rw (add-one k) at refs-in)))
+
+  -- all references: those up to a row, those from it on, and those of later loops
+  pub past-ahead : (r : ℕ) → startAt c k < r → r ≤ startAt c (k + 1)
+      → (rest : List Reference) × (allRefs (tableIn c) ≡ pastRow c k r ++ (readsIn c k r (startAt c (k + 1)) ++ rest))
+  past-ahead r i j =
+      let (rest, same, of) = joined-split (refs (tableIn c)) (k + 1) (count (tableIn c)) (omega (arith, add-one k)) in (
+        rest,
+        same
+            ∙ ap (λ (xs : List Reference). xs ++ rest) (sym past-end ∙ past-split r (startAt c (k + 1)) i j)
+            ∙ append-assoc (pastRow c k r) (readsIn c k r (startAt c (k + 1))) rest,
+      )
+
+  pub start-ahead : (rest : List Reference) × (allRefs (tableIn c) ≡ joined k (refs (tableIn c)) ++ (refIn c k (startAt c k) true ∷ rest))
+  start-ahead =
+      let (rest, same) = past-ahead (startAt c k + 1) (omega arith) (omega (arith, start-in)) in
+      let after = readsIn c k (startAt c k + 1) (startAt c (k + 1)) ++ rest in (
+        after,
+        same
+            ∙ ap (λ (xs : List Reference). xs ++ after) past-start
+            ∙ append-assoc (joined k (refs (tableIn c))) (refIn c k (startAt c k) true ∷ []) after,
+      )
 
 -- there are no more references than rows
 pub joined-few : {c : List ℕ} → Held c → (k : ℕ) → k ≤ count (tableIn c) → length (joined k (refs (tableIn c))) ≤ startAt c k

@@ -1,13 +1,13 @@
 -- What the walk over pairs of references has come to.
 use Prim.Native.Nat.{ℕ, _*_, _≤_, _<_}
 use mathlib.Core.Path.{_≡_}
-use mathlib.Core.List.{List}
+use mathlib.Core.List.{List, [], _∷_}
 use lib.ListN.{length}
 use Rattle.order.specs.Sequences.{runAll}
 use Rattle.model.specs.declared.Reference.{Reference}
 use Rattle.model.specs.Table.{Table, count}
 use Rattle.chains.specs.TableGraph.{graph}
-use Rattle.chains.specs.Steps.{placedFrom, stepsTo, step, Numbers, noNumbers}
+use Rattle.chains.specs.Steps.{at, pairOf, placedFrom, pairsTo, stepsTo, step, Following, Numbers, noNumbers}
 use Rattle.chains.specs.Bounds.{Small}
 use Rattle.amounts.specs.declared.Progress.{Progress}
 use Rattle.columns.specs.Columns.{refAt, refsFrom, Marked}
@@ -53,3 +53,11 @@ pub record Walked (t : Table) (ys : List Reference) (columns shifts peels : List
   pub numbers : numbersIn shifts peels (a .made) ≡ runAll (step (graph t)) (stepsTo (graph t) (placedFrom 0 ys)) noNumbers
   pub few : a .made ≤ 528 * a .references
   pub bounded : Bounded shifts peels
+
+-- the pair of the reference at position x of the columns and y, wherever y stands, is the step after the first `made`
+abbrev pub NextStep : (t : Table) (columns : List ℕ) (x : ℕ) (y : Reference) (made : ℕ) → Type 0
+NextStep t columns x y made = (n : ℕ) × Following (graph t) made (pairOf (at x (refAt columns x)) (at n y) ∷ [])
+
+-- the pairs of y, at position n, with the references at positions below `from` are the steps after the first `made`
+abbrev pub NextSteps : (t : Table) (columns : List ℕ) (from n : ℕ) (y : Reference) (made : ℕ) → Type 0
+NextSteps t columns from n y made = Following (graph t) made (pairsTo (at n y) (placedFrom 0 (refsFrom columns 0 from)))

@@ -3,8 +3,8 @@
 // and is then kept in columns, in which the references of later loops find it.
 
 ghost use mathlib.Core.Path.{_≡_};
-ghost use mathlib.Core.Bool.{true, false};
-ghost use Prim.Native.Nat.{_+_, _-_, _*_, _<_, _≤_, max};
+ghost use mathlib.Core.Bool.{true};
+ghost use Prim.Native.Nat.{_+_, _*_, _<_, _≤_, max};
 ghost use lib.ListN.{length};
 ghost use Rattle.order.specs.Sequences.{joined, runAll};
 ghost use Rattle.model.specs.Table.{count};
@@ -18,7 +18,7 @@ ghost use Rattle.chains.specs.Steps.{placedFrom, pairsTo, at, raisedBy, takeUp,
 ghost use Rattle.chains.specs.Threshold.{threshold};
 ghost use Rattle.amounts.specs.Rows.{refIn, pastRow};
 ghost use Rattle.columns.specs.Columns.{refAt, refsFrom, searched, withReference};
-ghost use Rattle.amounts.specs.Walked.{ReferenceFits, Pairable, Earlier, Bounded, numbersIn, Walked};
+ghost use Rattle.amounts.specs.Walked.{ReferenceFits, Pairable, Earlier, NextStep, NextSteps, Bounded, numbersIn, Walked};
 use arithmetic::above;
 use arithmetic::larger;
 use arithmetic::narrow;
@@ -102,7 +102,8 @@ fn raise(store: &Store, x: Reference, y: Reference, shifts: &mut [u32; 16], peel
     }
 }
 
-// One step of the walk: takes up the pair of the reference at position x and y. `column` is y's. Answers how many have been taken up.
+// One step of the walk: takes up the pair of the reference at position x and y, which is the next one. `column` is y's. Answers how many steps
+// have been made.
 fn take_up(
     store: &Store,
     columns: &Columns,
@@ -113,7 +114,7 @@ fn take_up(
     shifts: &mut [u32; 16],
     peels: &mut [u32; 16],
 ) -> usize
-    requires { ⌜ Held (now store) × (column ≡ searched (y .stores)) × Pairable (tableIn (now store)) (now columns) x y ⌝ }
+    requires { ⌜ Held (now store) × (column ≡ searched (y .stores)) × Pairable (tableIn (now store)) (now columns) x y × NextStep (tableIn (now store)) (now columns) x y made ⌝ }
     requires { ⌜ Bounded (now shifts) (now peels) × (made < 1000000) ⌝ }
     ensures { λ r. ⌜ numbersIn (now (shifts .exit)) (now (peels .exit)) r ≡ takeUp (graph (tableIn (now (store .entry)))) (refAt (now (columns .entry)) x) y (numbersIn (now (shifts .entry)) (now (peels .entry)) made) ⌝ }
 {
@@ -136,7 +137,7 @@ fn take_earlier(
     shifts: &mut [u32; 16],
     peels: &mut [u32; 16],
 ) -> usize
-    requires { ⌜ Held (now store) × Earlier (tableIn (now store)) (now columns) from y ⌝ }
+    requires { ⌜ Held (now store) × Earlier (tableIn (now store)) (now columns) from y × NextSteps (tableIn (now store)) (now columns) from (before .references) y (before .made) ⌝ }
     requires { ⌜ Bounded (now shifts) (now peels) × (before .made ≤ 528 * 528) ⌝ }
     ensures { λ r. ⌜ numbersIn (now (shifts .exit)) (now (peels .exit)) r ≡ runAll (step (graph (tableIn (now (store .entry))))) (pairsTo (at (before .references) y) (placedFrom 0 (refsFrom (now (columns .entry)) 0 from))) (numbersIn (now (shifts .entry)) (now (peels .entry)) (before .made)) ⌝ }
     ensures { λ r. ⌜ Bounded (now (shifts .exit)) (now (peels .exit)) × (r ≤ before .made + 528) ⌝ }
@@ -161,7 +162,7 @@ fn take_later(
     shifts: &mut [u32; 16],
     peels: &mut [u32; 16],
 ) -> Progress
-    requires { ⌜ Held (now store) × Earlier (tableIn (now store)) (now columns) from y ⌝ }
+    requires { ⌜ Held (now store) × Earlier (tableIn (now store)) (now columns) from y × NextSteps (tableIn (now store)) (now columns) from (before .references) y (before .made) ⌝ }
     requires { ⌜ Bounded (now shifts) (now peels) × (before .made ≤ 528 * before .references) × (before .references < 528) ⌝ }
     ensures { λ r. ⌜ (r .references ≡ before .references + 1) × (now (columns .exit) ≡ withReference (before .references) y (now (columns .entry))) ⌝ }
     ensures { λ r. ⌜ numbersIn (now (shifts .exit)) (now (peels .exit)) (r .made) ≡ runAll (step (graph (tableIn (now (store .entry))))) (pairsTo (at (before .references) y) (placedFrom 0 (refsFrom (now (columns .entry)) 0 from))) (numbersIn (now (shifts .entry)) (now (peels .entry)) (before .made)) ⌝ }

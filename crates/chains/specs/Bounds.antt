@@ -12,7 +12,7 @@ use lib.Seq.{getD-set-same, getD-set-other}
 use Rattle.model.specs.declared.Reference.{Reference}
 use Rattle.chains.specs.Graph.{Graph, Dependence}
 use Rattle.chains.specs.Dependence.{backward, forward}
-use Rattle.chains.specs.Walk.{required, walk, numbers, shifts, peels, Below}
+use Rattle.chains.specs.Walk.{required, numbers, shifts, peels, Below}
 use Rattle.chains.specs.WalkLaws.{required-met, required-none, numbers-of, numbers-length}
 use Rattle.chains.specs.Steps.{raisedBy}
 use Rattle.chains.specs.Threshold.{threshold}

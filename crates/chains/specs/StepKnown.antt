@@ -20,7 +20,7 @@ next x y e = omega (arith, eqb-true (suc x) y e)
 abbrev pub chained : List ℕ → Graph ℕ
 chained rs = record { references = rs; number = λ n. n; depends = λ x y. eqb (suc x) y; earlier = next }
 
--- three loops of one reference: three pairs, one of which makes no dependence; the third loop's number is used when it is final
+-- three loops of one reference: three pairs, one of which makes no dependence; the second loop's number is final when the third's is raised by it
 pub three-steps : steps (chained (0 ∷ 1 ∷ 2 ∷ [])) ≡ pairOf (at 0 0) (at 1 1) ∷ pairOf (at 0 0) (at 2 2) ∷ pairOf (at 1 1) (at 2 2) ∷ []
 unfolding steps decLt
 three-steps = refl

@@ -8,7 +8,7 @@ use mathlib.Core.List.{List·Memᴰ as Mem, List·Memᴰ·head as mhere, List·M
 use native.Mathlib.Decide.{decLt}
 use native.Mathlib.Nat.{max-zero, zero-max}
 use native.Mathlib.Omega.{arith}
-use lib.ListN.{length, getD, set, length-set, replicate}
+use lib.ListN.{length, getD, set, length-set, length-append, replicate}
 use lib.Seq.{getD-set-same, getD-set-other, set-set, set-getD}
 use Rattle.order.specs.Sequences.{Before, bhere, bthere, NoDup, runAll}
 use Rattle.order.specs.Reorder.{runAll-append}
@@ -20,7 +20,7 @@ use Rattle.chains.specs.Maximum.{maximum}
 use Rattle.chains.specs.MaximumLaws.{max-right, maximum-same}
 use Rattle.chains.specs.Walk.{required, raised, walk, numbers, shifts, peels, Ordered, Below}
 use Rattle.chains.specs.WalkLaws.{required-met, required-none, required-late, required-own, length-raised}
-use Rattle.chains.specs.Steps.{Placed, Pair, placedFrom, pairsTo, at, pairOf, pairs, placed, Rises, rises, stepsTo, steps, raisedBy, rowStep, Numbers, step, noNumbers, walked}
+use Rattle.chains.specs.Steps.{Placed, Pair, placedFrom, pairsTo, at, pairOf, pairs, placed, Rises, rises, stepsTo, steps, raisedBy, rowStep, Following, Numbers, step, noNumbers, walked}
 
 -- WHICH PAIRS ARE STEPS
 module _ {R : Type 0} where
@@ -33,11 +33,25 @@ module _ {R : Type 0} where
   placed-rise i (z ∷ xs) x y (bhere e m) = rw e (placed-from (suc i) xs y m)
   placed-rise i (z ∷ xs) x y (bthere b) = placed-rise (suc i) xs x y b
 
+  pub placed-append : (i : ℕ) (xs ys : List R) → placedFrom i (xs ++ ys) ≡ placedFrom i xs ++ placedFrom (i + length xs) ys
+  placed-append i [] ys = let e : i + 0 ≡ i = omega arith in rw e
+  placed-append i (x ∷ xs) ys =
+      let e : i + suc (length xs) ≡ suc i + length xs = omega arith in
+      ap (λ (l : List (Placed R)). at i x ∷ l) (rw e (placed-append (suc i) xs ys))
+
+  -- what stands at a position: the reference that has so many before it
+  placed-has : (i : ℕ) (rs : List R) (p : Placed R) → Mem p (placedFrom i rs)
+      → (xs : List R) × (ys : List R) × (rs ≡ xs ++ (p .reference ∷ ys)) × (i + length xs ≡ p .position)
+  placed-has i [] p m = absurd (not-nil m)
+  placed-has i (x ∷ rs) p m =
+      ⊎-elim (λ e. ([], rs, ap (λ (q : Placed R). q .reference ∷ rs) (sym e), omega (arith, ap (λ (q : Placed R). q .position) e)))
+      (λ n. let (xs, ys, e, l) = placed-has (suc i) rs p n in (x ∷ xs, ys, ap (λ (l : List R). x ∷ l) e, omega arith)) (cases-cons m)
+
   pair-same : {x y z w : Placed R} → x ≡ z → y ≡ w → pairOf x y ≡ pairOf z w
   pair-same e f = rw (e, f)
 
   pub pairsTo-mem : (y : Placed R) (xs : List (Placed R)) (p : Pair R) → Mem p (pairsTo y xs) ↔ (Mem (p .earlier) xs × (p .later ≡ y))
-  pairsTo-mem y xs p = (given xs, made xs)
+  pairsTo-mem y xs p = (given xs, conversely xs)
     where
       given : (xs : List (Placed R)) → Mem p (pairsTo y xs) → Mem (p .earlier) xs × (p .later ≡ y)
       given [] m = absurd (not-nil m)
@@ -45,12 +59,12 @@ module _ {R : Type 0} where
           ⊎-elim (λ e. (mhere (ap (λ (q : Pair R). q .earlier) e), ap (λ (q : Pair R). q .later) e))
           (λ n. let (a, b) = given xs n in (mthere a, b)) (cases-cons m)
 
-      made : (xs : List (Placed R)) → Mem (p .earlier) xs × (p .later ≡ y) → Mem p (pairsTo y xs)
-      made [] (m, q) = absurd (not-nil m)
-      made (x ∷ xs) (m, q) = ⊎-elim (λ e. mhere (pair-same e q)) (λ n. mthere (made xs (n, q))) (cases-cons m)
+      conversely : (xs : List (Placed R)) → Mem (p .earlier) xs × (p .later ≡ y) → Mem p (pairsTo y xs)
+      conversely [] (m, q) = absurd (not-nil m)
+      conversely (x ∷ xs) (m, q) = ⊎-elim (λ e. mhere (pair-same e q)) (λ n. mthere (conversely xs (n, q))) (cases-cons m)
 
   pub pairs-mem : (xs ys : List (Placed R)) (p : Pair R) → Mem p (pairs xs ys) ↔ (Mem (p .earlier) xs × Mem (p .later) ys)
-  pairs-mem xs ys p = (given ys, made ys)
+  pairs-mem xs ys p = (given ys, conversely ys)
     where
       given : (ys : List (Placed R)) → Mem p (pairs xs ys) → Mem (p .earlier) xs × Mem (p .later) ys
       given [] m = absurd (not-nil m)
@@ -58,10 +72,10 @@ module _ {R : Type 0} where
           ⊎-elim (λ n. let (a, b) = pairsTo-mem y xs p .0 n in (a, mhere b)) (λ n. let (a, b) = given ys n in (a, mthere b))
           (List·Memᴰ·append-cases (pairsTo y xs) m)
 
-      made : (ys : List (Placed R)) → Mem (p .earlier) xs × Mem (p .later) ys → Mem p (pairs xs ys)
-      made [] (m, n) = absurd (not-nil n)
-      made (y ∷ ys) (m, n) =
-          ⊎-elim (λ e. Memᴰ·append-left (pairs xs ys) (pairsTo-mem y xs p .1 (m, e))) (λ k. Memᴰ·append-right (pairsTo y xs) (made ys (m, k))) (cases-cons n)
+      conversely : (ys : List (Placed R)) → Mem (p .earlier) xs × Mem (p .later) ys → Mem p (pairs xs ys)
+      conversely [] (m, n) = absurd (not-nil n)
+      conversely (y ∷ ys) (m, n) =
+          ⊎-elim (λ e. Memᴰ·append-left (pairs xs ys) (pairsTo-mem y xs p .1 (m, e))) (λ k. Memᴰ·append-right (pairsTo y xs) (conversely ys (m, k))) (cases-cons n)
 
   -- which pair stands before which
   before-pairsTo : (y : Placed R) (xs : List (Placed R)) {p q : Pair R} → Before p q (pairsTo y xs) → Before (p .earlier) (q .earlier) xs
@@ -90,6 +104,16 @@ module _ {R : Type 0} where
   before-reference i (z ∷ xs) x y (bthere b) = bthere (before-reference (suc i) xs x y b)
 
 module _ {R : Type 0} (g : Graph R) where
+  -- each reference has its position, that of how many come before it, and no other
+  pub placed-is : (p : Placed R) → Mem p (placed g) ↔ ((xs : List R) × (ys : List R) × (g .references ≡ xs ++ (p .reference ∷ ys)) × (length xs ≡ p .position))
+  placed-is p = (
+    λ m. let (xs, ys, e, l) = placed-has 0 (g .references) p m in (xs, ys, e, omega arith),
+    λ (xs, ys, e, l). rw (e, placed-append 0 xs (p .reference ∷ ys)) (Memᴰ·append-right (placedFrom 0 xs) (mhere (at-same (omega arith)))),
+  )
+    where
+      at-same : {i : ℕ} → p .position ≡ i → p ≡ at i (p .reference)
+      at-same e = rw (← e)
+
   -- a pair is a step exactly if both are references of the graph, the first in the loop that comes before the second's
   pub step-mem : (p : Pair R) → Mem p (steps g) ↔ (Mem (p .earlier) (placed g) × Mem (p .later) (placed g) × (g .number (p .earlier .reference) < g .number (p .later .reference)))
   unfolding steps
@@ -102,7 +126,7 @@ module _ {R : Type 0} (g : Graph R) where
   -- of two references one way round is a step, and one alone, exactly if they belong to two different loops
   pub step-exactly : (x y : Placed R) → Mem x (placed g) → Mem y (placed g)
       → (g .number (x .reference) ≢ g .number (y .reference)) ↔ (Mem (pairOf x y) (steps g) ⊎ Mem (pairOf y x) (steps g))
-  step-exactly x y m n = (given, made)
+  step-exactly x y m n = (given, conversely)
     where
       given : g .number (x .reference) ≢ g .number (y .reference) → Mem (pairOf x y) (steps g) ⊎ Mem (pairOf y x) (steps g)
       given d = go (decLt (g .number (x .reference)) (g .number (y .reference)))
@@ -111,8 +135,8 @@ module _ {R : Type 0} (g : Graph R) where
           go (yes l) = inl (step-mem _ .1 (m, n, l))
           go (no l) = inr (step-mem _ .1 (n, m, omega arith))
 
-      made : Mem (pairOf x y) (steps g) ⊎ Mem (pairOf y x) (steps g) → g .number (x .reference) ≢ g .number (y .reference)
-      made o e = ⊎-elim (λ h. let l = step-mem _ .0 h .2 in omega arith) (λ h. let l = step-mem _ .0 h .2 in omega arith) o
+      conversely : Mem (pairOf x y) (steps g) ⊎ Mem (pairOf y x) (steps g) → g .number (x .reference) ≢ g .number (y .reference)
+      conversely o e = ⊎-elim (λ h. let l = step-mem _ .0 h .2 in omega arith) (λ h. let l = step-mem _ .0 h .2 in omega arith) o
 
   pub step-one-way : (x y : Placed R) → Mem (pairOf x y) (steps g) → Mem (pairOf y x) (steps g) → ⊥
   step-one-way x y a b = omega (arith, step-mem _ .0 a .2, step-mem _ .0 b .2)
@@ -152,7 +176,7 @@ module _ {R : Type 0} (g : Graph R) (amount : R → R → ℕ) where
   unfolding raisedBy
   raisedBy-none x y s e = rw (required-none amount g s y x e, max-zero (getD s (g .number y) 0)) (set-getD s (g .number y) 0)
 
--- at most two numbers, the shift and the peel of the later loop; every other is as before
+-- of the shifts and peels at most two, those of the later loop; every other is as before
 pub step-changes : (g : Graph Reference) (p : Pair Reference) (n : Numbers) (k : ℕ) → k ≢ g .number (p .later .reference)
     → (getD (step g p n .shifts) k 0 ≡ getD (n .shifts) k 0) × (getD (step g p n .peels) k 0 ≡ getD (n .peels) k 0)
 step-changes g p n k d = (raisedBy-other g backward _ _ (n .shifts) k d, raisedBy-other g forward _ _ (n .peels) k d)
@@ -163,12 +187,6 @@ step-lengths g p n = (raisedBy-length g backward _ _ (n .shifts), raisedBy-lengt
 
 -- WHAT THE STEPS LEAVE
 module _ {R : Type 0} where
-  pub placed-append : (i : ℕ) (xs ys : List R) → placedFrom i (xs ++ ys) ≡ placedFrom i xs ++ placedFrom (i + length xs) ys
-  placed-append i [] ys = let e : i + 0 ≡ i = omega arith in rw e
-  placed-append i (x ∷ xs) ys =
-      let e : i + suc (length xs) ≡ suc i + length xs = omega arith in
-      ap (λ (l : List (Placed R)). at i x ∷ l) (rw e (placed-append (suc i) xs ys))
-
   pairsTo-append : (y : Placed R) (xs zs : List (Placed R)) → pairsTo y (xs ++ zs) ≡ pairsTo y xs ++ pairsTo y zs
   pairsTo-append y [] zs = refl
   pairsTo-append y (x ∷ xs) zs = ap (λ (l : List (Pair R)). pairOf x y ∷ l) (pairsTo-append y xs zs)
@@ -256,11 +274,27 @@ module _ {R : Type 0} (g : Graph R) (amount : R → R → ℕ) where
   unfolding steps numbers
   taken-numbers b = taken-walk 0 (g .references) (replicate 16 0) b
 
+-- the steps that follow: the first of them, and those after it
+module _ {R : Type 0} {g : Graph R} {n : ℕ} {p : Pair R} {ps : List (Pair R)} (f : Following g n (p ∷ ps)) where
+  pub following-first : Following g n (p ∷ [])
+  following-first = record { done = f .done; rest = ps ++ f .rest; all = f .all; count = f .count }
+
+  pub following-next : Following g (n + 1) ps
+  following-next = record {
+    done = f .done ++ (p ∷ []);
+    rest = f .rest;
+    all = f .all ∙ sym (append-assoc (f .done) (p ∷ []) (ps ++ f .rest));
+    count = omega (arith, length-append (f .done) (p ∷ []), f .count);
+  }
+
 -- both rows of numbers in one walk
 both : (g : Graph Reference) (ps : List (Pair Reference)) (n : Numbers)
     → runAll (step g) ps n ≡ record { shifts = runAll (rowStep g backward) ps (n .shifts); peels = runAll (rowStep g forward) ps (n .peels); made = n .made + length ps }
 both g [] n = let e : n .made + 0 ≡ n .made = omega arith in rw e
 both g (p ∷ ps) n = let e : n .made + suc (length ps) ≡ suc (n .made) + length ps = omega arith in rw e (both g ps (step g p n))
+
+pub made-steps : (g : Graph Reference) (ps : List (Pair Reference)) (n : Numbers) → runAll (step g) ps n .made ≡ n .made + length ps
+made-steps g ps n = ap (λ (m : Numbers). m .made) (both g ps n)
 
 -- what the walk leaves are the numbers of before, and it has made each step
 pub walked-numbers : (g : Graph Reference) → Below 16 g (g .references) → walked g ≡ record { shifts = shifts g; peels = peels g; made = length (steps g) }

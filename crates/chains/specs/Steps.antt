@@ -1,8 +1,9 @@
 -- The walk over pairs: each step takes up one pair of references of two different loops, and of the numbers changes those of the later loop.
 use Prim.Native.Nat.{ℕ, suc, max, _<_}
+use mathlib.Core.Path.{_≡_}
 use mathlib.Core.List.{List, [], _∷_, _++_}
 use native.Mathlib.Decide.{decLt}
-use lib.ListN.{getD, set, replicate}
+use lib.ListN.{length, getD, set, replicate}
 use Rattle.order.specs.Sequences.{runAll}
 use Rattle.order.specs.Lists.{only}
 use Rattle.model.specs.declared.Reference.{Reference}
@@ -53,7 +54,7 @@ module _ {R : Type 0} (g : Graph R) where
   abbrev pub rises : (p : Pair R) → Dec (Rises p)
   rises p = decLt (g .number (p .earlier .reference)) (g .number (p .later .reference))
 
-  -- of the pairs with one of ys those
+  -- such pairs of any reference with one of ys
   abbrev pub stepsTo : List (Placed R) → List (Pair R)
   stepsTo ys = only rises (pairs placed ys)
 
@@ -70,7 +71,14 @@ module _ {R : Type 0} (g : Graph R) where
   abbrev pub rowStep : (R → R → ℕ) → Pair R → List ℕ → List ℕ
   rowStep amount p = raisedBy amount (p .earlier .reference) (p .later .reference)
 
--- the shifts, the peels, and how many pairs have been taken up
+-- ps are the steps that come after the first n
+pub record Following {R : Type 0} (g : Graph R) (n : ℕ) (ps : List (Pair R)) : Type 0 where
+  pub done : List (Pair R)
+  pub rest : List (Pair R)
+  pub all : steps g ≡ done ++ (ps ++ rest)
+  pub count : length done ≡ n
+
+-- the shifts, the peels, and how many steps have been made
 pub record Numbers : Type 0 where
   pub shifts : List ℕ
   pub peels : List ℕ

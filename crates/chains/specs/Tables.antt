@@ -1,6 +1,7 @@
 -- All of it for a table of at most sixteen loops: over the references of its loops.
 use Prim.Native.Nat.{ℕ, _≤_, _<_}
 use mathlib.Core.Path.{_≡_, sym, ap, subst}
+use mathlib.Core.Bool.{false}
 use mathlib.Core.Logic.{_↔_, ⊎-elim}
 use mathlib.Core.List.{List, [], _∷_, List·Memᴰ·append-cases}
 use mathlib.Core.List.{List·Memᴰ as Mem, List·Memᴰ·cases-cons as cases-cons, List·Memᴰ·not-nil as not-nil}
@@ -14,13 +15,13 @@ use Rattle.model.specs.Table.{Item, read, constant, operation, Statement, Table
 use Rattle.model.specs.References.{destination, reads, references, refs, allRefs, Meet}
 use Rattle.chains.specs.Graph.{Dependence}
 use Rattle.chains.specs.Dependence.{backward, forward}
-use Rattle.chains.specs.DependenceLaws.{Meets, dependence-meets}
+use Rattle.chains.specs.DependenceLaws.{Meets, dependence-meets, none-of-reads}
 use Rattle.chains.specs.TableGraph.{graph}
 use Rattle.chains.specs.Chains.{Largest}
 use Rattle.chains.specs.Legal.{LegalPlan}
 use Rattle.chains.specs.Walk.{shifts, peels, Ordered, Below}
-use Rattle.chains.specs.Steps.{Pair, steps, walked}
-use Rattle.chains.specs.StepLaws.{walked-numbers, step-final}
+use Rattle.chains.specs.Steps.{Pair, Numbers, steps, takeUp, walked}
+use Rattle.chains.specs.StepLaws.{raisedBy-none, walked-numbers, step-final}
 use Rattle.chains.specs.Largest.{numbers-largest, numbers-legal, numbers-least}
 
 -- the references of loop k have its number
@@ -103,6 +104,13 @@ module _ (t : Table) where
     pub walk-largest : (k : ℕ)
         → Largest backward (graph t) k (getD (walked (graph t) .shifts) k 0) × Largest forward (graph t) k (getD (walked (graph t) .peels) k 0)
     walk-largest k = rw walk-leaves (shift-largest k, peel-largest k)
+
+  -- a pair of two reads is a step that changes no shift and no peel
+  pub reads-leave : (x y : Reference) (n : Numbers) → x .stores ≡ false → y .stores ≡ false
+      → (takeUp (graph t) x y n .shifts ≡ n .shifts) × (takeUp (graph t) x y n .peels ≡ n .peels)
+  reads-leave x y n e f =
+      let d = none-of-reads t x y e f in
+      (raisedBy-none (graph t) backward x y (n .shifts) d, raisedBy-none (graph t) forward x y (n .peels) d)
 
   -- no step looks at a number that a later step changes
   pub walk-final : (p q : Pair Reference) → Before p q (steps (graph t)) → p .earlier .reference .number < q .later .reference .number

@@ -1,27 +1,13 @@
 -- What is read off a store, and what a row, bounds and counts that are put there leave and hold.
-use Prim.Native.Nat.{ℕ, zero, suc, _+_, _*_, _/_, _%_, _≤_, _<_}
-use mathlib.Core.Bool.{_&&_}
+use Prim.Native.Nat.{ℕ, zero, suc, _+_, _*_, _≤_, _<_}
 use mathlib.Core.List.{List}
 use native.Mathlib.Omega.{arith}
-use native.Mathlib.Decide.{ℕ-discrete}
-use borrow.Author.Tests.{eq-eqb, ne-eqb}
 use mathlib.Core.Path.{_≡_, refl, ap, _∙_}
 use lib.ListN.{getD, set, take, length, length-set}
 use lib.Seq.{take-set-le, getD-set-same, getD-set-other}
-use lib.Dec.{eqb}
 use Rattle.model.specs.Table.{noLoop, loop, count}
 use Rattle.reader.specs.Store.{firstAt, lastAt, startAt, kindAt, arrayAt, valueAt, arraysIn, loopsIn, Sized, loopAt, loopsFrom, tableAt}
 use Rattle.reader.specs.Store.{withRow, withBounds, withCounts}
-
--- a head that is an array's number is that of a read of it
-pub head-read : (h q : ℕ) → q < 16 → eqb h q ≡ (eqb (h / 16) 0 && eqb (h % 16) q)
-head-read h q l = go (ℕ-discrete h q) (ℕ-discrete (h / 16) 0)
-  where
-    go : Dec (h ≡ q) → Dec (h / 16 ≡ 0) → eqb h q ≡ (eqb (h / 16) 0 && eqb (h % 16) q)
-    go (yes e) (yes f) = let g : h % 16 ≡ q = omega arith in rw (eq-eqb _ _ e, eq-eqb _ _ f, eq-eqb _ _ g)
-    go (yes e) (no f) = absurd (f (omega arith))
-    go (no e) (yes f) = let g : h % 16 ≡ q → ⊥ = λ z. e (omega arith) in rw (ne-eqb _ _ e, eq-eqb _ _ f, ne-eqb _ _ g)
-    go (no e) (no f) = rw (ne-eqb _ _ e, ne-eqb _ _ f)
 
 -- the table in the store has so many loops, and each is where it is kept
 module _ (c : List ℕ) where

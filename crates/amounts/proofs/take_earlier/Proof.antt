@@ -5,7 +5,7 @@ use borrow.Author.Needs.{needs}
 use denote.Ref.{now}
 use Rattle.reader.specs.Store.{tableIn}
 use Rattle.amounts.specs.Walked.{numbersIn}
-use Rattle.amounts.proofs.Laws.{Remaining, remaining-start, remaining-next, remaining-end}
+use Rattle.amounts.proofs.Laws.{Remaining, remaining-start, remaining-step, remaining-next, remaining-end}
 use Rattle.amounts.proofs.take_earlier.Statement.{statement}
 use Rattle.amounts.proofs.take_earlier.Tie as tie
 
@@ -19,15 +19,23 @@ abbrev μ-loop : tie.MeasureT-loop
 loop-holds : tie.Need-loop-holds Inv-loop μ-loop
 loop-holds c =
     let a = c .before .args in
-    remaining-start (tableIn (now (a .store))) (now (a .columns)) (a .from) (a .y) (a .before .made) (now (a .shifts)) (now (a .peels)) (c .before .pre .1 .0)
+    let p = c .before .pre in
+    remaining-start (tableIn (now (a .store))) (now (a .columns)) (a .from) (a .y) (a .before .made) (a .before .references) (now (a .shifts)) (now (a .peels)) (p .1 .0)
+    (p .0 .2)
 
 take-up-requires : tie.Need-take-up-requires Inv-loop μ-loop
 take-up-requires c κs =
     let l = c .before .before .before .loop in
     let s = c .before .before .before .before in
     let p = s .before .pre in
-    let i : l .x < s .before .args .from = omega (arith, c .before .before .loop-test .taken) in (
-      (p .0 .0, s .searched-for .ensures, p .0 .1 .each (l .x) i),
+    let a = s .before .args in
+    let i : l .x < a .from = omega (arith, c .before .before .loop-test .taken) in (
+      (
+        p .0 .0,
+        s .searched-for .ensures,
+        p .0 .1 .each (l .x) i,
+        remaining-step (tableIn (now (a .store))) (now (a .columns)) (a .from) (a .y) _ (l .x) (l .made) (l .shifts) (l .peels) i (l .inv),
+      ),
       (l .inv .bounded, omega (arith, l .inv .few, p .1 .1, i, p .0 .1 .few)),
     )
 
@@ -40,8 +48,8 @@ loop-again c =
     let b = c .before .before .before .before .before .before in
     let a = b .args in
     let i : l .x < a .from = omega (arith, c .before .before .before .loop-test .taken) in
-    remaining-next (tableIn (now (a .store))) (now (a .columns)) (a .from) (a .y) (numbersIn (now (a .shifts)) (now (a .peels)) (a .before .made)) (l .x) (l .made) _
-    (l .shifts) (l .peels) _ _ (b .pre .0 .1 .each (l .x) i) i (l .inv) (c .take-up .ensures)
+    remaining-next (tableIn (now (a .store))) (now (a .columns)) (a .from) (a .y) (numbersIn (now (a .shifts)) (now (a .peels)) (a .before .made)) (l .x) (l .made)
+    (l .shifts) (l .peels) i (l .inv) _ _ _ (b .pre .0 .1 .each (l .x) i) (c .take-up .ensures)
 
 returns : tie.Need-returns Inv-loop μ-loop
 returns c =

@@ -6,7 +6,7 @@ use denote.Ref.{now}
 use Rattle.reader.specs.Store.{startAt, tableIn}
 use Rattle.amounts.specs.Rows.{pastRow, past-few, start-in, past-end}
 use Rattle.amounts.specs.Walked.{Walked}
-use Rattle.amounts.proofs.Laws.{count-few, destination-few, destination-earlier, destination-next}
+use Rattle.amounts.proofs.Laws.{count-few, destination-few, destination-earlier, destination-steps, destination-next}
 use Rattle.amounts.proofs.walk_loop.Statement.{statement}
 use Rattle.amounts.proofs.walk_loop.Tie as tie
 
@@ -40,7 +40,11 @@ take-later-requires c κs =
     let w = b .pre .1 in
     let e = w .references in
     rw (c .before .before .before .reference-at .ensures, s .start-at .ensures) (
-      (p .0, destination-earlier (p .0) (a .k) (p .1) (now (a .columns)) (now (a .shifts)) (now (a .peels)) (a .before) (a .before .references) e w),
+      (
+        p .0,
+        destination-earlier (p .0) (a .k) (p .1) (now (a .columns)) (now (a .shifts)) (now (a .peels)) (a .before) (a .before .references) e w,
+        destination-steps (p .0) (a .k) (p .1) (now (a .columns)) (now (a .shifts)) (now (a .peels)) (a .before) (a .before .references) e w,
+      ),
       (w .bounded, w .few, destination-few (p .0) (a .k) (p .1) (now (a .columns)) (now (a .shifts)) (now (a .peels)) (a .before) (a .before .references) e w),
     )
 

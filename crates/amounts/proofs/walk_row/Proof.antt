@@ -3,7 +3,7 @@ use mathlib.Core.Path.{sym, _∙_}
 use native.Mathlib.Omega.{arith}
 use denote.Ref.{now}
 use Rattle.amounts.specs.Rows.{past-few}
-use Rattle.amounts.proofs.Laws.{row-few, read-earlier, read-next, item-next}
+use Rattle.amounts.proofs.Laws.{row-few, read-earlier, read-steps, read-next, item-next}
 use Rattle.amounts.proofs.walk_row.Statement.{statement}
 use Rattle.amounts.proofs.walk_row.Tie as tie
 
@@ -22,7 +22,11 @@ take-later-requires c κs =
     let w = p .1 .1 in
     let e = sym (k .kind-at .ensures) ∙ c .before .before .before .before .if1 .taken in
     rw (c .before .before .before .reference-at .ensures) (
-      (p .0 .0, read-earlier (p .0 .0) (a .k) (p .0 .1) (now (a .columns)) (now (a .shifts)) (now (a .peels)) (a .before) (a .from) (p .0 .2) (a .r) (p .1 .0 .0) (p .1 .0 .1) w e),
+      (
+        p .0 .0,
+        read-earlier (p .0 .0) (a .k) (p .0 .1) (now (a .columns)) (now (a .shifts)) (now (a .peels)) (a .before) (a .from) (p .0 .2) (a .r) (p .1 .0 .0) (p .1 .0 .1) w e,
+        read-steps (p .0 .0) (a .k) (p .0 .1) (now (a .columns)) (now (a .shifts)) (now (a .peels)) (a .before) (a .from) (p .0 .2) (a .r) (p .1 .0 .0) (p .1 .0 .1) w e,
+      ),
       (
         w .bounded,
         w .few,
