@@ -33,7 +33,7 @@ use Rattle.amounts.specs.declared.Progress.{Progress}
 use Rattle.amounts.specs.Rows.{refIn, readsIn, pastRow, row-read, reads-next, past-ahead, start-ahead, row-other, past-few, row-in, start-in, past-start, past-next, joined-few, past-few-references, in-range}
 use Rattle.columns.specs.Columns.{refAt, refsFrom, Marked, withReference}
 use Rattle.columns.specs.ColumnLaws.{with-sized, other-marked, here-marked, refs-with, refs-length, refs-mem, refs-first, refs-next, refs-end}
-use Rattle.amounts.specs.Walked.{ReferenceFits, Pairable, Earlier, NextStep, NextSteps, Bounded, numbersIn, Walked}
+use Rattle.amounts.specs.Walked.{ReferenceFits, Pairable, Earlier, NextStep, NextSteps, Taken, Bounded, numbersIn, Walked}
 
 pub count-few : {c : List ℕ} → Held c → count (tableIn c) ≤ 16
 count-few h = omega (arith, count-held h, few-loops h)
@@ -229,7 +229,7 @@ module _ {c : List ℕ} (h : Held c) (k : ℕ) (l : k < count (tableIn c)) where
     -- and what the walk has come to when they are made
     pub walked-next : (from : ℕ) → from ≡ length (joined k (refs (tableIn c))) → a .references < 528 → (columns′ s′ p′ : List ℕ) (r : Progress)
         → (r .references ≡ a .references + 1) × (columns′ ≡ withReference (a .references) y columns)
-        → numbersIn s′ p′ (r .made) ≡ runAll (step (graph (tableIn c))) (pairsTo (at (a .references) y) (placedFrom 0 (refsFrom columns 0 from))) (numbersIn s p (a .made))
+        → Taken (tableIn c) columns from a y s p s′ p′ (r .made)
         → Bounded s′ p′ × (r .made ≤ a .made + 528)
         → Walked (tableIn c) ((joined k (refs (tableIn c)) ++ own) ++ (y ∷ [])) columns′ s′ p′ r
     walked-next from e few columns′ s′ p′ r (one, put) made (bounded, more) = record {
@@ -294,7 +294,7 @@ module _ {c : List ℕ} (h : Held c) (k : ℕ) (l : k < count (tableIn c)) (colu
 
     pub destination-next : (columns′ s′ p′ : List ℕ) (r : Progress)
         → (r .references ≡ a .references + 1) × (columns′ ≡ withReference (a .references) (refIn c k (startAt c k) true) columns)
-        → numbersIn s′ p′ (r .made) ≡ runAll (step (graph (tableIn c))) (pairsTo (at (a .references) (refIn c k (startAt c k) true)) (placedFrom 0 (refsFrom columns 0 from))) (numbersIn s p (a .made))
+        → Taken (tableIn c) columns from a (refIn c k (startAt c k) true) s p s′ p′ (r .made)
         → Bounded s′ p′ × (r .made ≤ a .made + 528)
         → Walked (tableIn c) (pastRow c k (startAt c k + 1)) columns′ s′ p′ r
     destination-next columns′ s′ p′ r one made more =
@@ -322,7 +322,7 @@ module _ {c : List ℕ} (h : Held c) (k : ℕ) (l : k < count (tableIn c)) (colu
 
       pub read-next : (columns′ s′ p′ : List ℕ) (d : Progress)
           → (d .references ≡ a .references + 1) × (columns′ ≡ withReference (a .references) (refIn c k r false) columns)
-          → numbersIn s′ p′ (d .made) ≡ runAll (step (graph (tableIn c))) (pairsTo (at (a .references) (refIn c k r false)) (placedFrom 0 (refsFrom columns 0 from))) (numbersIn s p (a .made))
+          → Taken (tableIn c) columns from a (refIn c k r false) s p s′ p′ (d .made)
           → Bounded s′ p′ × (d .made ≤ a .made + 528)
           → Walked (tableIn c) (pastRow c k (r + 1)) columns′ s′ p′ d
       read-next columns′ s′ p′ d one made more =

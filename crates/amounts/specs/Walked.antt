@@ -61,3 +61,9 @@ NextStep t columns x y made = (n : ℕ) × Following (graph t) made (pairOf (at 
 -- the pairs of y, at position n, with the references at positions below `from` are the steps after the first `made`
 abbrev pub NextSteps : (t : Table) (columns : List ℕ) (from n : ℕ) (y : Reference) (made : ℕ) → Type 0
 NextSteps t columns from n y made = Following (graph t) made (pairsTo (at n y) (placedFrom 0 (refsFrom columns 0 from)))
+
+-- those steps have been made: from the numbers s, p and what had come before, they leave s′ and p′
+abbrev pub Taken : (t : Table) (columns : List ℕ) (from : ℕ) (before : Progress) (y : Reference) (s p s′ p′ : List ℕ) (made : ℕ) → Type 0
+Taken t columns from before y s p s′ p′ made =
+    numbersIn s′ p′ made
+    ≡ runAll (step (graph t)) (pairsTo (at (before .references) y) (placedFrom 0 (refsFrom columns 0 from))) (numbersIn s p (before .made))

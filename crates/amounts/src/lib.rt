@@ -6,7 +6,7 @@ ghost use mathlib.Core.Path.{_≡_};
 ghost use mathlib.Core.Bool.{true};
 ghost use Prim.Native.Nat.{_+_, _*_, _<_, _≤_, max};
 ghost use lib.ListN.{length};
-ghost use Rattle.order.specs.Sequences.{joined, runAll};
+ghost use Rattle.order.specs.Sequences.{joined};
 ghost use Rattle.model.specs.Table.{count};
 ghost use Rattle.model.specs.References.{refs, touch};
 ghost use Rattle.reader.specs.Store.{startAt, tableIn};
@@ -14,11 +14,11 @@ ghost use Rattle.reader.specs.Held.{Held};
 ghost use Rattle.chains.specs.Dependence.{meetIn, backward, forward};
 ghost use Rattle.chains.specs.TableGraph.{graph};
 ghost use Rattle.chains.specs.Walk.{shifts, peels};
-ghost use Rattle.chains.specs.Steps.{placedFrom, pairsTo, at, raisedBy, takeUp, step, walked};
+ghost use Rattle.chains.specs.Steps.{at, raisedBy, takeUp, step, walked};
 ghost use Rattle.chains.specs.Threshold.{threshold};
 ghost use Rattle.amounts.specs.Rows.{refIn, pastRow};
-ghost use Rattle.columns.specs.Columns.{refAt, refsFrom, searched, withReference};
-ghost use Rattle.amounts.specs.Walked.{ReferenceFits, Pairable, Earlier, NextStep, NextSteps, Bounded, numbersIn, Walked};
+ghost use Rattle.columns.specs.Columns.{refAt, searched, withReference};
+ghost use Rattle.amounts.specs.Walked.{ReferenceFits, Pairable, Earlier, NextStep, NextSteps, Taken, Bounded, numbersIn, Walked};
 use arithmetic::above;
 use arithmetic::larger;
 use arithmetic::narrow;
@@ -34,14 +34,14 @@ pub struct Amounts {
     pub peels: [u32; 16],
 }
 
-// What a walk leaves: the amounts, and how many pairs it has taken up.
+// What a walk leaves: the amounts, and how many steps it has made.
 struct Totals {
     shifts: [u32; 16],
     peels: [u32; 16],
     made: usize,
 }
 
-// How far a walk has come: how many references are in the columns, and how many pairs have been taken up.
+// How far a walk has come: how many references are in the columns, and how many steps have been made.
 struct Progress {
     references: usize,
     made: usize,
@@ -126,8 +126,8 @@ fn take_up(
     made + 1
 }
 
-// Takes up the pairs of y with the references at positions below `from`, which are those of earlier loops. Answers how many pairs have been
-// taken up.
+// Takes up the pairs of y with the references at positions below `from`, which are those of earlier loops. Answers how many steps have
+// been made.
 fn take_earlier(
     store: &Store,
     columns: &Columns,
@@ -139,7 +139,7 @@ fn take_earlier(
 ) -> usize
     requires { ⌜ Held (now store) × Earlier (tableIn (now store)) (now columns) from y × NextSteps (tableIn (now store)) (now columns) from (before .references) y (before .made) ⌝ }
     requires { ⌜ Bounded (now shifts) (now peels) × (before .made ≤ 528 * 528) ⌝ }
-    ensures { λ r. ⌜ numbersIn (now (shifts .exit)) (now (peels .exit)) r ≡ runAll (step (graph (tableIn (now (store .entry))))) (pairsTo (at (before .references) y) (placedFrom 0 (refsFrom (now (columns .entry)) 0 from))) (numbersIn (now (shifts .entry)) (now (peels .entry)) (before .made)) ⌝ }
+    ensures { λ r. ⌜ Taken (tableIn (now (store .entry))) (now (columns .entry)) from before y (now (shifts .entry)) (now (peels .entry)) (now (shifts .exit)) (now (peels .exit)) r ⌝ }
     ensures { λ r. ⌜ Bounded (now (shifts .exit)) (now (peels .exit)) × (r ≤ before .made + 528) ⌝ }
 {
     let column = columns::searched_for(y.stores);
@@ -165,7 +165,7 @@ fn take_later(
     requires { ⌜ Held (now store) × Earlier (tableIn (now store)) (now columns) from y × NextSteps (tableIn (now store)) (now columns) from (before .references) y (before .made) ⌝ }
     requires { ⌜ Bounded (now shifts) (now peels) × (before .made ≤ 528 * before .references) × (before .references < 528) ⌝ }
     ensures { λ r. ⌜ (r .references ≡ before .references + 1) × (now (columns .exit) ≡ withReference (before .references) y (now (columns .entry))) ⌝ }
-    ensures { λ r. ⌜ numbersIn (now (shifts .exit)) (now (peels .exit)) (r .made) ≡ runAll (step (graph (tableIn (now (store .entry))))) (pairsTo (at (before .references) y) (placedFrom 0 (refsFrom (now (columns .entry)) 0 from))) (numbersIn (now (shifts .entry)) (now (peels .entry)) (before .made)) ⌝ }
+    ensures { λ r. ⌜ Taken (tableIn (now (store .entry))) (now (columns .entry)) from before y (now (shifts .entry)) (now (peels .entry)) (now (shifts .exit)) (now (peels .exit)) (r .made) ⌝ }
     ensures { λ r. ⌜ Bounded (now (shifts .exit)) (now (peels .exit)) × (r .made ≤ before .made + 528) ⌝ }
 {
     let made = take_earlier(store, columns, from, y, before, shifts, peels);
