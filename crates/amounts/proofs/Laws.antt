@@ -29,11 +29,10 @@ use Rattle.chains.specs.Steps.{Placed, Pair, at, pairOf, placedFrom, pairsTo, s
 use Rattle.chains.specs.StepLaws.{following-first, following-next, made-steps, placed-append, stepsTo-append, stepsTo-one, raisedBy-length, raisedBy-met, raisedBy-none, walked-numbers}
 use Rattle.chains.specs.Bounds.{Small, raisedBy-small}
 use Rattle.chains.specs.Tables.{refs-number, refs-allRefs, allRefs-below}
-use Rattle.amounts.specs.declared.Progress.{Progress}
 use Rattle.amounts.specs.Rows.{refIn, readsIn, pastRow, row-read, reads-next, past-ahead, start-ahead, row-other, past-few, row-in, start-in, past-start, past-next, joined-few, past-few-references, in-range}
 use Rattle.columns.specs.Columns.{refAt, refsFrom, Marked, withReference}
 use Rattle.columns.specs.ColumnLaws.{with-sized, other-marked, here-marked, refs-with, refs-length, refs-mem, refs-first, refs-next, refs-end}
-use Rattle.amounts.specs.Walked.{ReferenceFits, Pairable, Earlier, NextStep, NextSteps, Taken, Bounded, numbersIn, Walked}
+use Rattle.amounts.specs.Walked.{ReferenceFits, Pairable, Earlier, NextStep, SomeNext, Taken, Bounded, numbersIn, Walked}
 
 pub count-few : {c : List ℕ} → Held c → count (tableIn c) ≤ 16
 count-few h = omega (arith, count-held h, few-loops h)
@@ -101,9 +100,9 @@ pub record Remaining (t : Table) (columns : List ℕ) (from : ℕ) (y : Referenc
   pub rest : (n : ℕ) → runAll (step (graph t)) (toTake columns from n y i) (numbersIn shifts peels made) ≡ runAll (step (graph t)) (toTake columns from n y 0) start
 
 module _ (t : Table) (columns : List ℕ) (from : ℕ) (y : Reference) where
-  pub remaining-start : (made n : ℕ) (shifts peels : List ℕ) → Bounded shifts peels → NextSteps t columns from n y made
+  pub remaining-start : (made : ℕ) (shifts peels : List ℕ) → Bounded shifts peels → SomeNext t columns from y made
       → Remaining t columns from y (numbersIn shifts peels made) 0 made shifts peels
-  remaining-start made n shifts peels b f =
+  remaining-start made shifts peels b (n, f) =
       let z : from - 0 ≡ from = omega arith in
       record { bounded = b; few = omega arith; past = omega arith; next = (n, rw z f); rest = λ n. refl }
 
@@ -134,7 +133,7 @@ module _ (t : Table) (columns : List ℕ) (from : ℕ) (y : Reference) where
         }
 
   pub remaining-end : (start : Numbers) (i made : ℕ) (s p : List ℕ) → from ≤ i → Remaining t columns from y start i made s p
-      → (n : ℕ) → numbersIn s p made ≡ runAll (step (graph t)) (pairsTo (at n y) (placedFrom 0 (refsFrom columns 0 from))) start
+      → Taken t columns from y start (numbersIn s p made)
   remaining-end start i made s p l r n =
       ap (λ (xs : List Reference). runAll (step (graph t)) (pairsTo (at n y) (placedFrom i xs)) (numbersIn s p made)) (sym (refs-end columns i from l))
       ∙ (let z : from - 0 ≡ from = omega arith in rw z at (r .rest n))
@@ -162,7 +161,7 @@ module _ {c : List ℕ} (h : Held c) (k : ℕ) (l : k < count (tableIn c)) where
       ∙ take-append-seam (refsFrom columns 0 n) (refsFrom columns (0 + n) (length own)) in
       sym m ∙ ap (take n) split ∙ take-append-seam xs own
 
-  module _ (own : List Reference) (columns s p : List ℕ) (a : Progress) (w : Walked (tableIn c) (joined k (refs (tableIn c)) ++ own) columns s p a) (y : Reference)
+  module _ (own : List Reference) (n : ℕ) (columns : List ℕ) (a : Numbers) (w : Walked (tableIn c) (joined k (refs (tableIn c)) ++ own) n columns a) (y : Reference)
       (mine : y .number ≡ k) (array : y .array < 16) (offset : y .offset ≤ 510) where
     y-fits : ReferenceFits (tableIn c) y
     y-fits = record { number = omega arith; few = omega (arith, count-few h); offset = offset }
@@ -197,25 +196,25 @@ module _ {c : List ℕ} (h : Held c) (k : ℕ) (l : k < count (tableIn c)) where
 
     -- which are the next ones, where it is the next reference of all
     pub next-steps : (from : ℕ) → from ≡ length (joined k (refs (tableIn c))) → (zs : List Reference)
-        → allRefs (tableIn c) ≡ (joined k (refs (tableIn c)) ++ own) ++ (y ∷ zs) → NextSteps (tableIn c) columns from (a .references) y (a .made)
+        → allRefs (tableIn c) ≡ (joined k (refs (tableIn c)) ++ own) ++ (y ∷ zs) → SomeNext (tableIn c) columns from y (a .made)
     unfolding steps
-    next-steps from e zs ahead = record {
-      done = stepsTo g (placedFrom 0 ys);
-      rest = stepsTo g (placedFrom (suc n) zs);
-      all =
-          ap (λ (rs : List Reference). stepsTo g (placedFrom 0 rs)) ahead
-          ∙ ap (stepsTo g) place
-          ∙ stepsTo-append g (placedFrom 0 ys) (at n y ∷ placedFrom (suc n) zs)
-          ∙ ap (λ (ps : List (Pair Reference)). stepsTo g (placedFrom 0 ys) ++ ps)
-          (stepsTo-append g (at n y ∷ []) (placedFrom (suc n) zs) ∙ ap (λ (ps : List (Pair Reference)). ps ++ stepsTo g (placedFrom (suc n) zs)) mine-steps);
-      count = omega (arith, ap (λ (q : Numbers). q .made) (w .numbers), made-steps g (stepsTo g (placedFrom 0 ys)) noNumbers);
-    }
+    next-steps from e zs ahead = (
+      n,
+      record {
+        done = stepsTo g (placedFrom 0 ys);
+        rest = stepsTo g (placedFrom (suc n) zs);
+        all =
+            ap (λ (rs : List Reference). stepsTo g (placedFrom 0 rs)) ahead
+            ∙ ap (stepsTo g) place
+            ∙ stepsTo-append g (placedFrom 0 ys) (at n y ∷ placedFrom (suc n) zs)
+            ∙ ap (λ (ps : List (Pair Reference)). stepsTo g (placedFrom 0 ys) ++ ps)
+            (stepsTo-append g (at n y ∷ []) (placedFrom (suc n) zs) ∙ ap (λ (ps : List (Pair Reference)). ps ++ stepsTo g (placedFrom (suc n) zs)) mine-steps);
+        count = omega (arith, ap (λ (q : Numbers). q .made) (w .numbers), made-steps g (stepsTo g (placedFrom 0 ys)) noNumbers);
+      },
+    )
       where
         g : Graph Reference
         g = graph (tableIn c)
-
-        n : ℕ
-        n = a .references
 
         ys : List Reference
         ys = joined k (refs (tableIn c)) ++ own
@@ -227,33 +226,30 @@ module _ {c : List ℕ} (h : Held c) (k : ℕ) (l : k < count (tableIn c)) where
         mine-steps = rw (early from e) (steps-next n)
 
     -- and what the walk has come to when they are made
-    pub walked-next : (from : ℕ) → from ≡ length (joined k (refs (tableIn c))) → a .references < 528 → (columns′ s′ p′ : List ℕ) (r : Progress)
-        → (r .references ≡ a .references + 1) × (columns′ ≡ withReference (a .references) y columns)
-        → Taken (tableIn c) columns from a y s p s′ p′ (r .made)
-        → Bounded s′ p′ × (r .made ≤ a .made + 528)
-        → Walked (tableIn c) ((joined k (refs (tableIn c)) ++ own) ++ (y ∷ [])) columns′ s′ p′ r
-    walked-next from e few columns′ s′ p′ r (one, put) made (bounded, more) = record {
-      sized = rw put (with-sized (a .references) y columns few ∙ w .sized);
-      references = omega (arith, one, w .references, longer);
+    pub walked-next : (from : ℕ) → from ≡ length (joined k (refs (tableIn c))) → n < 528 → (columns′ : List ℕ) (d : Numbers)
+        → columns′ ≡ withReference n y columns
+        → Taken (tableIn c) columns from y a d
+        → Bounded (d .shifts) (d .peels) × (d .made ≤ a .made + 528)
+        → Walked (tableIn c) ((joined k (refs (tableIn c)) ++ own) ++ (y ∷ [])) (n + 1) columns′ d
+    walked-next from e few columns′ d put made (bounded, more) = record {
+      sized = rw put (with-sized n y columns few ∙ w .sized);
+      references = omega (arith, w .references, longer);
       kept = rw (put, longer, w .references, add-one (length ys)) (refs-with (length ys) y columns (omega (arith, w .references)) (w .sized) array ∙ ap (λ (xs : List Reference). xs ++ (y ∷ [])) (w .kept));
-      marked = λ x i. rw put (mark x (omega (arith, w .references, longer)) (ℕ-discrete x (a .references)));
+      marked = λ x i. rw put (mark x (omega (arith, w .references, longer)) (ℕ-discrete x n));
       numbers =
-          made
-          ∙ ap (λ (xs : List Reference). runAll (step g) (pairsTo (at n y) (placedFrom 0 xs)) (numbersIn s p (a .made))) (early from e)
+          made n
+          ∙ ap (λ (xs : List Reference). runAll (step g) (pairsTo (at n y) (placedFrom 0 xs)) (a)) (early from e)
           ∙ ap (runAll (step g) (pairsTo (at n y) (placedFrom 0 (joined k (refs (tableIn c)))))) (w .numbers)
           ∙ ap (λ (ps : List (Pair Reference)). runAll (step g) ps (runAll (step g) (stepsTo g (placedFrom 0 ys)) noNumbers)) (sym (steps-next n))
           ∙ sym (runAll-append (step g) (stepsTo g (placedFrom 0 ys)) (stepsTo g (at n y ∷ [])) noNumbers)
           ∙ ap (λ (ps : List (Pair Reference)). runAll (step g) ps noNumbers) (sym (stepsTo-append g (placedFrom 0 ys) (at n y ∷ [])))
           ∙ ap (λ (qs : List (Placed Reference)). runAll (step g) (stepsTo g qs) noNumbers) (sym place);
-      few = omega (arith, one, more, w .few);
+      few = omega (arith, more, w .few);
       bounded = bounded;
     }
       where
         g : Graph Reference
         g = graph (tableIn c)
-
-        n : ℕ
-        n = a .references
 
         ys : List Reference
         ys = joined k (refs (tableIn c)) ++ own
@@ -263,47 +259,47 @@ module _ {c : List ℕ} (h : Held c) (k : ℕ) (l : k < count (tableIn c)) where
 
         place : placedFrom 0 (ys ++ (y ∷ [])) ≡ placedFrom 0 ys ++ (at n y ∷ [])
         place =
-            let z : 0 + length ys ≡ a .references = omega (arith, w .references) in
+            let z : 0 + length ys ≡ n = omega (arith, w .references) in
             rw z at (placed-append 0 ys (y ∷ []))
 
-        mark : (x : ℕ) → x ≤ a .references → Dec (x ≡ a .references) → Marked (withReference (a .references) y columns) x
-        mark x i (yes q) = rw q (here-marked (a .references) y columns few (w .sized))
-        mark x i (no q) = other-marked (a .references) y columns few x (omega arith) q (w .marked x (omega (arith, w .references)))
+        mark : (x : ℕ) → x ≤ n → Dec (x ≡ n) → Marked (withReference n y columns) x
+        mark x i (yes q) = rw q (here-marked n y columns few (w .sized))
+        mark x i (no q) = other-marked n y columns few x (omega arith) q (w .marked x (omega (arith, w .references)))
 
 -- A ROW OF A LOOP
-module _ {c : List ℕ} (h : Held c) (k : ℕ) (l : k < count (tableIn c)) (columns s p : List ℕ) (a : Progress) (from : ℕ) (e : from ≡ length (joined k (refs (tableIn c)))) where
+module _ {c : List ℕ} (h : Held c) (k : ℕ) (l : k < count (tableIn c)) (n : ℕ) (columns : List ℕ) (a : Numbers) (from : ℕ) (e : from ≡ length (joined k (refs (tableIn c)))) where
   -- its first row, the destination
-  module _ (w : Walked (tableIn c) (joined k (refs (tableIn c))) columns s p a) where
-    alone : Walked (tableIn c) (joined k (refs (tableIn c)) ++ []) columns s p a
+  module _ (w : Walked (tableIn c) (joined k (refs (tableIn c))) n columns a) where
+    alone : Walked (tableIn c) (joined k (refs (tableIn c)) ++ []) n columns a
     alone = rw (append-nil (joined k (refs (tableIn c)))) w
 
     offset-here : valueAt c (startAt c k) ≤ 510
     offset-here = row-in h k l (startAt c k) (start-in h k l) .offset (omega (arith, opening-held h k l))
 
-    pub destination-few : a .references < 528
+    pub destination-few : n < 528
     destination-few = omega (arith, w .references, joined-few h k (omega arith), start-in h k l, past-few h k l)
 
     pub destination-earlier : Earlier (tableIn c) columns from (refIn c k (startAt c k) true)
-    destination-earlier = earlier-of h k l [] columns s p a alone (refIn c k (startAt c k) true) refl (omega arith) offset-here from e
+    destination-earlier = earlier-of h k l [] n columns a alone (refIn c k (startAt c k) true) refl (omega arith) offset-here from e
 
-    pub destination-steps : NextSteps (tableIn c) columns from (a .references) (refIn c k (startAt c k) true) (a .made)
+    pub destination-steps : SomeNext (tableIn c) columns from (refIn c k (startAt c k) true) (a .made)
     destination-steps =
         let (rest, same) = start-ahead h k l in
-        next-steps h k l [] columns s p a alone (refIn c k (startAt c k) true) refl (omega arith) offset-here from e rest
+        next-steps h k l [] n columns a alone (refIn c k (startAt c k) true) refl (omega arith) offset-here from e rest
         (same ∙ ap (λ (xs : List Reference). xs ++ (refIn c k (startAt c k) true ∷ rest)) (sym (append-nil (joined k (refs (tableIn c))))))
 
-    pub destination-next : (columns′ s′ p′ : List ℕ) (r : Progress)
-        → (r .references ≡ a .references + 1) × (columns′ ≡ withReference (a .references) (refIn c k (startAt c k) true) columns)
-        → Taken (tableIn c) columns from a (refIn c k (startAt c k) true) s p s′ p′ (r .made)
-        → Bounded s′ p′ × (r .made ≤ a .made + 528)
-        → Walked (tableIn c) (pastRow c k (startAt c k + 1)) columns′ s′ p′ r
-    destination-next columns′ s′ p′ r one made more =
+    pub destination-next : (columns′ : List ℕ) (d : Numbers)
+        → columns′ ≡ withReference n (refIn c k (startAt c k) true) columns
+        → Taken (tableIn c) columns from (refIn c k (startAt c k) true) a d
+        → Bounded (d .shifts) (d .peels) × (d .made ≤ a .made + 528)
+        → Walked (tableIn c) (pastRow c k (startAt c k + 1)) (n + 1) columns′ d
+    destination-next columns′ d put made more =
         rw (past-start h k l, ← (append-nil (joined k (refs (tableIn c)))))
-        (walked-next h k l [] columns s p a alone (refIn c k (startAt c k) true) refl (omega arith) offset-here from e destination-few columns′ s′ p′ r one made more)
+        (walked-next h k l [] n columns a alone (refIn c k (startAt c k) true) refl (omega arith) offset-here from e destination-few columns′ d put made more)
 
   -- a row after it
-  module _ (r : ℕ) (u : startAt c k < r) (v : r < startAt c (k + 1)) (w : Walked (tableIn c) (pastRow c k r) columns s p a) where
-    pub row-few : a .references < 528
+  module _ (r : ℕ) (u : startAt c k < r) (v : r < startAt c (k + 1)) (w : Walked (tableIn c) (pastRow c k r) n columns a) where
+    pub row-few : n < 528
     row-few = omega (arith, w .references, past-few-references h k r l u, past-few h k l)
 
     -- a read
@@ -312,29 +308,29 @@ module _ {c : List ℕ} (h : Held c) (k : ℕ) (l : k < count (tableIn c)) (colu
       read-offset = row-in h k l r v .offset (omega arith)
 
       pub read-earlier : Earlier (tableIn c) columns from (refIn c k r false)
-      read-earlier = earlier-of h k l _ columns s p a w (refIn c k r false) refl (omega arith) read-offset from e
+      read-earlier = earlier-of h k l _ n columns a w (refIn c k r false) refl (omega arith) read-offset from e
 
-      pub read-steps : NextSteps (tableIn c) columns from (a .references) (refIn c k r false) (a .made)
+      pub read-steps : SomeNext (tableIn c) columns from (refIn c k r false) (a .made)
       read-steps =
           let (rest, same) = past-ahead h k l r u (omega arith) in
-          next-steps h k l _ columns s p a w (refIn c k r false) refl (omega arith) read-offset from e (readsIn c k (r + 1) (startAt c (k + 1)) ++ rest)
+          next-steps h k l _ n columns a w (refIn c k r false) refl (omega arith) read-offset from e (readsIn c k (r + 1) (startAt c (k + 1)) ++ rest)
           (rw (reads-next c k r (startAt c (k + 1)) v, row-read c k r q) at same)
 
-      pub read-next : (columns′ s′ p′ : List ℕ) (d : Progress)
-          → (d .references ≡ a .references + 1) × (columns′ ≡ withReference (a .references) (refIn c k r false) columns)
-          → Taken (tableIn c) columns from a (refIn c k r false) s p s′ p′ (d .made)
-          → Bounded s′ p′ × (d .made ≤ a .made + 528)
-          → Walked (tableIn c) (pastRow c k (r + 1)) columns′ s′ p′ d
-      read-next columns′ s′ p′ d one made more =
+      pub read-next : (columns′ : List ℕ) (d : Numbers)
+          → columns′ ≡ withReference n (refIn c k r false) columns
+          → Taken (tableIn c) columns from (refIn c k r false) a d
+          → Bounded (d .shifts) (d .peels) × (d .made ≤ a .made + 528)
+          → Walked (tableIn c) (pastRow c k (r + 1)) (n + 1) columns′ d
+      read-next columns′ d put made more =
           rw (past-next h k l r u, row-read c k r q)
-          (walked-next h k l _ columns s p a w (refIn c k r false) refl (omega arith) read-offset from e row-few columns′ s′ p′ d one made more)
+          (walked-next h k l _ n columns a w (refIn c k r false) refl (omega arith) read-offset from e row-few columns′ d put made more)
 
     -- another item
-    pub item-next : (kindAt c r ≡ 0 → ⊥) → Walked (tableIn c) (pastRow c k (r + 1)) columns s p a
-    item-next n = rw (past-next h k l r u, row-other c k r n, append-nil (pastRow c k r)) w
+    pub item-next : (kindAt c r ≡ 0 → ⊥) → Walked (tableIn c) (pastRow c k (r + 1)) n columns a
+    item-next none = rw (past-next h k l r u, row-other c k r none, append-nil (pastRow c k r)) w
 
 -- the walk before its first step, and after its last
-pub walked-start : (t : Table) → Walked t [] (replicate 2112 0) (replicate 16 0) (replicate 16 0) (record { references = 0; made = 0 })
+pub walked-start : (t : Table) → Walked t [] 0 (replicate 2112 0) noNumbers
 unfolding refsFrom
 walked-start t = record {
   sized = length-replicate {A = ℕ} 2112 0;
@@ -351,7 +347,7 @@ walked-start t = record {
   };
 }
 
-pub walked-all : {t : Table} {columns s p : List ℕ} {a : Progress} → Walked t (allRefs t) columns s p a → numbersIn s p (a .made) ≡ walked (graph t)
+pub walked-all : {t : Table} {n : ℕ} {columns : List ℕ} {a : Numbers} → Walked t (allRefs t) n columns a → a ≡ walked (graph t)
 unfolding steps
 walked-all w = w .numbers
 

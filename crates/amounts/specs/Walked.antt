@@ -7,9 +7,8 @@ use Rattle.order.specs.Sequences.{runAll}
 use Rattle.model.specs.declared.Reference.{Reference}
 use Rattle.model.specs.Table.{Table, count}
 use Rattle.chains.specs.TableGraph.{graph}
-use Rattle.chains.specs.Steps.{at, pairOf, placedFrom, pairsTo, stepsTo, step, Following, Numbers, noNumbers}
+use Rattle.chains.specs.Steps.{Pair, at, pairOf, placedFrom, pairsTo, stepsTo, step, Following, Numbers, noNumbers}
 use Rattle.chains.specs.Bounds.{Small}
-use Rattle.amounts.specs.declared.Progress.{Progress}
 use Rattle.columns.specs.Columns.{refAt, refsFrom, Marked}
 
 -- a reference of one of the table's loops, with an offset that a table can have
@@ -44,26 +43,28 @@ pub record Bounded (shifts peels : List ℕ) : Type 0 where
 abbrev pub numbersIn : (shifts peels : List ℕ) (made : ℕ) → Numbers
 numbersIn shifts peels made = record { shifts = shifts; peels = peels; made = made }
 
--- the walk has come past ys, the table's first references: they stand in the columns, and the steps to them have been made
-pub record Walked (t : Table) (ys : List Reference) (columns shifts peels : List ℕ) (a : Progress) : Type 0 where
+-- the walk has come past ys, the table's first references: they are n and stand in the columns, and the steps to them have left these numbers
+pub record Walked (t : Table) (ys : List Reference) (n : ℕ) (columns : List ℕ) (a : Numbers) : Type 0 where
   pub sized : length columns ≡ 2112
-  pub references : a .references ≡ length ys
+  pub references : n ≡ length ys
   pub kept : refsFrom columns 0 (length ys) ≡ ys
   pub marked : (x : ℕ) → x < length ys → Marked columns x
-  pub numbers : numbersIn shifts peels (a .made) ≡ runAll (step (graph t)) (stepsTo (graph t) (placedFrom 0 ys)) noNumbers
-  pub few : a .made ≤ 528 * a .references
-  pub bounded : Bounded shifts peels
+  pub numbers : a ≡ runAll (step (graph t)) (stepsTo (graph t) (placedFrom 0 ys)) noNumbers
+  pub few : a .made ≤ 528 * n
+  pub bounded : Bounded (a .shifts) (a .peels)
 
--- the pair of the reference at position x of the columns and y, wherever y stands, is the step after the first `made`
+-- the pair of the reference at position x of the columns and y, wherever y stands, is the next step when so many have been made
 abbrev pub NextStep : (t : Table) (columns : List ℕ) (x : ℕ) (y : Reference) (made : ℕ) → Type 0
 NextStep t columns x y made = (n : ℕ) × Following (graph t) made (pairOf (at x (refAt columns x)) (at n y) ∷ [])
 
--- the pairs of y, at position n, with the references at positions below `from` are the steps after the first `made`
-abbrev pub NextSteps : (t : Table) (columns : List ℕ) (from n : ℕ) (y : Reference) (made : ℕ) → Type 0
-NextSteps t columns from n y made = Following (graph t) made (pairsTo (at n y) (placedFrom 0 (refsFrom columns 0 from)))
+-- the pairs of y, at position n, with the references at positions below `from`
+abbrev pub pairsAt : (columns : List ℕ) (from n : ℕ) (y : Reference) → List (Pair Reference)
+pairsAt columns from n y = pairsTo (at n y) (placedFrom 0 (refsFrom columns 0 from))
 
--- those steps have been made: from the numbers s, p and what had come before, they leave s′ and p′
-abbrev pub Taken : (t : Table) (columns : List ℕ) (from : ℕ) (before : Progress) (y : Reference) (s p s′ p′ : List ℕ) (made : ℕ) → Type 0
-Taken t columns from before y s p s′ p′ made =
-    numbersIn s′ p′ made
-    ≡ runAll (step (graph t)) (pairsTo (at (before .references) y) (placedFrom 0 (refsFrom columns 0 from))) (numbersIn s p (before .made))
+-- they are the next steps when so many have been made, wherever y stands
+abbrev pub SomeNext : (t : Table) (columns : List ℕ) (from : ℕ) (y : Reference) (made : ℕ) → Type 0
+SomeNext t columns from y made = (n : ℕ) × Following (graph t) made (pairsAt columns from n y)
+
+-- as steps they lead from the numbers b to the numbers a, wherever y stands
+abbrev pub Taken : (t : Table) (columns : List ℕ) (from : ℕ) (y : Reference) (b a : Numbers) → Type 0
+Taken t columns from y b a = (n : ℕ) → a ≡ runAll (step (graph t)) (pairsAt columns from n y) b

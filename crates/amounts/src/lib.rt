@@ -18,7 +18,7 @@ ghost use Rattle.chains.specs.Steps.{at, raisedBy, takeUp, step, walked};
 ghost use Rattle.chains.specs.Threshold.{threshold};
 ghost use Rattle.amounts.specs.Rows.{refIn, pastRow};
 ghost use Rattle.columns.specs.Columns.{refAt, searched, withReference};
-ghost use Rattle.amounts.specs.Walked.{ReferenceFits, Pairable, Earlier, NextStep, NextSteps, Taken, Bounded, numbersIn, Walked};
+ghost use Rattle.amounts.specs.Walked.{ReferenceFits, Pairable, Earlier, NextStep, SomeNext, Taken, Bounded, numbersIn, Walked};
 use arithmetic::above;
 use arithmetic::larger;
 use arithmetic::narrow;
@@ -38,12 +38,6 @@ pub struct Amounts {
 struct Totals {
     shifts: [u32; 16],
     peels: [u32; 16],
-    made: usize,
-}
-
-// How far a walk has come: how many references are in the columns, and how many steps have been made.
-struct Progress {
-    references: usize,
     made: usize,
 }
 
@@ -102,128 +96,124 @@ fn raise(store: &Store, x: Reference, y: Reference, shifts: &mut [u32; 16], peel
     }
 }
 
-// One step of the walk: takes up the pair of the reference at position x and y, which is the next one. `column` is y's. Answers how many steps
-// have been made.
+// One step of the walk: takes up the pair of the reference at position x and y, which is the next one. `column` is y's. `made` counts the steps.
 fn take_up(
     store: &Store,
     columns: &Columns,
     column: usize,
     x: usize,
     y: Reference,
-    made: usize,
+    made: &mut usize,
     shifts: &mut [u32; 16],
     peels: &mut [u32; 16],
-) -> usize
-    requires { ⌜ Held (now store) × (column ≡ searched (y .stores)) × Pairable (tableIn (now store)) (now columns) x y × NextStep (tableIn (now store)) (now columns) x y made ⌝ }
-    requires { ⌜ Bounded (now shifts) (now peels) × (made < 1000000) ⌝ }
-    ensures { λ r. ⌜ numbersIn (now (shifts .exit)) (now (peels .exit)) r ≡ takeUp (graph (tableIn (now (store .entry)))) (refAt (now (columns .entry)) x) y (numbersIn (now (shifts .entry)) (now (peels .entry)) made) ⌝ }
+)
+    requires { ⌜ Held (now store) × (column ≡ searched (y .stores)) × Pairable (tableIn (now store)) (now columns) x y ⌝ }
+    requires { ⌜ Bounded (now shifts) (now peels) × NextStep (tableIn (now store)) (now columns) x y (now made) × (now made < 1000000) ⌝ }
+    ensures { λ _. ⌜ numbersIn (now (shifts .exit)) (now (peels .exit)) (now (made .exit)) ≡ takeUp (graph (tableIn (now (store .entry)))) (refAt (now (columns .entry)) x) y (numbersIn (now (shifts .entry)) (now (peels .entry)) (now (made .entry))) ⌝ }
 {
+    *made += 1;
     if columns::touches(columns, column, x, y) {
         let e = columns::reference_in(columns, x);
         raise(store, e, y, shifts, peels);
-        return made + 1;
     }
-    made + 1
 }
 
-// Takes up the pairs of y with the references at positions below `from`, which are those of earlier loops. Answers how many steps have
-// been made.
+// Takes up the pairs of y with the references at positions below `from`, which are those of earlier loops.
 fn take_earlier(
     store: &Store,
     columns: &Columns,
     from: usize,
     y: Reference,
-    before: Progress,
+    made: &mut usize,
     shifts: &mut [u32; 16],
     peels: &mut [u32; 16],
-) -> usize
-    requires { ⌜ Held (now store) × Earlier (tableIn (now store)) (now columns) from y × NextSteps (tableIn (now store)) (now columns) from (before .references) y (before .made) ⌝ }
-    requires { ⌜ Bounded (now shifts) (now peels) × (before .made ≤ 528 * 528) ⌝ }
-    ensures { λ r. ⌜ Taken (tableIn (now (store .entry))) (now (columns .entry)) from before y (now (shifts .entry)) (now (peels .entry)) (now (shifts .exit)) (now (peels .exit)) r ⌝ }
-    ensures { λ r. ⌜ Bounded (now (shifts .exit)) (now (peels .exit)) × (r ≤ before .made + 528) ⌝ }
+)
+    requires { ⌜ Held (now store) × Earlier (tableIn (now store)) (now columns) from y × SomeNext (tableIn (now store)) (now columns) from y (now made) ⌝ }
+    requires { ⌜ Bounded (now shifts) (now peels) × (now made ≤ 528 * 528) ⌝ }
+    ensures { λ _. ⌜ Taken (tableIn (now (store .entry))) (now (columns .entry)) from y (numbersIn (now (shifts .entry)) (now (peels .entry)) (now (made .entry))) (numbersIn (now (shifts .exit)) (now (peels .exit)) (now (made .exit))) ⌝ }
+    ensures { λ _. ⌜ Bounded (now (shifts .exit)) (now (peels .exit)) × (now (made .exit) ≤ now (made .entry) + 528) ⌝ }
 {
     let column = columns::searched_for(y.stores);
-    let mut made = before.made;
     let mut x: usize = 0;
     while x < from {
-        made = take_up(store, columns, column, x, y, made, shifts, peels);
+        take_up(store, columns, column, x, y, made, shifts, peels);
         x += 1;
     }
-    made
 }
 
-// Takes up the pairs whose later reference is y, the next one of the table, and then puts y into the columns.
+// Takes up the pairs whose later reference is y, the next one of the table, and then puts y into the columns, at its position n.
 fn take_later(
     store: &Store,
     y: Reference,
     from: usize,
-    before: Progress,
+    n: usize,
     columns: &mut Columns,
+    made: &mut usize,
     shifts: &mut [u32; 16],
     peels: &mut [u32; 16],
-) -> Progress
-    requires { ⌜ Held (now store) × Earlier (tableIn (now store)) (now columns) from y × NextSteps (tableIn (now store)) (now columns) from (before .references) y (before .made) ⌝ }
-    requires { ⌜ Bounded (now shifts) (now peels) × (before .made ≤ 528 * before .references) × (before .references < 528) ⌝ }
-    ensures { λ r. ⌜ (r .references ≡ before .references + 1) × (now (columns .exit) ≡ withReference (before .references) y (now (columns .entry))) ⌝ }
-    ensures { λ r. ⌜ Taken (tableIn (now (store .entry))) (now (columns .entry)) from before y (now (shifts .entry)) (now (peels .entry)) (now (shifts .exit)) (now (peels .exit)) (r .made) ⌝ }
-    ensures { λ r. ⌜ Bounded (now (shifts .exit)) (now (peels .exit)) × (r .made ≤ before .made + 528) ⌝ }
+)
+    requires { ⌜ Held (now store) × Earlier (tableIn (now store)) (now columns) from y × SomeNext (tableIn (now store)) (now columns) from y (now made) ⌝ }
+    requires { ⌜ Bounded (now shifts) (now peels) × (now made ≤ 528 * n) × (n < 528) ⌝ }
+    ensures { λ _. ⌜ now (columns .exit) ≡ withReference n y (now (columns .entry)) ⌝ }
+    ensures { λ _. ⌜ Taken (tableIn (now (store .entry))) (now (columns .entry)) from y (numbersIn (now (shifts .entry)) (now (peels .entry)) (now (made .entry))) (numbersIn (now (shifts .exit)) (now (peels .exit)) (now (made .exit))) ⌝ }
+    ensures { λ _. ⌜ Bounded (now (shifts .exit)) (now (peels .exit)) × (now (made .exit) ≤ now (made .entry) + 528) ⌝ }
 {
-    let made = take_earlier(store, columns, from, y, before, shifts, peels);
-    let n = before.references;
+    take_earlier(store, columns, from, y, made, shifts, peels);
     columns::put_reference(n, y, columns);
-    Progress {
-        references: n + 1,
-        made,
-    }
 }
 
-// The walk past row r of loop k, one of its items: a read is a reference, other items are none. There are `from` references in earlier loops.
+// The walk past row r of loop k, one of its items: a read is a reference, other items are none. There are `from` references in earlier loops and
+// n before the row; answers how many there are then.
 fn walk_row(
     store: &Store,
     k: usize,
     r: usize,
     from: usize,
-    before: Progress,
+    n: usize,
     columns: &mut Columns,
+    made: &mut usize,
     shifts: &mut [u32; 16],
     peels: &mut [u32; 16],
-) -> Progress
+) -> usize
     requires { ⌜ Held (now store) × (k < count (tableIn (now store))) × (from ≡ length (joined k (refs (tableIn (now store))))) ⌝ }
     requires { ⌜ (startAt (now store) k < r) × (r < startAt (now store) (k + 1)) ⌝ }
-    requires { ⌜ Walked (tableIn (now store)) (pastRow (now store) k r) (now columns) (now shifts) (now peels) before ⌝ }
-    ensures { λ a. ⌜ Walked (tableIn (now (store .entry))) (pastRow (now (store .entry)) k (r + 1)) (now (columns .exit)) (now (shifts .exit)) (now (peels .exit)) a ⌝ }
+    requires { ⌜ Walked (tableIn (now store)) (pastRow (now store) k r) n (now columns) (numbersIn (now shifts) (now peels) (now made)) ⌝ }
+    ensures { λ a. ⌜ Walked (tableIn (now (store .entry))) (pastRow (now (store .entry)) k (r + 1)) a (now (columns .exit)) (numbersIn (now (shifts .exit)) (now (peels .exit)) (now (made .exit))) ⌝ }
 {
     if reader::kind_at(store, r) == reader::READ {
         let y = reference_at(store, k, r, false);
-        return take_later(store, y, from, before, columns, shifts, peels);
+        take_later(store, y, from, n, columns, made, shifts, peels);
+        return n + 1;
     }
-    before
+    n
 }
 
-// The walk past the references of loop k: its destination, then its reads. Of the shifts and peels it changes those of loop k.
+// The walk past the references of loop k: its destination, then its reads. Of the shifts and peels it changes those of loop k. There are `from`
+// references in earlier loops; answers how many there are then.
 fn walk_loop(
     store: &Store,
     k: usize,
-    before: Progress,
+    from: usize,
     columns: &mut Columns,
+    made: &mut usize,
     shifts: &mut [u32; 16],
     peels: &mut [u32; 16],
-) -> Progress
+) -> usize
     requires { ⌜ Held (now store) × (k < count (tableIn (now store))) ⌝ }
-    requires { ⌜ Walked (tableIn (now store)) (joined k (refs (tableIn (now store)))) (now columns) (now shifts) (now peels) before ⌝ }
-    ensures { λ a. ⌜ Walked (tableIn (now (store .entry))) (joined (k + 1) (refs (tableIn (now (store .entry))))) (now (columns .exit)) (now (shifts .exit)) (now (peels .exit)) a ⌝ }
+    requires { ⌜ Walked (tableIn (now store)) (joined k (refs (tableIn (now store)))) from (now columns) (numbersIn (now shifts) (now peels) (now made)) ⌝ }
+    ensures { λ a. ⌜ Walked (tableIn (now (store .entry))) (joined (k + 1) (refs (tableIn (now (store .entry))))) a (now (columns .exit)) (numbersIn (now (shifts .exit)) (now (peels .exit)) (now (made .exit))) ⌝ }
 {
     let start = reader::start_at(store, k);
     let past = reader::start_at(store, k + 1);
-    let from = before.references;
     let y = reference_at(store, k, start, true);
-    let mut a = take_later(store, y, from, before, columns, shifts, peels);
+    take_later(store, y, from, from, columns, made, shifts, peels);
+    let mut n = from + 1;
     let mut r = start + 1;
     while r < past {
-        a = walk_row(store, k, r, from, a, columns, shifts, peels);
+        n = walk_row(store, k, r, from, n, columns, made, shifts, peels);
         r += 1;
     }
-    a
+    n
 }
 
 // The walk: over all references in byte order, and for each over the references of earlier loops. Every pair of references of two loops is taken
@@ -234,21 +224,19 @@ fn walk(store: &Store) -> Totals
 {
     let count = reader::loops_in(store);
     let mut columns = [0u16; COLUMNS];
+    let mut made: usize = 0;
     let mut ss = [0u32; 16];
     let mut ps = [0u32; 16];
-    let mut a = Progress {
-        references: 0,
-        made: 0,
-    };
+    let mut n: usize = 0;
     let mut k: usize = 0;
     while k < count {
-        a = walk_loop(store, k, a, &mut columns, &mut ss, &mut ps);
+        n = walk_loop(store, k, n, &mut columns, &mut made, &mut ss, &mut ps);
         k += 1;
     }
     Totals {
         shifts: ss,
         peels: ps,
-        made: a.made,
+        made,
     }
 }
 
