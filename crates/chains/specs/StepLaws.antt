@@ -8,7 +8,7 @@ use mathlib.Core.List.{List·Memᴰ as Mem, List·Memᴰ·head as mhere, List·M
 use native.Mathlib.Decide.{decLt}
 use native.Mathlib.Nat.{max-zero, zero-max}
 use native.Mathlib.Omega.{arith}
-use lib.ListN.{length, getD, set, length-set, length-append, replicate}
+use lib.ListN.{length, getD, drop, set, length-set, length-append, replicate}
 use lib.Seq.{getD-set-same, getD-set-other, set-set, set-getD}
 use Rattle.order.specs.Sequences.{Before, bhere, bthere, NoDup, runAll}
 use Rattle.order.specs.Reorder.{runAll-append}
@@ -148,7 +148,7 @@ module _ {R : Type 0} (g : Graph R) where
       ⊎-elim (λ (h, e). let l = placed-rise 0 (g .references) _ _ h in omega arith) (λ h. let l = placed-rise 0 (g .references) _ _ h in omega arith)
       (before-pairs (placed g) (placed g) p p (before-only (rises g) (pairs (placed g) (placed g)) b))
 
-  -- a step comes after all that change what it looks at: no later one has its earlier loop as the later
+  -- no later step changes the number of a step's earlier loop, which is what it adds to
   pub step-final : Ordered g (g .references) → (p q : Pair R) → Before p q (steps g) → g .number (p .earlier .reference) < g .number (q .later .reference)
   unfolding steps
   step-final o p q b =
@@ -286,6 +286,21 @@ module _ {R : Type 0} {g : Graph R} {n : ℕ} {p : Pair R} {ps : List (Pair R)} 
     all = f .all ∙ sym (append-assoc (f .done) (p ∷ []) (ps ++ f .rest));
     count = omega (arith, length-append (f .done) (p ∷ []), f .count);
   }
+
+-- a pair is the next step of one count alone: once taken up it never is again
+place-once : {A : Type 0} (p : A) (d e r q : List A) → NoDup (d ++ (p ∷ r)) → d ++ (p ∷ r) ≡ e ++ (p ∷ q) → length d ≡ length e
+place-once p [] [] r q n s = refl
+place-once p [] (y ∷ e) r q n s =
+    let t : r ≡ e ++ (p ∷ q) = ap (drop 1) s in
+    absurd (n p (bhere refl (rw t (Memᴰ·append-right e (mhere refl)))))
+place-once {A = A} p (x ∷ d) [] r q n s =
+    let h : x ≡ p = ap (λ (l : List A). getD l 0 p) s in
+    absurd (n p (bhere (sym h) (Memᴰ·append-right d (mhere refl))))
+place-once p (x ∷ d) (y ∷ e) r q n s = ap suc (place-once p d e r q (λ z b. n z (bthere b)) (ap (drop 1) s))
+
+pub following-once : {R : Type 0} (g : Graph R) (n m : ℕ) (p : Pair R) (ps qs : List (Pair R)) → Following g n (p ∷ ps) → Following g m (p ∷ qs) → n ≡ m
+following-once g n m p ps qs f h =
+    sym (f .count) ∙ place-once p (f .done) (h .done) (ps ++ f .rest) (qs ++ h .rest) (rw (← (f .all)) (step-once g)) (sym (f .all) ∙ h .all) ∙ h .count
 
 -- both rows of numbers in one walk
 both : (g : Graph Reference) (ps : List (Pair Reference)) (n : Numbers)

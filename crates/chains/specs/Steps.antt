@@ -11,7 +11,8 @@ use Rattle.chains.specs.Graph.{Graph}
 use Rattle.chains.specs.Dependence.{backward, forward}
 use Rattle.chains.specs.Walk.{required}
 
--- A reference and its position among all references, in byte order. A loop may read one element twice: those are two positions
+-- A reference and its position in the graph's row of references, for a table in byte order. A loop may read one element twice: those are two
+-- positions
 pub record Placed (R : Type 0) : Type 0 where
   pub position : ℕ
   pub reference : R
@@ -71,7 +72,7 @@ module _ {R : Type 0} (g : Graph R) where
   abbrev pub rowStep : (R → R → ℕ) → Pair R → List ℕ → List ℕ
   rowStep amount p = raisedBy amount (p .earlier .reference) (p .later .reference)
 
--- ps are the steps that come after the first n
+-- ps are the next steps after the first n
 pub record Following {R : Type 0} (g : Graph R) (n : ℕ) (ps : List (Pair R)) : Type 0 where
   pub done : List (Pair R)
   pub rest : List (Pair R)

@@ -105,13 +105,13 @@ module _ (t : Table) where
         → Largest backward (graph t) k (getD (walked (graph t) .shifts) k 0) × Largest forward (graph t) k (getD (walked (graph t) .peels) k 0)
     walk-largest k = rw walk-leaves (shift-largest k, peel-largest k)
 
-  -- a pair of two reads is a step that changes no shift and no peel
+  -- two reads change no shift and no peel
   pub reads-leave : (x y : Reference) (n : Numbers) → x .stores ≡ false → y .stores ≡ false
       → (takeUp (graph t) x y n .shifts ≡ n .shifts) × (takeUp (graph t) x y n .peels ≡ n .peels)
   reads-leave x y n e f =
       let d = none-of-reads t x y e f in
       (raisedBy-none (graph t) backward x y (n .shifts) d, raisedBy-none (graph t) forward x y (n .peels) d)
 
-  -- no step looks at a number that a later step changes
+  -- no later step changes the numbers of a step's earlier loop, which are what it adds to
   pub walk-final : (p q : Pair Reference) → Before p q (steps (graph t)) → p .earlier .reference .number < q .later .reference .number
   walk-final = step-final (graph t) allRefs-ordered
