@@ -28,9 +28,9 @@ extern "C" {
 /* The version of this header; vempaldi_version() is that of the library linked. While the first number is 0, a new second number may
  * change what callers see (CHANGELOG.md says what). */
 #define VEMPALDI_VERSION_MAJOR 0
-#define VEMPALDI_VERSION_MINOR 2
+#define VEMPALDI_VERSION_MINOR 3
 #define VEMPALDI_VERSION_PATCH 0
-#define VEMPALDI_VERSION 200 /* the three numbers as one: MAJOR * 10000 + MINOR * 100 + PATCH */
+#define VEMPALDI_VERSION 300 /* the three numbers as one: MAJOR * 10000 + MINOR * 100 + PATCH */
 
 /* The grounds of refusal. An answer is four numbers: answer[0] the ground's number, answer[1] its place, answer[2] and answer[3] what the
  * refusal names. An accepted call answers 0, 0, 0, 0.
@@ -46,20 +46,22 @@ extern "C" {
  *    8     tail        bytes follow the end record                                                   byte     0, 0
  *    9     serial      two different iterations of one loop meet at an element, one storing          loop     read, 0
  *   10     processors  P is outside 1 to 64, or a processor's number is not below P                  0        0, 0
- *   11     short       fewer indices than processors, or P >= 2 and some block below the threshold   0        0, 0
+ *   11     short       fewer lines than processors, or P >= 2 and some block below the threshold     0        0, 0
  *   12     memory      the memory's length is not the table's element total                          0        0, 0
  *   13     buffer      the output does not fit the lent bytes                                        0        0, 0
  *   14     unlike      the joined tables differ in arrays                                            0        0, 0
  *   15     state       a count above its lists, a peeled step before the barrier, or a count above 0
  *                      for a processor not below P                                                   0        0, 0
+ *   17     line        a line's length W is outside 1 to 64                                          0        0, 0
  *
+ * No call gives 16.
  * 'byte' is the place of the record's kind byte, counted from 0 (the table's length if that byte is absent); for 8 it is the first
  * byte too many. (*) In joining, 4 for more than 16 loops in all has place 0; 4 of one of its tables has that table's byte.
  * 'loop' is the lowest loop of which two iterations meet, and 'read' is the lowest of its reads that meets the destination in another
  * iteration, numbered from 0 among that loop's reads in byte order. So the answer to a table is always the same. Once a loop may have
  * several statements, 9 will name a pair of references in answer[2] and answer[3]; a loop with one statement will then have its
  * destination, 0, and this read's number and one.
- * Where several grounds hold, the first record decides, then the order 8, 9, 10, 11, 12, 15, 13; in joining left's 1 to 9, then right's,
+ * Where several grounds hold, the first record decides, then the order 8, 9, 10, 17, 11, 12, 15, 13; in joining left's 1 to 9, then right's,
  * then 14, 4 (more than 16 loops in all), 13. */
 enum vempaldi_ground {
     VEMPALDI_ACCEPTED = 0,
@@ -77,13 +79,14 @@ enum vempaldi_ground {
     VEMPALDI_MEMORY = 12,
     VEMPALDI_BUFFER = 13,
     VEMPALDI_UNLIKE = 14,
-    VEMPALDI_STATE = 15
+    VEMPALDI_STATE = 15,
+    VEMPALDI_LINE = 17
 };
 
-/* The words of the grounds, by number. */
+/* The words of the grounds, by number; there is none for 16. */
 #define VEMPALDI_WORDS                                                                                                                   \
     { "accepted", "torn", "kind", "field", "crowd", "array", "body", "edge", "tail", "serial", "processors", "short", "memory", "buffer", \
-      "unlike", "state" }
+      "unlike", "state", "", "line" }
 
 /* How many bytes follow a record's kind byte, by kind: array, loop, read, constant, operation, end. There is no kind 0. */
 #define VEMPALDI_BODY_LENGTHS { 0, 4, 11, 3, 4, 1, 0 }
@@ -91,6 +94,7 @@ enum vempaldi_ground {
 /* Sizes that always suffice. */
 enum vempaldi_size {
     VEMPALDI_MOST_PROCESSORS = 64,
+    VEMPALDI_LONGEST_LINE = 64,
     VEMPALDI_TABLE_BYTES = 2065,    /* the longest accepted table, so also of a joined one */
     VEMPALDI_DECIDING_BYTES = 2077, /* no byte past these changes an answer: reading so many of a file is enough */
     VEMPALDI_FACTS_BYTES = 268,     /* facts of 16 arrays and 16 loops */
@@ -99,6 +103,19 @@ enum vempaldi_size {
     VEMPALDI_BLOCK_BYTES = 512,     /* first and last index of 64 blocks */
     VEMPALDI_LISTING_BYTES = 48400  /* no listing has more */
 };
+
+/* What settles a table's lists beside the table itself. Every call that plans takes it, and all calls of a row of steps take the same. Make it
+ * with vempaldi_for and set what else is wanted: a later version may add members, which are 0 or null there and then change nothing. */
+struct vempaldi_settings {
+    uint32_t processors; /* P, how many processors there are: 1 to 64, else 10 */
+    uint32_t line;       /* W, how many iterations store into one cache line: 1 to 64, else 17. Blocks begin on whole lines */
+};
+
+/* For `processors` processors, lines of one iteration, and nothing else. */
+static inline struct vempaldi_settings vempaldi_for(uint32_t processors) {
+    struct vempaldi_settings settings = { processors, 1 };
+    return settings;
+}
 
 /* The first number of a step's report. */
 enum vempaldi_report {
@@ -142,40 +159,41 @@ uint64_t vempaldi_threshold(const uint8_t *table, size_t table_length, uint8_t *
  * Writes two numbers, before and after fusion, 8 bytes. Refuses with 1 to 9, 13. */
 uint64_t vempaldi_sweeps(const uint8_t *table, size_t table_length, uint8_t *out, size_t out_length, uint64_t answer[4]);
 
-/* The blocks of a plan for `processors` processors.
- * Writes for each block its first and its last index: 8 bytes a block. Refuses with 1 to 9, 10, 11, 13. */
-uint64_t vempaldi_blocks(const uint8_t *table, size_t table_length, uint32_t processors,
+/* The blocks of a plan.
+ * Writes for each block its first and its last index: 8 bytes a block. Each but the last has a whole number of lines. Refuses with 1 to 9,
+ * 10, 17, 11, 13. */
+uint64_t vempaldi_blocks(const uint8_t *table, size_t table_length, struct vempaldi_settings settings,
                          uint8_t *out, size_t out_length, uint64_t answer[4]);
 
 /* What one processor runs before the barrier, in its order.
  * Writes for each iteration its loop and its index: 8 bytes an iteration. A list has at most (count of loops) times (indices of the
- * processor's block) iterations. Refuses with 1 to 9, 10 (of `processors`, then of `processor`), 11, 13. */
-uint64_t vempaldi_fused_list(const uint8_t *table, size_t table_length, uint32_t processors, uint32_t processor,
+ * processor's block) iterations. Refuses with 1 to 9, 10 (of P, then of `processor`), 17, 11, 13. */
+uint64_t vempaldi_fused_list(const uint8_t *table, size_t table_length, struct vempaldi_settings settings, uint32_t processor,
                              uint8_t *out, size_t out_length, uint64_t answer[4]);
 
 /* What one processor runs past the barrier, in its order.
  * Writes for each iteration its loop and its index: 8 bytes an iteration. A list has at most (count of loops) times (threshold)
- * iterations, and the last processor's has none. Refuses with 1 to 9, 10 (of `processors`, then of `processor`), 11, 13. */
-uint64_t vempaldi_peeled_list(const uint8_t *table, size_t table_length, uint32_t processors, uint32_t processor,
+ * iterations, and the last processor's has none. Refuses with 1 to 9, 10 (of P, then of `processor`), 17, 11, 13. */
+uint64_t vempaldi_peeled_list(const uint8_t *table, size_t table_length, struct vempaldi_settings settings, uint32_t processor,
                               uint8_t *out, size_t out_length, uint64_t answer[4]);
 
 /* What one processor runs before the barrier, as a range of each loop.
  * Writes for each loop, in table order, the first index of its range and the index past the last one, 0 and 0 where the range is empty:
  * 8 bytes a loop. The processor's fused list has these iterations and no others, in rising order of index plus the loop's shift, equal sums
- * in loop order. Refuses with 1 to 9, 10 (of `processors`, then of `processor`), 11, 13. */
-uint64_t vempaldi_fused_ranges(const uint8_t *table, size_t table_length, uint32_t processors, uint32_t processor,
+ * in loop order. Refuses with 1 to 9, 10 (of P, then of `processor`), 17, 11, 13. */
+uint64_t vempaldi_fused_ranges(const uint8_t *table, size_t table_length, struct vempaldi_settings settings, uint32_t processor,
                                uint8_t *out, size_t out_length, uint64_t answer[4]);
 
 /* What one processor runs past the barrier, as a range of each loop.
  * Writes what vempaldi_fused_ranges writes, of the peeled list, which has its iterations loop by loop in rising order. All ranges of the
- * last processor are empty. Refuses with 1 to 9, 10 (of `processors`, then of `processor`), 11, 13. */
-uint64_t vempaldi_peeled_ranges(const uint8_t *table, size_t table_length, uint32_t processors, uint32_t processor,
+ * last processor are empty. Refuses with 1 to 9, 10 (of P, then of `processor`), 17, 11, 13. */
+uint64_t vempaldi_peeled_ranges(const uint8_t *table, size_t table_length, struct vempaldi_settings settings, uint32_t processor,
                                 uint8_t *out, size_t out_length, uint64_t answer[4]);
 
 /* The plan as text: lines `loop` k shift peel, `block` b first last, `fused` b k from to, `peeled` b k from to, `sweeps` before after.
- * Writes the text, each line with its line feed and no zero byte behind. Refuses with 1 to 9, 10, 11, 13. (No call writes the
+ * Writes the text, each line with its line feed and no zero byte behind. Refuses with 1 to 9, 10, 17, 11, 13. (No call writes the
  * line `refused` number place, which the program `plan` prints.) */
-uint64_t vempaldi_listing(const uint8_t *table, size_t table_length, uint32_t processors,
+uint64_t vempaldi_listing(const uint8_t *table, size_t table_length, struct vempaldi_settings settings,
                           uint8_t *out, size_t out_length, uint64_t answer[4]);
 
 /* The loops in table order, each from first to last, with no plan.
@@ -184,20 +202,20 @@ uint64_t vempaldi_listing(const uint8_t *table, size_t table_length, uint32_t pr
 void vempaldi_plain_run(const uint8_t *table, size_t table_length, double *memory, size_t memory_length, uint64_t answer[4]);
 
 /* One step of one processor. The first step of a row gets 64 counts of 0; each later one the counts and the memory as the step before
- * left them. Once every iteration has been reported, in whatever order the processors were named, the memory is bit for bit what
- * vempaldi_plain_run leaves from the same start.
+ * left them, and the same settings. Once every iteration has been reported, in whatever order the processors were named, the memory is
+ * bit for bit what vempaldi_plain_run leaves from the same start, for every P and W that is accepted.
  * An iteration writes the memory (one element), this processor's count (one more) and the report. Waiting and finished write the
- * report alone: its kind, 0, 0. Refuses with 1 to 9, 10 (of `processors`, then of `processor`), 11, 12, 15.
+ * report alone: its kind, 0, 0. Refuses with 1 to 9, 10 (of P, then of `processor`), 17, 11, 12, 15.
  * Two threads must not step the same memory at the same time. */
-void vempaldi_step(const uint8_t *table, size_t table_length, uint32_t processors, uint32_t processor,
+void vempaldi_step(const uint8_t *table, size_t table_length, struct vempaldi_settings settings, uint32_t processor,
                    uint32_t counts[64], double *memory, size_t memory_length, uint32_t report[3], uint64_t answer[4]);
 
 /* A whole run: one step for each byte of `order`, which names a processor; then the lowest-numbered processor that can step does,
  * until all are finished.
  * Writes the memory. The result is the idle count: how many bytes named a processor that waited or was finished, or a number not
- * below `processors`; 0 where refused. Refuses with 1 to 9, 10, 11, 12. */
-uint64_t vempaldi_run(const uint8_t *table, size_t table_length, uint32_t processors, const uint8_t *order, size_t order_length,
-                      double *memory, size_t memory_length, uint64_t answer[4]);
+ * below P; 0 where refused. Refuses with 1 to 9, 10, 17, 11, 12. */
+uint64_t vempaldi_run(const uint8_t *table, size_t table_length, struct vempaldi_settings settings,
+                      const uint8_t *order, size_t order_length, double *memory, size_t memory_length, uint64_t answer[4]);
 
 #ifdef __cplusplus
 }
