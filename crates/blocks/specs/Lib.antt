@@ -8,8 +8,10 @@ pub mod Span
 pub mod SpanLaws
 -- the blocks that they are split into, and when these are too short
 pub mod Blocks
--- how long blocks are, that they cover all, and ground 11
+-- how many lines blocks have, and that they have all
 pub mod BlockLaws
+-- blocks on whole lines: they follow on each other and cover all; ground 11; and lines of one index
+pub mod LineLaws
 -- the parts of one index: each iteration in one of them, and what a dependence keeps
 pub mod Index
 -- the same parts as ranges

@@ -105,9 +105,17 @@ module _ (T W P : ℕ) where
               let same : P - 1 ≡ b = omega arith in
               omega (arith, ap (before T W P) same, ap (before T W P) f ∙ before-last)
           go (no f) =
-              omega (arith, width-whole b (omega arith), before-whole (P - 1) (omega arith), lines-enough T W wide,
-              next (P - 1), ap (λ (x : ℕ). W * start L P x) e, ap (λ (x : ℕ). W * x) (start-last L P pos),
-              ap (λ (x : ℕ). W * x) (size-last L P (P - 1) e), mul-le-mul-left W (size-least L P b))
+              omega (
+                arith,
+                width-whole b (omega arith),
+                before-whole (P - 1) (omega arith),
+                lines-enough T W wide,
+                next (P - 1),
+                ap (λ (x : ℕ). W * start L P x) e,
+                ap (λ (x : ℕ). W * x) (start-last L P pos),
+                ap (λ (x : ℕ). W * x) (size-last L P (P - 1) e),
+                mul-le-mul-left W (size-least L P b),
+              )
 
     -- EVERY INDEX is in a block
     pub some-block : (i : ℕ) → i < T → (b : ℕ) × (b < P) × (before T W P b ≤ i) × (i < before T W P (suc b))
@@ -196,5 +204,8 @@ module _ (T P : ℕ) (pos : 0 < P) where
   pub short-one : (w : ℕ) → isShort T 1 P w ≡ (ltb T P || leb 2 P && some P (λ b. ltb (size T P b) w))
   unfolding isShort
   short-one w =
-      rw (lines-one T, some-same P (λ b. ltb (width T 1 P b) w) (λ b. ltb (size T P b) w)
-      (λ b l. ap (λ (x : ℕ). ltb x w) (omega (arith, before-one b (omega arith), before-one (suc b) l, start-next T P b))))
+      rw (
+        lines-one T,
+        some-same P (λ b. ltb (width T 1 P b) w) (λ b. ltb (size T P b) w)
+            (λ b l. ap (λ (x : ℕ). ltb x w) (omega (arith, before-one b (omega arith), before-one (suc b) l, start-next T P b))),
+      )

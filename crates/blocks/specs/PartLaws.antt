@@ -2,12 +2,12 @@
 use mathlib.Core.Path.{_≡_}
 use mathlib.Core.Logic.{_↔_}
 use mathlib.Core.Bool.{false}
-use Prim.Native.Nat.{ℕ, _+_, _-_, _≤_, _<_}
+use Prim.Native.Nat.{ℕ, suc, _+_, _-_, _≤_, _<_}
 use native.Mathlib.Decide.{ℕ-discrete}
 use native.Mathlib.Omega.{arith}
 use borrow.Author.Tests.{eq-eqb, ne-eqb}
 use Rattle.blocks.specs.Blocks.{edge, blockAt, isShort}
-use Rattle.blocks.specs.BlockLaws.{start-next, short-not}
+use Rattle.blocks.specs.LineLaws.{before-up, short-not}
 use Rattle.blocks.specs.Index.{Fused, Peeled, Gaps}
 use Rattle.blocks.specs.declared.Range.{Range}
 use Rattle.blocks.specs.Parts.{fusedPart, peeledPart}
@@ -56,8 +56,10 @@ module _ (P : ℕ) (E : ℕ → ℕ) (own : Range) (s p i b : ℕ) (proper : b <
           )
 
 -- where ground 11 is not given, its blocks have the gaps
-pub not-short-gaps : (first T P threshold : ℕ) → 0 < P → isShort T P threshold ≡ false → Gaps P (edge first T P) threshold
-not-short-gaps first T P threshold pos e = record {
+pub not-short-gaps : (first T W P threshold : ℕ) → 0 < P → isShort T W P threshold ≡ false → Gaps P (edge first T W P) threshold
+not-short-gaps first T W P threshold pos e = record {
   some = pos;
-  gap = λ b l i. omega (arith, start-next T P b, short-not T P threshold e .1 (omega arith) b);
+  gap = λ b l i.
+      let wide = short-not T W P threshold e .1 (omega arith) b (omega arith) in
+      omega (arith, before-up T W P b (suc b) (omega arith));
 }

@@ -6,7 +6,7 @@ ghost use mathlib.Core.Path.{_≡_};
 ghost use mathlib.Core.Bool.{cond};
 ghost use Prim.Native.Nat.{suc, _+_, _-_, _*_, _/_, _%_, _^_, _≤_, _<_, min, max};
 ghost use lib.Dec.{eqb};
-ghost use Rattle.blocks.specs.Blocks.{start, block, isShort};
+ghost use Rattle.blocks.specs.Blocks.{lines, start, before, block, isShort};
 ghost use Rattle.blocks.specs.Parts.{fusedPart, peeledPart};
 ghost use Rattle.blocks.specs.Code.{partOf};
 
@@ -22,45 +22,64 @@ pub struct Span {
     pub count: u32,
 }
 
-// A plan along one index: the `count` indices from `first` on are cut into `blocks` blocks, and each loop has a shift and a peel.
+// A plan along one index: the `count` indices from `first` on, in lines of `line`, are cut into `blocks` blocks, and each loop has a shift and a peel.
 pub struct Axis {
     pub first: u32,
     pub count: u32,
+    pub line: u32,
     pub blocks: u32,
     pub shifts: [u32; 16],
     pub peels: [u32; 16],
 }
 
-// How many of `count` indices stand before block b of `blocks`.
-fn start_of(count: u32, blocks: u32, b: u32) -> u32
-    requires { ⌜ (0 < blocks) × (b ≤ blocks) ⌝ }
-    ensures { λ r. ⌜ (r ≡ start count blocks b) × (r ≤ count) ⌝ }
+// How many lines `count` indices have, the last one perhaps not full.
+fn lines_of(count: u32, line: u32) -> u32
+    requires { ⌜ (0 < line) × (count + line < 2 ^ 32) ⌝ }
+    ensures { λ r. ⌜ r ≡ lines count line ⌝ }
 {
-    b * (count / blocks) + lesser(b, count % blocks)
+    (count + line - 1) / line
+}
+
+// How many of n lines stand before block b of `blocks`.
+fn start_of(n: u32, blocks: u32, b: u32) -> u32
+    requires { ⌜ (0 < blocks) × (b ≤ blocks) ⌝ }
+    ensures { λ r. ⌜ (r ≡ start n blocks b) × (r ≤ n) ⌝ }
+{
+    b * (n / blocks) + lesser(b, n % blocks)
+}
+
+// How many of `count` indices stand before block b of `blocks`.
+fn before_of(count: u32, line: u32, blocks: u32, b: u32) -> u32
+    requires { ⌜ (0 < line) × (count + line < 2 ^ 32) × (0 < blocks) × (b ≤ blocks) ⌝ }
+    ensures { λ r. ⌜ (r ≡ before count line blocks b) × (r ≤ count) ⌝ }
+{
+    let n = start_of(lines_of(count, line), blocks, b);
+    lesser(line * n, count)
 }
 
 // Block b of `blocks` of the `count` indices from `first` on.
-pub fn block_of(first: u32, count: u32, blocks: u32, b: u32) -> Range
-    requires { ⌜ (b < blocks) × (first + count < 2 ^ 32) ⌝ }
-    ensures { λ r. ⌜ r ≡ block first count blocks b ⌝ }
+pub fn block_of(first: u32, count: u32, line: u32, blocks: u32, b: u32) -> Range
+    requires { ⌜ (b < blocks) × (0 < line) × (first + count + line < 2 ^ 32) ⌝ }
+    ensures { λ r. ⌜ r ≡ block first count line blocks b ⌝ }
 {
     Range {
-        from: first + start_of(count, blocks, b),
-        past: first + start_of(count, blocks, b + 1),
+        from: first + before_of(count, line, blocks, b),
+        past: first + before_of(count, line, blocks, b + 1),
     }
 }
 
 // Ground 11. The last block is the smallest, so it alone is held to the threshold.
-pub fn short(count: u32, blocks: u32, threshold: u32) -> bool
-    ensures { λ r. ⌜ r ≡ isShort count blocks threshold ⌝ }
+pub fn short(count: u32, line: u32, blocks: u32, threshold: u32) -> bool
+    requires { ⌜ (0 < line) × (count + line < 2 ^ 32) ⌝ }
+    ensures { λ r. ⌜ r ≡ isShort count line blocks threshold ⌝ }
 {
-    if count < blocks {
+    if lines_of(count, line) < blocks {
         return true;
     }
     if blocks < 2 {
         return false;
     }
-    count / blocks < threshold
+    count - before_of(count, line, blocks, blocks - 1) < threshold
 }
 
 fn fused_from(own: u32, from: u32, b: u32, peel: u32) -> u32

@@ -25,7 +25,7 @@ use Rattle.plans.specs.Plans.{Settings, thresholdOf, plannedFor}
 use Rattle.plans.specs.Accepted.{threshold-small, named-accepts}
 use Rattle.plans.specs.Code.{plannedIn, Made, Laid, made-laid, named-made}
 use Rattle.ranges.specs.Code.{rangeOf as rangeIn}
-use Rattle.ranges.specs.Listed.{loops-are, few-blocks, span-fits, range-in, listed-small}
+use Rattle.ranges.specs.Listed.{loops-are, few-blocks, cuttable, range-in, listed-small}
 use Rattle.numbers.specs.Pairs.{pairs-length}
 use Rattle.entries.specs.Entries.{amountsOf, blocksOf, pairsOf, loopRange, emptyAsZero, rangesOf}
 use Rattle.entries.specs.Code.{Fitting}
@@ -75,8 +75,8 @@ amounts-size c h l e = pairs-length _ _ _ ∙ ap (λ (n : ℕ). 8 * n) (count-he
 pub blocks-size : (a : Axis) → length (encoded (blocksOf (fusionIn a))) ≡ 8 * a .blocks
 blocks-size a = pairs-length (a .blocks) (fusionIn a .edge) (λ b. fusionIn a .edge (suc b) - 1)
 
-pub blocks-ask : (a : Axis) (c : List ℕ) → Laid a c → (a .blocks ≤ 64) × (a .first + a .count < 2 ^ 31)
-blocks-ask a c h = (few-blocks a c h, omega (arith, span-fits a c h))
+pub blocks-ask : (a : Axis) (c : List ℕ) → Laid a c → (a .blocks ≤ 64) × Cuttable a
+blocks-ask a c h = (few-blocks a c h, cuttable a c h)
 
 -- LISTS of a plan: kept ranges give them
 module _ (a : Axis) (c : List ℕ) (h : Laid a c) (phase b : ℕ) (l : b < a .blocks) where

@@ -13,6 +13,7 @@ use outputs::Outcome;
 use outputs::refused;
 use outputs::short;
 use outputs::written;
+use plans::Settings;
 use ranges::PHASE;
 use records::STORE;
 use records::Store;
@@ -25,13 +26,13 @@ ghost use Rattle.reader.specs.Store.{lastAt, loopsIn, tableIn};
 ghost use Rattle.reader.specs.Held.{Held};
 ghost use Rattle.grounds.specs.Accepted.{Valid};
 ghost use Rattle.blocks.specs.Sums.{column};
-ghost use Rattle.blocks.specs.Blocks.{edge, block};
+ghost use Rattle.blocks.specs.Code.{blockIn, edgeIn, Cuttable};
 ghost use Rattle.lists.specs.Fusion.{fusionIn, work};
 ghost use Rattle.text.specs.Lent.{Put};
 ghost use Rattle.numbers.specs.Numbers.{four, encoded};
 ghost use Rattle.outputs.specs.Given.{fitted};
 ghost use Rattle.outputs.specs.Gives.{Gives};
-ghost use Rattle.plans.specs.Plans.{settings, thresholdOf};
+ghost use Rattle.plans.specs.Plans.{thresholdOf};
 ghost use Rattle.plans.specs.Code.{plannedIn, Laid};
 ghost use Rattle.ranges.specs.Code.{partIn, partAt, listOf};
 ghost use Rattle.ranges.specs.Code.{rangeOf as rangeIn};
@@ -132,17 +133,17 @@ pub fn sweeps(s: &[u8], out: &mut [u8]) -> Outcome
 
 // The first and the last index of block b.
 fn put_block(out: &mut [u8], at: usize, a: Axis, b: u32) -> usize
-    requires { ⌜ (at < 2 ^ 32) × (b < a .blocks) × (a .first + a .count < 2 ^ 31) ⌝ }
-    ensures { λ r. ⌜ Put (now (out .entry)) at (four (edge (a .first) (a .count) (a .blocks) b) ++ four (edge (a .first) (a .count) (a .blocks) (suc b) - 1)) 8 (now (out .exit)) r ⌝ }
+    requires { ⌜ (at < 2 ^ 32) × (b < a .blocks) × Cuttable a ⌝ }
+    ensures { λ r. ⌜ Put (now (out .entry)) at (four (edgeIn a b) ++ four (edgeIn a (suc b) - 1)) 8 (now (out .exit)) r ⌝ }
 {
-    let r = block_in(a.first, a.count, a.blocks, b);
+    let r = block_in(a.first, a.count, a.line, a.blocks, b);
     let last = minus(r.past, 1);
     numbers::put_pair(out, at, r.from, last)
 }
 
 // The first and the last index of each block.
 fn write_blocks(out: &mut [u8], a: Axis) -> usize
-    requires { ⌜ (a .blocks ≤ 64) × (a .first + a .count < 2 ^ 31) ⌝ }
+    requires { ⌜ (a .blocks ≤ 64) × Cuttable a ⌝ }
     ensures { λ r. ⌜ Put (now (out .entry)) 0 (encoded (blocksOf (fusionIn a))) (8 * a .blocks) (now (out .exit)) r ⌝ }
 {
     let mut at: usize = 0;
@@ -156,7 +157,7 @@ fn write_blocks(out: &mut [u8], a: Axis) -> usize
 
 // The blocks, or 13.
 fn give_blocks(out: &mut [u8], a: Axis) -> Outcome
-    requires { ⌜ (a .blocks ≤ 64) × (a .first + a .count < 2 ^ 31) ⌝ }
+    requires { ⌜ (a .blocks ≤ 64) × Cuttable a ⌝ }
     ensures { λ r. ⌜ Gives (fitted (length (now (out .entry))) (encoded (blocksOf (fusionIn a)))) (now (out .entry)) (now (out .exit)) r ⌝ }
 {
     if out.len() < PAIR * wide(a.blocks) {
@@ -167,11 +168,11 @@ fn give_blocks(out: &mut [u8], a: Axis) -> Outcome
 }
 
 // Each block's first and last index.
-pub fn blocks(s: &[u8], processors: u32, out: &mut [u8]) -> Outcome
-    ensures { λ r. ⌜ Gives (blocksGiven (now (s .entry)) (settings processors) (length (now (out .entry)))) (now (out .entry)) (now (out .exit)) r ⌝ }
+pub fn blocks(s: &[u8], w: Settings, out: &mut [u8]) -> Outcome
+    ensures { λ r. ⌜ Gives (blocksGiven (now (s .entry)) w (length (now (out .entry)))) (now (out .entry)) (now (out .exit)) r ⌝ }
 {
     let mut store = [0u32; STORE];
-    let p = plans::plan_table(s, processors, &mut store);
+    let p = plans::plan_table(s, w, &mut store);
     let r = p.refusal;
     if r.ground != 0 {
         return refused(r);
@@ -217,11 +218,11 @@ fn give_list(out: &mut [u8], phase: u32, a: Axis, b: u32, store: &Store) -> Outc
 }
 
 // Loop and iteration of each in processor b's list in a phase: 0 is its fused list, 1 its peeled one.
-pub fn list(s: &[u8], phase: u32, processors: u32, b: u32, out: &mut [u8]) -> Outcome
-    ensures { λ r. ⌜ Gives (listGiven phase (now (s .entry)) (settings processors) b (length (now (out .entry)))) (now (out .entry)) (now (out .exit)) r ⌝ }
+pub fn list(s: &[u8], phase: u32, w: Settings, b: u32, out: &mut [u8]) -> Outcome
+    ensures { λ r. ⌜ Gives (listGiven phase (now (s .entry)) w b (length (now (out .entry)))) (now (out .entry)) (now (out .exit)) r ⌝ }
 {
     let mut store = [0u32; STORE];
-    let p = plans::plan_for(s, processors, b, &mut store);
+    let p = plans::plan_for(s, w, b, &mut store);
     let r = p.refusal;
     if r.ground != 0 {
         return refused(r);
@@ -267,7 +268,7 @@ fn write_ranges(out: &mut [u8], phase: u32, a: Axis, b: u32, store: &Store) -> u
     requires { ⌜ Laid a (now store) × (b < a .blocks) ⌝ }
     ensures { λ r. ⌜ Put (now (out .entry)) 0 (encoded (joined (loopsIn (now (store .entry))) (λ k. emptyAsZero (rangeIn phase a (now (store .entry)) b k) .from ∷ emptyAsZero (rangeIn phase a (now (store .entry)) b k) .past ∷ []))) (8 * loopsIn (now (store .entry))) (now (out .exit)) r ⌝ }
 {
-    let blk = block_in(a.first, a.count, a.blocks, b);
+    let blk = block_in(a.first, a.count, a.line, a.blocks, b);
     let loops = reader::loops_in(store);
     let mut at: usize = 0;
     let mut k: usize = 0;
@@ -292,11 +293,11 @@ fn give_ranges(out: &mut [u8], phase: u32, a: Axis, b: u32, store: &Store) -> Ou
 }
 
 // Of each loop the range that processor b runs in a phase: 0 is before the barrier, 1 past it.
-pub fn ranges(s: &[u8], phase: u32, processors: u32, b: u32, out: &mut [u8]) -> Outcome
-    ensures { λ r. ⌜ Gives (rangesGiven phase (now (s .entry)) (settings processors) b (length (now (out .entry)))) (now (out .entry)) (now (out .exit)) r ⌝ }
+pub fn ranges(s: &[u8], phase: u32, w: Settings, b: u32, out: &mut [u8]) -> Outcome
+    ensures { λ r. ⌜ Gives (rangesGiven phase (now (s .entry)) w b (length (now (out .entry)))) (now (out .entry)) (now (out .exit)) r ⌝ }
 {
     let mut store = [0u32; STORE];
-    let p = plans::plan_for(s, processors, b, &mut store);
+    let p = plans::plan_for(s, w, b, &mut store);
     let r = p.refusal;
     if r.ground != 0 {
         return refused(r);

@@ -45,7 +45,7 @@ pub fn put_ends(a: Axis, store: &Store, ends: &mut Ends)
     let peels = a.peels;
     let mut b: u32 = 0;
     while b < a.blocks {
-        let blk = blocks::block_of(a.first, a.count, a.blocks, b);
+        let blk = blocks::block_of(a.first, a.count, a.line, a.blocks, b);
         put_end(blk, a.blocks, b, &shifts, &peels, store, ends);
         b += 1;
     }

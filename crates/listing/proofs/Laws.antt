@@ -13,7 +13,7 @@ use Rattle.text.specs.Written.{put-none, put-then, put-most}
 use Rattle.blocks.specs.declared.Axis.{Axis}
 use Rattle.blocks.specs.declared.Range.{Range}
 use Rattle.blocks.specs.Sums.{column}
-use Rattle.blocks.specs.Blocks.{block}
+use Rattle.blocks.specs.Code.{blockIn}
 use Rattle.lists.specs.Fusion.{fusionIn}
 use Rattle.plans.specs.Code.{Laid}
 use Rattle.ranges.specs.Code.{rangeOf}
@@ -64,7 +64,7 @@ module _ (a : Axis) (before after : ℕ) where
   abbrev pub lines : ℕ → (ℕ → ℕ → ℕ → Range) → List ℕ
   lines n f =
       each n (λ k. loopLine k (column (a .shifts) k) (column (a .peels) k))
-      ++ each (a .blocks) (λ b. blockLine b (block (a .first) (a .count) (a .blocks) b))
+      ++ each (a .blocks) (λ b. blockLine b (blockIn a b))
       ++ rangeLines (phaseName 0) (a .blocks) n (f 0)
       ++ rangeLines (phaseName 1) (a .blocks) n (f 1)
       ++ sweepsLine before after

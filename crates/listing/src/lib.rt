@@ -10,7 +10,7 @@ use text::put_line_of_two;
 ghost use Prim.Native.Nat.{_+_, _^_, _≤_, _<_};
 ghost use Rattle.reader.specs.Store.{loopsIn, lastAt, tableIn};
 ghost use Rattle.blocks.specs.Sums.{column};
-ghost use Rattle.blocks.specs.Blocks.{block};
+ghost use Rattle.blocks.specs.Code.{blockIn, Cuttable};
 ghost use Rattle.lists.specs.Fusion.{fusionIn};
 ghost use Rattle.text.specs.Lent.{Put, Whole};
 ghost use Rattle.plans.specs.Code.{Laid};
@@ -27,10 +27,10 @@ fn put_loop(out: &mut [u8], at: usize, k: usize, shift: u32, peel: u32) -> usize
 
 // Block b, its first and its last index.
 fn put_block(out: &mut [u8], at: usize, a: Axis, b: u32) -> usize
-    requires { ⌜ (at < 2 ^ 32) × (b < a .blocks) × (a .first + a .count < 2 ^ 31) ⌝ }
-    ensures { λ r. ⌜ Put (now (out .entry)) at (blockLine b (block (a .first) (a .count) (a .blocks) b)) 100 (now (out .exit)) r ⌝ }
+    requires { ⌜ (at < 2 ^ 32) × (b < a .blocks) × Cuttable a ⌝ }
+    ensures { λ r. ⌜ Put (now (out .entry)) at (blockLine b (blockIn a b)) 100 (now (out .exit)) r ⌝ }
 {
-    let r = blocks::block_of(a.first, a.count, a.blocks, b);
+    let r = blocks::block_of(a.first, a.count, a.line, a.blocks, b);
     let last = minus(r.past, 1);
     put_line_of_three(
         out,
@@ -101,7 +101,7 @@ fn put_block_parts(out: &mut [u8], at: usize, phase: u32, a: Axis, b: u32, store
     requires { ⌜ (at < 2 ^ 31) × (b < a .blocks) × Laid a (now store) ⌝ }
     ensures { λ r. ⌜ Put (now (out .entry)) at (each (loopsIn (now (store .entry))) (λ k. rangeLine (phaseName phase) b k (rangeOf phase a (now (store .entry)) b k))) 1600 (now (out .exit)) r ⌝ }
 {
-    let blk = blocks::block_of(a.first, a.count, a.blocks, b);
+    let blk = blocks::block_of(a.first, a.count, a.line, a.blocks, b);
     let loops = reader::loops_in(store);
     let mut next = at;
     let mut k: usize = 0;
@@ -143,8 +143,8 @@ fn put_loops(out: &mut [u8], at: usize, a: Axis, store: &Store) -> usize
 
 // The blocks.
 fn put_blocks(out: &mut [u8], at: usize, a: Axis) -> usize
-    requires { ⌜ (at < 2 ^ 30) × (a .blocks ≤ 64) × (a .first + a .count < 2 ^ 31) ⌝ }
-    ensures { λ r. ⌜ Put (now (out .entry)) at (each (a .blocks) (λ b. blockLine b (block (a .first) (a .count) (a .blocks) b))) 6400 (now (out .exit)) r ⌝ }
+    requires { ⌜ (at < 2 ^ 30) × (a .blocks ≤ 64) × Cuttable a ⌝ }
+    ensures { λ r. ⌜ Put (now (out .entry)) at (each (a .blocks) (λ b. blockLine b (blockIn a b))) 6400 (now (out .exit)) r ⌝ }
 {
     let mut next = at;
     let mut b: u32 = 0;

@@ -9,6 +9,7 @@ use Rattle.blocks.specs.Sums.{column}
 use Rattle.blocks.specs.Span.{tableSpan}
 use Rattle.blocks.specs.Blocks.{blockAt, edge as edgeOf}
 use Rattle.blocks.specs.Parts.{fusedPart, peeledPart}
+use Rattle.blocks.specs.Code.{edgeIn}
 use Rattle.lists.specs.Lists.{bySums, byLoops}
 
 -- a shift and a peel for each loop, and a block for each processor: block b begins at edge b and is past at edge (b + 1)
@@ -48,9 +49,9 @@ module _ (t : Table) (c : Fusion) where
   work zero b = fusedList b
   work (suc n) b = peeledList b
 
--- with the blocks as docs/TABLE.md cuts them: P of the indices from the least first to the greatest last
-abbrev pub fusionOf : Table → ℕ → (ℕ → ℕ) → (ℕ → ℕ) → Fusion
-fusionOf t P s p = record { shift = s; peel = p; processors = P; edge = edgeOf (tableSpan t .first) (tableSpan t .count) P }
+-- with the blocks as docs/TABLE.md cuts them: P of the indices from the least first to the greatest last, on whole lines of W
+abbrev pub fusionOf : Table → ℕ → ℕ → (ℕ → ℕ) → (ℕ → ℕ) → Fusion
+fusionOf t P W s p = record { shift = s; peel = p; processors = P; edge = edgeOf (tableSpan t .first) (tableSpan t .count) W P }
 
 -- the plan that code keeps of one index
 abbrev pub fusionIn : Axis → Fusion
@@ -58,5 +59,5 @@ fusionIn a = record {
   shift = column (a .shifts);
   peel = column (a .peels);
   processors = a .blocks;
-  edge = edgeOf (a .first) (a .count) (a .blocks);
+  edge = edgeIn a;
 }

@@ -171,7 +171,7 @@ module _ (t : Table) (c : Fusion) where
         alone n b x l i m = let (e, f) = work-known n b x l i m in (inside n b x i m, sym e, sym f)
 
 -- where there is a processor and ground 11 is not given, they are wide enough
-pub fusion-wide : (t : Table) (P : ℕ) (s p : ℕ → ℕ) (threshold : ℕ) → ((k : ℕ) → k < count t → s k + p k ≤ threshold) → 0 < P
-    → isShort (tableSpan t .count) P threshold ≡ false → Wide t (fusionOf t P s p)
-fusion-wide t P s p threshold h pos e =
-    wide-by t (fusionOf t P s p) threshold h (not-short-gaps (tableSpan t .first) (tableSpan t .count) P threshold pos e)
+pub fusion-wide : (t : Table) (P W : ℕ) (s p : ℕ → ℕ) (threshold : ℕ) → ((k : ℕ) → k < count t → s k + p k ≤ threshold) → 0 < P
+    → isShort (tableSpan t .count) W P threshold ≡ false → Wide t (fusionOf t P W s p)
+fusion-wide t P W s p threshold h pos e =
+    wide-by t (fusionOf t P W s p) threshold h (not-short-gaps (tableSpan t .first) (tableSpan t .count) W P threshold pos e)

@@ -1,6 +1,5 @@
 -- What is known of an accepted plan. All that stands above the planner needs of a plan is here, however it was found.
-use Prim.Native.Nat.{ℕ, zero, suc, _+_, _*_, _/_, _%_, _≤_, _<_}
-use native.Mathlib.Nat.{mod-lt, div-add-mod, mul-zero}
+use Prim.Native.Nat.{ℕ, suc, _+_, _≤_, _<_}
 use native.Mathlib.Omega.{arith}
 use mathlib.Core.Path.{_≡_, refl, sym, ap, subst, _∙_}
 use mathlib.Core.Bool.{Bool, false, or-false, or-true}
@@ -11,7 +10,7 @@ use Rattle.model.specs.Table.{Table, count, first, last}
 use Rattle.model.specs.References.{allRefs}
 use Rattle.model.specs.Sound.{Sound}
 use Rattle.refusals.specs.Refusals.{met}
-use Rattle.refusals.specs.Answers.{accepted, refused}
+use Rattle.refusals.specs.Answers.{accepted, refused, _if_else_}
 use Rattle.refusals.specs.AnswerLaws.{if-accepted, after-accepted}
 use Rattle.reader.specs.Reading.{Answer}
 use Rattle.serial.specs.Serial.{table}
@@ -27,11 +26,11 @@ use Rattle.chains.specs.ThresholdLaws.{threshold-upper}
 use Rattle.blocks.specs.Span.{tableSpan}
 use Rattle.blocks.specs.SpanLaws.{span-most}
 use Rattle.blocks.specs.SumLaws.{neither}
-use Rattle.blocks.specs.BlockLaws.{start-next, start-up, start-last, size-least, short-not}
+use Rattle.blocks.specs.LineLaws.{before-most, before-rises, short-not}
 use Rattle.lists.specs.Fusion.{Fusion}
 use Rattle.lists.specs.FusionLaws.{Wide, fusion-wide}
 use Rattle.rows.specs.Legal.{Legal}
-use Rattle.plans.specs.Plans.{Settings, Planned, shiftOf, peelOf, thresholdOf, planOf, shortFor, badProcessors, badNumber, fits, fitting, planned, plannedFor}
+use Rattle.plans.specs.Plans.{Settings, Planned, shiftOf, peelOf, thresholdOf, planOf, shortFor, badProcessors, badNumber, badLine, outside, fits, fitting, planned, plannedFor}
 
 -- the table meets none of the grounds 1 to 9; every dependence is kept; the blocks are no smaller than any loop's shift and peel together, and
 -- none is empty; and the bounds that the code's sums need
@@ -45,36 +44,36 @@ pub record Fit (t : Table) (c : Fusion) : Type 0 where
   pub small-peel : (k : ℕ) → c .peel k ≤ 10000
   pub small-edge : (b : ℕ) → b ≤ c .processors → c .edge b ≤ 65791
 
--- THE LAW of an accepted plan: its table was read through 9; none of 10 and 11 holds; the plan is the one of the largest chains; and it fits,
+-- THE LAW of an accepted plan: its table was read through 9; none of 10, 17 and 11 holds; the plan is the one of the largest chains; and it fits,
 -- which is all that is asked of a plan above this crate
 pub record AcceptedPlan (s : List ℕ) (w : Settings) (q : Planned) : Type 0 where
   pub read : table s ≡ accepted (q .table)
   pub not-ten : badProcessors w ≡ false
+  pub not-seventeen : badLine w ≡ false
   pub not-eleven : shortFor (q .table) w ≡ false
   pub plan-is : q .plan ≡ planOf (q .table) w
   pub fit : Fit (q .table) (q .plan)
 
--- where there are no fewer indices than blocks, each block has one
-some-each : (T P : ℕ) → 0 < P → P ≤ T → 0 < T / P
-some-each T P pos l = go (T / P) refl
-  where
-    go : (q : ℕ) → T / P ≡ q → 0 < q
-    go zero e = absurd (omega (arith, mod-lt T pos, ap (λ (x : ℕ). P * x + T % P) (sym e) ∙ div-add-mod T P, mul-zero P))
-    go (suc q) e = omega arith
+-- not outside
+pub in-range : (most n : ℕ) → outside most n ≡ false → (0 < n) × (n ≤ most)
+in-range most n e =
+    let (z, l) = neither (eqb n 0) (ltb most n) e in
+    let some = eqb-false n 0 z in
+    (omega (arith, some), ltb-false most n l)
 
 -- OUR SHIFTS AND PEELS
 module _ (t : Table) (v : Valid t) where
-  in-range : InRange (allRefs t)
-  in-range r m = let (l, i) = allRefs-refs t r m in v .each (r .number) l .near r i
+  near : InRange (allRefs t)
+  near r m = let (l, i) = allRefs-refs t r m in v .each (r .number) l .near r i
 
   pub shift-small : (k : ℕ) → shiftOf t k ≤ 7650
-  shift-small = shifts-bound (graph t) (allRefs-below t (v .few-loops)) in-range
+  shift-small = shifts-bound (graph t) (allRefs-below t (v .few-loops)) near
 
   pub peel-small : (k : ℕ) → peelOf t k ≤ 7650
-  peel-small = peels-bound (graph t) (allRefs-below t (v .few-loops)) in-range
+  peel-small = peels-bound (graph t) (allRefs-below t (v .few-loops)) near
 
   pub threshold-small : thresholdOf t ≤ 15300
-  threshold-small = plan-threshold-bound (graph t) (allRefs-below t (v .few-loops)) in-range
+  threshold-small = plan-threshold-bound (graph t) (allRefs-below t (v .few-loops)) near
 
   -- an accepted table's span ends early
   pub span-small : tableSpan t .first + tableSpan t .count ≤ 65791
@@ -91,54 +90,55 @@ module _ (t : Table) (v : Valid t) where
 
     plan-wide : 0 < w .processors → shortFor t w ≡ false → Wide t (planOf t w)
     plan-wide pos e =
-        fusion-wide t (w .processors) (shiftOf t) (peelOf t) (thresholdOf t)
+        fusion-wide t (w .processors) (w .line) (shiftOf t) (peelOf t) (thresholdOf t)
         (λ k l. threshold-upper (shifts (graph t)) (peels (graph t)) k (omega (arith, v .few-loops))) pos e
 
-    plan-rises : 0 < w .processors → shortFor t w ≡ false → (b : ℕ) → planOf t w .edge b < planOf t w .edge (suc b)
-    plan-rises pos e b =
+    plan-rises : 0 < w .processors → badLine w ≡ false → shortFor t w ≡ false → (b : ℕ) → b < w .processors → planOf t w .edge b < planOf t w .edge (suc b)
+    plan-rises pos m e b l =
         let T = tableSpan t .count in
         let P = w .processors in
-        omega (arith, start-next T P b, size-least T P b, some-each T P pos (short-not T P (thresholdOf t) e .0))
+        omega (arith, before-rises T (w .line) P (in-range 64 (w .line) m .0) pos (short-not T (w .line) P (thresholdOf t) e .0) b l)
 
-    pub plan-fits : Sound t → badProcessors w ≡ false → shortFor t w ≡ false → Fit t (planOf t w)
-    plan-fits sound b e =
-        let (z, m) = neither (eqb (w .processors) 0) (ltb 64 (w .processors)) b in
-        let n = eqb-false (w .processors) 0 z in
-        let pos : 0 < w .processors = omega (arith, n) in
+    pub plan-fits : Sound t → badProcessors w ≡ false → badLine w ≡ false → shortFor t w ≡ false → Fit t (planOf t w)
+    plan-fits sound b f e =
+        let (pos, few) = in-range 64 (w .processors) b in
         record {
           valid = v;
           sound = sound;
           legal = plan-keeps;
           wide = plan-wide pos e;
-          rising = λ b l. plan-rises pos e b;
-          few = ltb-false 64 (w .processors) m;
+          rising = plan-rises pos f e;
+          few = few;
           small-peel = λ k. omega (arith, peel-small k);
-          small-edge = λ b l.
-              omega (arith, start-up (tableSpan t .count) (w .processors) b (w .processors) l, start-last (tableSpan t .count) (w .processors) pos, span-small);
+          small-edge = λ b l. omega (arith, before-most (tableSpan t .count) (w .line) (w .processors) b, span-small);
         }
 
 -- ACCEPTED
 fitting-accepted : (wrong : Bool) (w : Settings) (a : Answer) (q : Planned) → fitting wrong w a ≡ accepted q
-    → (a ≡ accepted (q .table)) × (q .plan ≡ planOf (q .table) w) × (wrong ≡ false) × (shortFor (q .table) w ≡ false)
+    → (a ≡ accepted (q .table)) × (q .plan ≡ planOf (q .table) w) × (wrong ≡ false) × (badLine w ≡ false) × (shortFor (q .table) w ≡ false)
 unfolding fitting
 fitting-accepted wrong w a q e =
     let (t, f, g) = after-accepted a _ q e in
-    let (b, h) = if-accepted (met 10 0) wrong (fits w t) q g in
-    let (short, k) = if-accepted (met 11 0) (shortFor t w) (accepted (record { table = t; plan = planOf t w })) q h in
+    let (b, h) = if-accepted (met 10 0) wrong (refused (met 17 0) if badLine w else fits w t) q g in
+    let (m, i) = if-accepted (met 17 0) (badLine w) (fits w t) q h in
+    let (short, k) = if-accepted (met 11 0) (shortFor t w) (accepted (record { table = t; plan = planOf t w })) q i in
     let z : record { table = t; plan = planOf t w } ≡ q = cc in
-    subst (λ (x : Planned). (a ≡ accepted (x .table)) × (x .plan ≡ planOf (x .table) w) × (wrong ≡ false) × (shortFor (x .table) w ≡ false)) z
-    (f, refl, b, short)
+    subst
+    (λ (x : Planned).
+    (a ≡ accepted (x .table)) × (x .plan ≡ planOf (x .table) w) × (wrong ≡ false) × (badLine w ≡ false) × (shortFor (x .table) w ≡ false))
+    z (f, refl, b, m, short)
 
 pub planned-accepts : (s : List ℕ) (w : Settings) (q : Planned) → planned s w ≡ accepted q → AcceptedPlan s w q
 unfolding planned
 planned-accepts s w q e =
-    let (r, f, b, short) = fitting-accepted (badProcessors w) w (table s) q e in
+    let (r, f, b, m, short) = fitting-accepted (badProcessors w) w (table s) q e in
     record {
       read = r;
       not-ten = b;
+      not-seventeen = m;
       not-eleven = short;
       plan-is = f;
-      fit = rw f (plan-fits (q .table) (valid s (q .table) r) w (accepted-sound s (q .table) r) b short);
+      fit = rw f (plan-fits (q .table) (valid s (q .table) r) w (accepted-sound s (q .table) r) b m short);
     }
 
 -- it is for as many processors as were asked for
@@ -164,8 +164,8 @@ named-past s w b q e l =
 pub named-accepts : (s : List ℕ) (w : Settings) (b : ℕ) (q : Planned) → plannedFor s w b ≡ accepted q → (planned s w ≡ accepted q) × (b < q .plan .processors)
 unfolding plannedFor
 named-accepts s w b q e =
-    let (r, f, z, short) = fitting-accepted (badNumber w b) w (table s) q e in
-    let (x, m) = neither (badProcessors w) (leb (w .processors) b) z in
-    let l : b < w .processors = leb-false (w .processors) b m in
+    let (r, f, z, m, short) = fitting-accepted (badNumber w b) w (table s) q e in
+    let (x, y) = neither (badProcessors w) (leb (w .processors) b) z in
+    let l : b < w .processors = leb-false (w .processors) b y in
     let is = sym (named-same s w b l) ∙ e in
     (is, omega (arith, counted s w q is))

@@ -1,5 +1,5 @@
 -- What the planner's code leaves: what it tells of an answer, and the plan along one index beside the table in the store.
-use Prim.Native.Nat.{ℕ}
+use Prim.Native.Nat.{ℕ, _≤_, _<_}
 use mathlib.Core.Path.{_≡_}
 use mathlib.Core.List.{List}
 use lib.ListN.{length, replicate}
@@ -17,12 +17,18 @@ use Rattle.plans.specs.Accepted.{Fit, planned-accepts, named-accepts}
 abbrev pub plannedIn : Axis → List ℕ → Planned
 plannedIn a c = record { table = tableIn c; plan = fusionIn a }
 
+-- what code keeps of a plan along one index: both columns are sixteen long, and a line has 1 to 64 indices
+pub record Kept (a : Axis) : Type 0 where
+  pub shifts-long : length (a .shifts) ≡ 16
+  pub peels-long : length (a .peels) ≡ 16
+  pub some-line : 0 < a .line
+  pub short-line : a .line ≤ 64
+
 -- where nothing is refused
 pub record Made (a : AnswerOf Planned) (r : Plan) (c : List ℕ) : Type 0 where
   pub is : a ≡ accepted (plannedIn (r .axis) c)
   pub held : Held c
-  pub shifts-long : length (r .axis .shifts) ≡ 16
-  pub peels-long : length (r .axis .peels) ≡ 16
+  pub kept : Kept (r .axis)
 
 -- a plan tells the answer a
 pub record Plans (a : AnswerOf Planned) (r : Plan) (c : List ℕ) : Type 0 where
@@ -31,21 +37,19 @@ pub record Plans (a : AnswerOf Planned) (r : Plan) (c : List ℕ) : Type 0 where
 
 -- a refusal has no plan
 abbrev pub refusing : Refusal → Plan
-refusing r = record { refusal = r; axis = record { first = 0; count = 0; blocks = 0; shifts = replicate 16 0; peels = replicate 16 0 } }
+refusing r = record { refusal = r; axis = record { first = 0; count = 0; line = 0; blocks = 0; shifts = replicate 16 0; peels = replicate 16 0 } }
 
 -- WHAT CODE IS LENT of an accepted plan: the plan along an index, and the table in the store
 pub record Laid (a : Axis) (c : List ℕ) : Type 0 where
   pub held : Held c
   pub fit : Fit (tableIn c) (fusionIn a)
-  pub shifts-long : length (a .shifts) ≡ 16
-  pub peels-long : length (a .peels) ≡ 16
+  pub kept : Kept a
 
 pub made-laid : (s : List ℕ) (w : Settings) (r : Plan) (c : List ℕ) → Made (planned s w) r c → Laid (r .axis) c
 made-laid s w r c m = record {
   held = m .held;
   fit = planned-accepts s w (plannedIn (r .axis) c) (m .is) .fit;
-  shifts-long = m .shifts-long;
-  peels-long = m .peels-long;
+  kept = m .kept;
 }
 
 -- a call that names a processor is the same call, for a processor below P
@@ -53,6 +57,5 @@ pub named-made : (s : List ℕ) (w : Settings) (b : ℕ) (r : Plan) (c : List �
 named-made s w b r c m = record {
   is = named-accepts s w b (plannedIn (r .axis) c) (m .is) .0;
   held = m .held;
-  shifts-long = m .shifts-long;
-  peels-long = m .peels-long;
+  kept = m .kept;
 }

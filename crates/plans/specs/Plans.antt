@@ -1,4 +1,4 @@
--- The plan of a table: a shift and a peel for each loop, and for P processors the blocks and lists that follow. Grounds 10 and 11.
+-- The plan of a table: a shift and a peel for each loop, and for P processors the blocks and lists that follow. Grounds 10, 17 and 11.
 use Prim.Native.Nat.{ℕ}
 use mathlib.Core.Bool.{Bool, _||_}
 use mathlib.Core.List.{List}
@@ -15,13 +15,11 @@ use Rattle.chains.specs.Threshold.{threshold}
 use Rattle.blocks.specs.Span.{tableSpan}
 use Rattle.blocks.specs.Blocks.{isShort}
 use Rattle.lists.specs.Fusion.{Fusion, fusionOf}
+-- what settles the lists beside the table: the count of processors P, and the length W of a line
+pub use Rattle.plans.specs.declared.Settings.{Settings}
 
--- what settles the lists beside the table: the count of processors
-pub record Settings : Type 0 where
-  pub processors : ℕ
-
-abbrev pub settings : ℕ → Settings
-settings P = record { processors = P }
+abbrev pub settings : ℕ → ℕ → Settings
+settings P W = record { processors = P; line = W }
 
 -- a table with its plan: shifts, peels, blocks and the count of processors, and so the lists of each phase (lists' Fusion)
 pub record Planned : Type 0 where
@@ -40,27 +38,35 @@ module _ (t : Table) where
   thresholdOf = threshold (shifts (graph t)) (peels (graph t))
 
   abbrev pub planOf : Settings → Fusion
-  planOf w = fusionOf t (w .processors) shiftOf peelOf
+  planOf w = fusionOf t (w .processors) (w .line) shiftOf peelOf
 
   -- 11, of an accepted table
   abbrev pub shortFor : Settings → Bool
-  shortFor w = isShort (tableSpan t .count) (w .processors) thresholdOf
+  shortFor w = isShort (tableSpan t .count) (w .line) (w .processors) thresholdOf
+
+-- outside 1 to the most
+abbrev pub outside : ℕ → ℕ → Bool
+outside most n = eqb n 0 || ltb most n
 
 -- 10: P outside 1 to 64
 abbrev pub badProcessors : Settings → Bool
-badProcessors w = eqb (w .processors) 0 || ltb 64 (w .processors)
+badProcessors w = outside 64 (w .processors)
 
 -- where a call names a processor, 10 is asked of P and then of that number, which must be below P
 abbrev pub badNumber : Settings → ℕ → Bool
 badNumber w b = badProcessors w || leb (w .processors) b
 
+-- 17: W outside 1 to 64
+abbrev pub badLine : Settings → Bool
+badLine w = outside 64 (w .line)
+
 -- 11, or the table with its plan
 abbrev pub fits : Settings → Table → AnswerOf Planned
 fits w t = refused (met 11 0) if shortFor t w else accepted (record { table = t; plan = planOf t w })
 
--- after 1 to 9: 10 where the processors are wrong, then 11
+-- after 1 to 9: 10 where the processors are wrong, then 17, then 11
 unfoldable pub fitting : Bool → Settings → Answer → AnswerOf Planned
-fitting wrong w a = after a (λ t. refused (met 10 0) if wrong else fits w t)
+fitting wrong w a = after a (λ t. refused (met 10 0) if wrong else (refused (met 17 0) if badLine w else fits w t))
 
 unfoldable pub planned : List ℕ → Settings → AnswerOf Planned
 planned s w = fitting (badProcessors w) w (table s)

@@ -1,26 +1,38 @@
-// The plan of a table: read through 9, its shifts and peels; and for a number of processors, grounds 10 and 11.
+// The plan of a table: read through 9, its shifts and peels; and for a number of processors and a line's length, grounds 10, 17 and 11.
 use arithmetic::greater;
 use arithmetic::lesser;
 use arithmetic::minus;
 use blocks::Axis;
 use blocks::Span;
 use records::Store;
+use refusals::LINE;
 use refusals::PROCESSORS;
 use refusals::Refusal;
 use refusals::SHORT;
 ghost use mathlib.Core.Path.{_≡_};
+ghost use mathlib.Core.Bool.{false};
 ghost use Prim.Native.Nat.{_<_};
 ghost use Rattle.reader.specs.Store.{Sized, tableIn};
 ghost use Rattle.reader.specs.Held.{Held};
 ghost use Rattle.serial.specs.Serial.{table};
 ghost use Rattle.grounds.specs.Accepted.{Valid};
 ghost use Rattle.blocks.specs.Span.{tableSpan};
-ghost use Rattle.plans.specs.Plans.{settings, badProcessors, badNumber, fits, fitting, planned, plannedFor};
+ghost use Rattle.plans.specs.Plans as plans;
+ghost use Rattle.plans.specs.Plans.{badProcessors, badNumber, badLine, fits, fitting, planned, plannedFor};
 ghost use Rattle.plans.specs.Code.{Plans, refusing};
 
 const MOST_PROCESSORS: u32 = 64;
 
-// The plan for a number of processors: what is refused; and where nothing is, the plan along the index, for the table in the store.
+const LONGEST_LINE: u32 = 64;
+
+// What settles the lists beside the table: the count of processors, and how many indices a line has. The exported functions take it as it stands.
+#[repr(C)]
+pub struct Settings {
+    pub processors: u32,
+    pub line: u32,
+}
+
+// The plan: what is refused; and where nothing is, the plan along the index, for the table in the store.
 pub struct Plan {
     pub refusal: Refusal,
     pub axis: Axis,
@@ -34,6 +46,7 @@ fn refused(r: Refusal) -> Plan
         axis: Axis {
             first: 0,
             count: 0,
+            line: 0,
             blocks: 0,
             shifts: [0u32; 16],
             peels: [0u32; 16],
@@ -41,24 +54,38 @@ fn refused(r: Refusal) -> Plan
     }
 }
 
-// Ground 10: P outside 1 to 64.
-fn bad_processors(processors: u32) -> bool
-    ensures { λ r. ⌜ r ≡ badProcessors (settings processors) ⌝ }
+// Whether a number is outside 1 to the most.
+fn outside(most: u32, n: u32) -> bool
+    ensures { λ r. ⌜ r ≡ plans.outside most n ⌝ }
 {
-    if processors == 0 {
+    if n == 0 {
         return true;
     }
-    MOST_PROCESSORS < processors
+    most < n
+}
+
+// Ground 10: P outside 1 to 64.
+fn bad_processors(w: Settings) -> bool
+    ensures { λ r. ⌜ r ≡ badProcessors w ⌝ }
+{
+    outside(MOST_PROCESSORS, w.processors)
 }
 
 // Ground 10 where a processor is named: it must be below P.
-fn bad_number(processors: u32, processor: u32) -> bool
-    ensures { λ r. ⌜ r ≡ badNumber (settings processors) processor ⌝ }
+fn bad_number(w: Settings, processor: u32) -> bool
+    ensures { λ r. ⌜ r ≡ badNumber w processor ⌝ }
 {
-    if bad_processors(processors) {
+    if bad_processors(w) {
         return true;
     }
-    processors <= processor
+    w.processors <= processor
+}
+
+// Ground 17: W outside 1 to 64.
+fn bad_line(w: Settings) -> bool
+    ensures { λ r. ⌜ r ≡ badLine w ⌝ }
+{
+    outside(LONGEST_LINE, w.line)
 }
 
 // The indices that the loops run over: the least first, and how many up to the greatest last.
@@ -82,14 +109,14 @@ fn span_of(store: &Store) -> Span
 }
 
 // The plan of the table in a store, or 11.
-fn plan_read(processors: u32, store: &Store) -> Plan
-    requires { ⌜ Held (now store) × Valid (tableIn (now store)) ⌝ }
-    ensures { λ r. ⌜ Plans (fits (settings processors) (tableIn (now (store .entry)))) r (now (store .entry)) ⌝ }
+fn plan_read(w: Settings, store: &Store) -> Plan
+    requires { ⌜ Held (now store) × Valid (tableIn (now store)) × (badLine w ≡ false) ⌝ }
+    ensures { λ r. ⌜ Plans (fits w (tableIn (now (store .entry)))) r (now (store .entry)) ⌝ }
 {
     let found = amounts::amounts_of(store);
     let span = span_of(store);
     let threshold = amounts::threshold_of(found) as u32;
-    if blocks::short(span.count, processors, threshold) {
+    if blocks::short(span.count, w.line, w.processors, threshold) {
         return refused(Refusal::met(SHORT, 0));
     }
     let shifts = found.shifts;
@@ -100,17 +127,18 @@ fn plan_read(processors: u32, store: &Store) -> Plan
         axis: Axis {
             first: span.first,
             count: span.count,
-            blocks: processors,
+            line: w.line,
+            blocks: w.processors,
             shifts,
             peels,
         },
     }
 }
 
-// The plan of a table for a number of processors, if that is not wrong; the store is lent.
-fn plan_unless(s: &[u8], wrong: bool, processors: u32, store: &mut Store) -> Plan
+// The plan of a table for what settles the lists, if the processors are not wrong; the store is lent.
+fn plan_unless(s: &[u8], wrong: bool, w: Settings, store: &mut Store) -> Plan
     requires { ⌜ Sized (now store) ⌝ }
-    ensures { λ r. ⌜ Plans (fitting wrong (settings processors) (table (now (s .entry)))) r (now (store .exit)) ⌝ }
+    ensures { λ r. ⌜ Plans (fitting wrong w (table (now (s .entry)))) r (now (store .exit)) ⌝ }
 {
     let r = serial::read_through(s, store);
     if r.ground != 0 {
@@ -119,23 +147,26 @@ fn plan_unless(s: &[u8], wrong: bool, processors: u32, store: &mut Store) -> Pla
     if wrong {
         return refused(Refusal::met(PROCESSORS, 0));
     }
-    plan_read(processors, store)
+    if bad_line(w) {
+        return refused(Refusal::met(LINE, 0));
+    }
+    plan_read(w, store)
 }
 
-// The plan of a table for a number of processors; the store is lent.
-pub fn plan_table(s: &[u8], processors: u32, store: &mut Store) -> Plan
+// The plan of a table for what settles the lists; the store is lent.
+pub fn plan_table(s: &[u8], w: Settings, store: &mut Store) -> Plan
     requires { ⌜ Sized (now store) ⌝ }
-    ensures { λ r. ⌜ Plans (planned (now (s .entry)) (settings processors)) r (now (store .exit)) ⌝ }
+    ensures { λ r. ⌜ Plans (planned (now (s .entry)) w) r (now (store .exit)) ⌝ }
 {
-    let wrong = bad_processors(processors);
-    plan_unless(s, wrong, processors, store)
+    let wrong = bad_processors(w);
+    plan_unless(s, wrong, w, store)
 }
 
 // The same for a call that names a processor.
-pub fn plan_for(s: &[u8], processors: u32, processor: u32, store: &mut Store) -> Plan
+pub fn plan_for(s: &[u8], w: Settings, processor: u32, store: &mut Store) -> Plan
     requires { ⌜ Sized (now store) ⌝ }
-    ensures { λ r. ⌜ Plans (plannedFor (now (s .entry)) (settings processors) processor) r (now (store .exit)) ⌝ }
+    ensures { λ r. ⌜ Plans (plannedFor (now (s .entry)) w processor) r (now (store .exit)) ⌝ }
 {
-    let wrong = bad_number(processors, processor);
-    plan_unless(s, wrong, processors, store)
+    let wrong = bad_number(w, processor);
+    plan_unless(s, wrong, w, store)
 }

@@ -2,6 +2,7 @@
 use arithmetic::wide;
 use blocks::Axis;
 use outputs::Outcome;
+use plans::Settings;
 use records::STORE;
 use records::Store;
 ghost use Prim.Native.Nat.{_≤_};
@@ -27,12 +28,12 @@ fn print_lines(out: &mut [u8], a: Axis, store: &Store) -> Outcome
     outputs::written(total)
 }
 
-// The listing of a table's plan for a number of processors.
-pub fn print_listing(s: &[u8], processors: u32, out: &mut [u8]) -> Outcome
-    ensures { λ r. ⌜ Gives (listingGiven (now (s .entry)) (settings processors) (length (now (out .entry)))) (now (out .entry)) (now (out .exit)) r ⌝ }
+// The listing of a table's plan.
+pub fn print_listing(s: &[u8], w: Settings, out: &mut [u8]) -> Outcome
+    ensures { λ r. ⌜ Gives (listingGiven (now (s .entry)) w (length (now (out .entry)))) (now (out .entry)) (now (out .exit)) r ⌝ }
 {
     let mut store = [0u32; STORE];
-    let p = plans::plan_table(s, processors, &mut store);
+    let p = plans::plan_table(s, w, &mut store);
     let r = p.refusal;
     if r.ground != 0 {
         return outputs::refused(r);
@@ -53,15 +54,29 @@ fn print_refusal(out: &mut [u8], ground: usize, place: usize) -> Outcome
     outputs::written(size)
 }
 
-// What the program prints: the listing, or the line of a refusal.
-pub fn print_plan(s: &[u8], processors: u32, out: &mut [u8]) -> Outcome
-    ensures { λ r. ⌜ Prints (text (now (s .entry)) (settings processors)) (now (out .entry)) (now (out .exit)) r ⌝ }
+// The listing, or the line of a refusal in its stead.
+fn print_text(s: &[u8], w: Settings, out: &mut [u8]) -> Outcome
+    ensures { λ r. ⌜ Prints (text (now (s .entry)) w) (now (out .entry)) (now (out .exit)) r ⌝ }
 {
     let mut store = [0u32; STORE];
-    let p = plans::plan_table(s, processors, &mut store);
+    let p = plans::plan_table(s, w, &mut store);
     let r = p.refusal;
     if r.ground != 0 {
         return print_refusal(out, wide(r.ground), r.place);
     }
     print_lines(out, p.axis, &store)
+}
+
+// What the program prints for a number of processors: lines have one index.
+pub fn print_plan(s: &[u8], processors: u32, out: &mut [u8]) -> Outcome
+    ensures { λ r. ⌜ Prints (text (now (s .entry)) (settings processors 1)) (now (out .entry)) (now (out .exit)) r ⌝ }
+{
+    print_text(
+        s,
+        Settings {
+            processors,
+            line: 1,
+        },
+        out,
+    )
 }

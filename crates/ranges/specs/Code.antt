@@ -11,8 +11,7 @@ use Rattle.blocks.specs.declared.Part.{Part}
 use Rattle.blocks.specs.declared.Part.the-variants.{Fused, Peeled}
 use Rattle.blocks.specs.declared.Range.{Range}
 use Rattle.blocks.specs.Sums.{column}
-use Rattle.blocks.specs.Blocks.{block}
-use Rattle.blocks.specs.Code.{partOf}
+use Rattle.blocks.specs.Code.{partOf, blockIn}
 use Rattle.lists.specs.Lists.{fusedColumns, peeledColumns}
 use Rattle.lists.specs.Fusion.{fusionIn, work}
 use Rattle.ranges.specs.declared.Lengths.{Lengths}
@@ -29,12 +28,12 @@ partAt part a c blk b k =
 
 -- in phase n, of block b
 abbrev pub rangeOf : ℕ → Axis → List ℕ → ℕ → ℕ → Range
-rangeOf n a c b k = partAt (partIn n) a c (block (a .first) (a .count) (a .blocks) b) b k
+rangeOf n a c b k = partAt (partIn n) a c (blockIn a b) b k
 
 -- the numbers that a block's ranges depend on, taken apart, are those of the plan in a: block b, its shifts and its peels
 pub record Along (a : Axis) (blk : Range) (blocks b : ℕ) (shifts peels : List ℕ) : Type 0 where
   pub blocks-are : blocks ≡ a .blocks
-  pub block-is : blk ≡ block (a .first) (a .count) (a .blocks) b
+  pub block-is : blk ≡ blockIn a b
   pub shifts-are : shifts ≡ a .shifts
   pub peels-are : peels ≡ a .peels
 

@@ -22,10 +22,9 @@ use Rattle.blocks.specs.declared.Part.the-variants.{Fused, Peeled}
 use Rattle.blocks.specs.declared.Range.{Range}
 use Rattle.blocks.specs.Sums.{column}
 use Rattle.blocks.specs.SumLaws.{total-same}
-use Rattle.blocks.specs.Blocks.{block}
-use Rattle.blocks.specs.BlockLaws.{start-last}
+use Rattle.blocks.specs.LineLaws.{before-last}
 use Rattle.blocks.specs.Parts.{fusedPart, peeledPart}
-use Rattle.blocks.specs.Code.{partOf}
+use Rattle.blocks.specs.Code.{partOf, blockIn, Cuttable}
 use Rattle.lists.specs.Lists.{ranges}
 use Rattle.lists.specs.BelowLaws.{indicesIn, by-sums-length, by-loops-length}
 use Rattle.lists.specs.Fusion.{fusionIn, fusedRange, peeledRange, work}
@@ -48,16 +47,21 @@ module _ (a : Axis) (c : List ℕ) (h : Laid a c) where
   pub few-blocks : a .blocks ≤ 64
   few-blocks = h .fit .few
 
-  -- the indices end early
-  pub span-fits : a .first + a .count ≤ 65791
-  span-fits = omega (arith, start-last (a .count) (a .blocks) some-blocks, h .fit .small-edge (a .blocks) (omega arith))
+  -- the indices end early, and a line is short
+  pub cuttable : Cuttable a
+  cuttable =
+      let some = h .kept .some-line in
+      (some, omega (arith, before-last (a .count) (a .line) (a .blocks) some some-blocks, h .fit .small-edge (a .blocks) (omega arith), h .kept .short-line))
+
+  pub block-asks : (b : ℕ) → b < a .blocks → (b < a .blocks) × (0 < a .line) × (a .first + a .count + a .line < 2 ^ 32)
+  block-asks b l = let (some, fits) = cuttable in (l, some, omega arith)
 
   pub last-fits : (k : ℕ) → k < loopsIn c → lastAt c k ≤ 65790
   last-fits k l =
       let i : k < count (tableIn c) = omega (arith, loops-are) in omega (arith, last-held (h .held) k i, valid-last (tableIn c) (h .fit .valid) k i)
 
   -- what a part's code asks of the loop and the block
-  pub part-asks : (b k : ℕ) (r : Range) → b < a .blocks → k < loopsIn c → r ≡ block (a .first) (a .count) (a .blocks) b
+  pub part-asks : (b k : ℕ) (r : Range) → b < a .blocks → k < loopsIn c → r ≡ blockIn a b
       → (k < 16) × (b < a .blocks) × (lastAt c k < 2 ^ 31) × (r .from + column (a .peels) k < 2 ^ 32) × (r .past + column (a .peels) k < 2 ^ 32)
   part-asks b k r l i e = (
     omega (arith, few-loops),
@@ -89,7 +93,7 @@ module _ (a : Axis) (c : List ℕ) (h : Laid a c) where
         arith,
         last-fits k l,
         part-past (partIn n) (record { from = firstAt c k; past = suc (lastAt c k) })
-            (block (a .first) (a .count) (a .blocks) b) b (column (a .shifts) k) (column (a .peels) k),
+            (blockIn a b) b (column (a .shifts) k) (column (a .peels) k),
       )
 
   -- THE RANGES ARE THE PLAN'S

@@ -115,7 +115,7 @@ pub fn put_list(phase: u32, a: Axis, b: u32, store: &Store, lists: &mut [u32], a
     ensures { λ r. ⌜ RangesKept (now (lists .exit)) at (loopsIn (now (store .entry))) (rangeOf phase a (now (store .entry)) b) (column (a .shifts)) ⌝ }
     ensures { λ r. ⌜ Apart (now (lists .entry)) (now (lists .exit)) at (at + 48) ⌝ }
 {
-    let blk = blocks::block_of(a.first, a.count, a.blocks, b);
+    let blk = blocks::block_of(a.first, a.count, a.line, a.blocks, b);
     let part = part_in(phase);
     let shifts = a.shifts;
     let peels = a.peels;

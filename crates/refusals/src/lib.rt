@@ -33,6 +33,8 @@ pub const UNLIKE: u32 = 14;
 
 pub const STATE: u32 = 15;
 
+pub const LINE: u32 = 17;
+
 // The ground's number, 0 where nothing is refused; the place; and what is named, two numbers: of 9 the read, and 0; else 0 and 0.
 pub struct Refusal {
     pub ground: u32,

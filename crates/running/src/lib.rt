@@ -5,6 +5,7 @@ use barriers::Ends;
 use blocks::Axis;
 use layouts::ALL_LISTS;
 use layouts::LISTS;
+use plans::Settings;
 use ranges::PHASES;
 use records::STORE;
 use records::Store;
@@ -23,7 +24,7 @@ ghost use Rattle.iterations.specs.Memory.{elementTotal};
 ghost use Rattle.turns.specs.Turn.{Work};
 ghost use Rattle.turns.specs.Row.{closing, memoryAfter};
 ghost use Rattle.turns.specs.Reachable.{Reachable};
-ghost use Rattle.plans.specs.Plans.{Settings, settings, planned};
+ghost use Rattle.plans.specs.Plans.{Settings, planned};
 ghost use Rattle.plans.specs.Code.{Laid, plannedIn};
 ghost use Rattle.running.specs.Code.{Step, Calling, Ordered, Rowed};
 ghost use Rattle.running.specs.Idle.{idling};
@@ -159,11 +160,11 @@ fn run_planned(a: Axis, order: &[u8], store: &Store, memory: &mut [f64]) -> Ran
 }
 
 // The run of a table in a caller's order, whose bytes name processors.
-pub fn run(s: &[u8], processors: u32, order: &[u8], memory: &mut [f64]) -> Ran
-    ensures { λ r. ⌜ Runs (now (s .entry)) (settings processors) (now (order .entry)) (now (memory .entry)) r (now (memory .exit)) ⌝ }
+pub fn run(s: &[u8], w: Settings, order: &[u8], memory: &mut [f64]) -> Ran
+    ensures { λ r. ⌜ Runs (now (s .entry)) w (now (order .entry)) (now (memory .entry)) r (now (memory .exit)) ⌝ }
 {
     let mut store = [0u32; STORE];
-    let p = plans::plan_table(s, processors, &mut store);
+    let p = plans::plan_table(s, w, &mut store);
     let r = p.refusal;
     if r.ground != 0 {
         return Ran {

@@ -4,6 +4,7 @@ use barriers::ENDS;
 use barriers::Ends;
 use blocks::Axis;
 use layouts::LISTS;
+use plans::Settings;
 use ranges::PHASE;
 use ranges::PHASES;
 use records::STORE;
@@ -23,7 +24,6 @@ ghost use Rattle.reader.specs.Store.{tableIn};
 ghost use Rattle.iterations.specs.Memory.{elementTotal, remembered};
 ghost use Rattle.turns.specs.Turn as turns;
 ghost use Rattle.turns.specs.Turn.{Work};
-ghost use Rattle.plans.specs.Plans.{settings};
 ghost use Rattle.plans.specs.Code.{Laid, plannedIn};
 ghost use Rattle.stepping.specs.Step.{reportOf, elements, steppedBy, step};
 ghost use Rattle.steps.specs.Lent.{Phased, Listed, Lent};
@@ -135,11 +135,11 @@ impl Counts {
     }
 
     // One step of a processor.
-    pub fn step(self, s: &[u8], processors: u32, processor: u32, memory: &mut [f64]) -> Stepped
-        ensures { λ r. ⌜ Leaves (step (now (s .entry)) (settings processors) processor (self .done) (now (memory .entry))) (r .counts .done) (now (memory .exit)) (r .report) ⌝ }
+    pub fn step(self, s: &[u8], w: Settings, processor: u32, memory: &mut [f64]) -> Stepped
+        ensures { λ r. ⌜ Leaves (step (now (s .entry)) w processor (self .done) (now (memory .entry))) (r .counts .done) (now (memory .exit)) (r .report) ⌝ }
     {
         let mut store = [0u32; STORE];
-        let p = plans::plan_for(s, processors, processor, &mut store);
+        let p = plans::plan_for(s, w, processor, &mut store);
         let r = p.refusal;
         if r.ground != 0 {
             return self.refused(r);

@@ -13,7 +13,7 @@ mul-lesser c =
     let a = c .before .before .args in
     let p = c .before .before .pre in
     let e : c .start-of .result ≡ start (lines (a .count) (a .line)) (a .blocks) (a .b) =
-        c .start-of .ensures .0 ∙ ap (λ (n : ℕ). start n (a .blocks) (a .b)) (c .before .lines-of .ensures) in
+    c .start-of .ensures .0 ∙ ap (λ (n : ℕ). start n (a .blocks) (a .b)) (c .before .lines-of .ensures) in
     let f = ap (λ (n : ℕ). a .line * n) e in
     omega (arith, lines-fit (a .count) (a .line) (a .blocks) (a .b) (p .0) (p .2) (p .3))
 
@@ -22,7 +22,7 @@ returns c =
     let a = c .before .before .before .args in
     let x = c .before .start-of in
     let e : x .result ≡ start (lines (a .count) (a .line)) (a .blocks) (a .b) =
-        x .ensures .0 ∙ ap (λ (n : ℕ). start n (a .blocks) (a .b)) (c .before .before .lines-of .ensures) in
+    x .ensures .0 ∙ ap (λ (n : ℕ). start n (a .blocks) (a .b)) (c .before .before .lines-of .ensures) in
     let f = c .lesser .ensures ∙ ap (λ (n : ℕ). min (a .line * n) (a .count)) e ∙ before-at (a .count) (a .line) (a .blocks) (a .b) in
     (f, omega (arith, f, before-most (a .count) (a .line) (a .blocks) (a .b)))
 

@@ -5,7 +5,7 @@ use Rattle.blocks.proofs.block_of.Statement.{statement}
 use Rattle.blocks.proofs.block_of.Tie as tie
 
 returns : tie.Need-returns
-returns c = rw (c .before .start-of .ensures .0, c .start-of2 .ensures .0, add-one)
+returns c = rw (c .before .before-of .ensures .0, c .before-of2 .ensures .0, add-one)
 
 pub block-of-spec : {M : Type 1} → statement M
 block-of-spec =

@@ -1,4 +1,4 @@
--- `blocks::start_of` meets its contract: each block before b has T / P indices, and the first (T mod P) have one more. Assumes nothing.
+-- `blocks::start_of` meets its contract: each block before b has n / P lines, and the first (n mod P) have one more. Assumes nothing.
 use native.Mathlib.Omega.{arith}
 use Rattle.blocks.specs.BlockLaws.{start-fits, start-at}
 use borrow.Author.Needs.{needs}
@@ -9,19 +9,19 @@ mul-result : tie.Need-mul-result
 mul-result c =
     let a = c .args in
     let p = c .pre in
-    omega (arith, start-fits (a .count) (a .blocks) (a .b) (p .1) (p .0))
+    omega (arith, start-fits (a .n) (a .blocks) (a .b) (p .1) (p .0))
 
 add-result : tie.Need-add-result
 add-result c =
     let a = c .before .args in
     let p = c .before .pre in
-    omega (arith, start-fits (a .count) (a .blocks) (a .b) (p .1) (p .0))
+    omega (arith, start-fits (a .n) (a .blocks) (a .b) (p .1) (p .0))
 
 returns : tie.Need-returns
 returns c =
     let a = c .before .args in
     let p = c .before .pre in
-    (omega (arith, start-at (a .count) (a .blocks) (a .b)), omega (arith, start-fits (a .count) (a .blocks) (a .b) (p .1) (p .0)))
+    (omega (arith, start-at (a .n) (a .blocks) (a .b)), omega (arith, start-fits (a .n) (a .blocks) (a .b) (p .1) (p .0)))
 
 pub start-of-spec : {M : Type 1} → statement M
 start-of-spec =

@@ -1,5 +1,5 @@
 use denote.Ref.{now}
-use Rattle.plans.specs.Plans.{settings, planned}
+use Rattle.plans.specs.Plans.{planned}
 use Rattle.plans.specs.Code.{made-laid}
 use Rattle.entries.specs.Entries.{blocksGiven, blocksOf}
 use Rattle.numbers.specs.AskedLaws.{entry-refused, entry-given}
@@ -12,7 +12,7 @@ returns : tie.Need-returns
 unfolding blocksGiven
 returns c =
     let a = c .before .before .before .before .before .before .before .before .args in
-    let p = planned (now (a .s)) (settings (a .processors)) in
+    let p = planned (now (a .s)) (a .w) in
     rw (c .refused .ensures)
     (entry-refused p (λ q. blocksOf (q .plan)) (now (a .out)) _ (c .before .before .before .before .plan-table .ensures .tells) (c .before .if1 .taken))
 
@@ -20,14 +20,14 @@ give-blocks-requires : tie.Need-give-blocks-requires
 give-blocks-requires c κs =
     let a = c .before .before .before .before .before .before .before .before .args in
     let m = c .before .before .before .before .plan-table .ensures .made (c .before .if1 .left) in
-    blocks-ask _ _ (made-laid (now (a .s)) (settings (a .processors)) _ _ m)
+    blocks-ask _ _ (made-laid (now (a .s)) (a .w) _ _ m)
 
 returns-2 : tie.Need-returns-2
 unfolding blocksGiven
 returns-2 c =
     let a = c .before .before .before .before .before .before .before .before .before .before .before .args in
     let m = c .before .before .before .before .before .before .before .plan-table .ensures .made (c .before .before .before .before .if1 .left) in
-    entry-given (planned (now (a .s)) (settings (a .processors))) (λ q. blocksOf (q .plan)) (now (a .out)) (m .is)
+    entry-given (planned (now (a .s)) (a .w)) (λ q. blocksOf (q .plan)) (now (a .out)) (m .is)
     (c .before .before .give-blocks .ensures)
 
 pub blocks-spec : {M : Type 1} → statement M

@@ -1,5 +1,5 @@
 use denote.Ref.{now}
-use Rattle.plans.specs.Plans.{settings, plannedFor}
+use Rattle.plans.specs.Plans.{plannedFor}
 use Rattle.entries.specs.Entries.{listGiven, listedOf}
 use Rattle.numbers.specs.AskedLaws.{entry-refused, entry-given}
 use Rattle.entries.proofs.Laws.{named-laid}
@@ -11,20 +11,20 @@ returns : tie.Need-returns
 unfolding listGiven
 returns c =
     let a = c .before .before .before .before .before .before .before .before .args in
-    let p = plannedFor (now (a .s)) (settings (a .processors)) (a .b) in
+    let p = plannedFor (now (a .s)) (a .w) (a .b) in
     rw (c .refused .ensures)
     (entry-refused p (listedOf (a .phase) (a .b)) (now (a .out)) _ (c .before .before .before .before .plan-for .ensures .tells) (c .before .if1 .taken))
 
 give-list-requires : tie.Need-give-list-requires
 give-list-requires c κs =
     let a = c .before .before .before .before .before .before .before .before .before .args in
-    named-laid (now (a .s)) (settings (a .processors)) (a .b) _ _ (c .before .before .before .before .before .plan-for .ensures .made (c .before .before .if1 .left))
+    named-laid (now (a .s)) (a .w) (a .b) _ _ (c .before .before .before .before .before .plan-for .ensures .made (c .before .before .if1 .left))
 
 returns-2 : tie.Need-returns-2
 unfolding listGiven
 returns-2 c =
     let a = c .before .before .before .before .before .before .before .before .before .before .before .before .args in
-    let p = plannedFor (now (a .s)) (settings (a .processors)) (a .b) in
+    let p = plannedFor (now (a .s)) (a .w) (a .b) in
     let m = c .before .before .before .before .before .before .before .before .plan-for .ensures .made (c .before .before .before .before .before .if1 .left) in
     entry-given p (listedOf (a .phase) (a .b)) (now (a .out)) (m .is) (c .before .before .give-list .ensures)
 

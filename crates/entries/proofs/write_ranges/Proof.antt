@@ -4,7 +4,7 @@ use Prim.Native.Nat.{_-_}
 use Rattle.text.specs.Written.{put-length}
 use Rattle.numbers.specs.Pairs.{Rowed, rowed-none, rowed-next, rowed-at, rowed-end}
 use Rattle.ranges.specs.Code.{rangeOf}
-use Rattle.ranges.specs.Listed.{few-loops, span-fits, part-asks}
+use Rattle.ranges.specs.Listed.{few-loops, block-asks, part-asks}
 use Rattle.entries.specs.Entries.{emptyAsZero}
 use borrow.Author.Needs.{needs}
 use Rattle.entries.proofs.write_ranges.Statement.{statement}
@@ -20,7 +20,7 @@ abbrev μ-loop : tie.MeasureT-loop
 block-of-requires : tie.Need-block-of-requires Inv-loop μ-loop
 block-of-requires c κs = let a = c .before .args in
     let p = c .before .pre in
-    (p .1, omega (arith, span-fits (a .a) (now (a .store)) (p .0)))
+    block-asks (a .a) (now (a .store)) (p .0) (a .b) (p .1)
 
 loop-holds : tie.Need-loop-holds Inv-loop μ-loop
 loop-holds c = rowed-none

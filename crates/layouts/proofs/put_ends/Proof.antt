@@ -2,7 +2,7 @@ use Prim.Native.Nat.{_-_}
 use native.Mathlib.Omega.{arith}
 use mathlib.Core.Path.{refl}
 use denote.Ref.{now}
-use Rattle.ranges.specs.Listed.{few-blocks, span-fits}
+use Rattle.ranges.specs.Listed.{few-blocks, block-asks}
 use Rattle.layouts.proofs.Laws.{Ending, ending-none, ending-next, ending-all}
 use Rattle.layouts.proofs.put_ends.Statement.{statement}
 use Rattle.layouts.proofs.put_ends.Tie as tie
@@ -23,7 +23,7 @@ block-of-requires : tie.Need-block-of-requires Inv-loop μ-loop
 block-of-requires c κs = let a = c .before .before .before .before .before .args in
     let p = c .before .before .before .before .before .pre in
     let st = now (a .store) in
-    (c .if1 .taken, omega (arith, span-fits (a .a) st (p .0)))
+    block-asks (a .a) st (p .0) _ (c .if1 .taken)
 
 put-end-requires : tie.Need-put-end-requires Inv-loop μ-loop
 put-end-requires c κs =

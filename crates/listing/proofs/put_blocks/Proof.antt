@@ -1,6 +1,6 @@
 use native.Mathlib.Omega.{arith}
 use Prim.Native.Nat.{_-_}
-use Rattle.blocks.specs.Blocks.{block}
+use Rattle.blocks.specs.Code.{blockIn}
 use Rattle.text.specs.Written.{put-length}
 use Rattle.listing.specs.Listing.{blockLine}
 use Rattle.listing.proofs.Laws.{Lines, lines-start, lines-next, lines-end}
@@ -9,7 +9,7 @@ use Rattle.listing.proofs.put_blocks.Tie as tie
 
 abbrev Inv-loop : tie.InvT-loop
 Inv-loop out₀ at a next₀ b₀ out next b =
-    Lines out₀ at 100 (λ j. blockLine j (block (a .first) (a .count) (a .blocks) j)) (a .blocks) b out next
+    Lines out₀ at 100 (λ j. blockLine j (blockIn a j)) (a .blocks) b out next
 
 abbrev μ-loop : tie.MeasureT-loop
 μ-loop out₀ at a next₀ b₀ out next b = a .blocks - b

@@ -4,7 +4,7 @@ use lib.Dec.{lit<, lit≤}
 use native.Mathlib.Nat.{le-refl, lt-of-le-of-lt}
 use mathlib.Core.Path.{refl, _∙_}
 use Rattle.text.specs.Written.{put-then, put-whole}
-use Rattle.ranges.specs.Listed.{few-blocks, span-fits}
+use Rattle.ranges.specs.Listed.{few-blocks, cuttable}
 use Rattle.listing.proofs.Laws.{past-most, listed}
 use Rattle.listing.proofs.write_listing.Statement.{statement}
 use Rattle.listing.proofs.write_listing.Tie as tie
@@ -16,7 +16,7 @@ put-blocks-requires : tie.Need-put-blocks-requires
 put-blocks-requires c κs = let a = c .before .before .before .before .before .before .args in
     let h = c .before .before .before .before .before .before .pre in
     let p = past-most 0 (le-refl 0) (c .before .before .before .put-loops .ensures) in
-    (lt-of-le-of-lt p (lit< tt), few-blocks (a .axis) (now (a .store)) h, omega (arith, span-fits (a .axis) (now (a .store)) h))
+    (lt-of-le-of-lt p (lit< tt), few-blocks (a .axis) (now (a .store)) h, cuttable (a .axis) (now (a .store)) h)
 
 put-parts-requires : tie.Need-put-parts-requires
 put-parts-requires c κs = let p = past-most 0 (le-refl 0) (c .before .before .before .before .before .before .before .put-loops .ensures) in

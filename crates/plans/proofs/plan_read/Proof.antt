@@ -1,6 +1,6 @@
 use native.Mathlib.Omega.{arith}
 use denote.Ref.{now}
-use Rattle.plans.proofs.Laws.{threshold-fits, chosen-short, chosen-made}
+use Rattle.plans.proofs.Laws.{threshold-fits, short-asks, chosen-short, chosen-made}
 use borrow.Author.Needs.{needs}
 use Rattle.plans.proofs.plan_read.Statement.{statement}
 use Rattle.plans.proofs.plan_read.Tie as tie
@@ -10,7 +10,14 @@ cast-threshold c =
     let b = c .before .before .before in
     let p = b .pre in
     let a = c .before .before .amounts-of in
-    omega (arith, threshold-fits (b .args .processors) (now (b .args .store)) (p .0) (p .1) (a .result) (a .ensures .0) (a .ensures .1) (c .threshold-of .result) (c .threshold-of .ensures))
+    omega (arith, threshold-fits (b .args .w) (now (b .args .store)) (p .0) (p .1) (a .result) (a .ensures .0) (a .ensures .1) (c .threshold-of .result) (c .threshold-of .ensures))
+
+short-requires : tie.Need-short-requires
+short-requires c κs =
+    let b = c .before .before .before in
+    let p = b .pre in
+    let a = c .before .before .amounts-of in
+    short-asks (b .args .w) (now (b .args .store)) (p .0) (p .1) (a .result) (a .ensures .0) (a .ensures .1) (p .2) (c .before .span-of .result) (c .before .span-of .ensures)
 
 returns : tie.Need-returns
 returns c =
@@ -21,7 +28,7 @@ returns c =
     let p = f .pre in
     let a = e .before .amounts-of in
     rw (c .refused .ensures, c .before .met .ensures)
-    (chosen-short (f .args .processors) (now (f .args .store)) (p .0) (p .1) (a .result) (a .ensures .0) (a .ensures .1)
+    (chosen-short (f .args .w) (now (f .args .store)) (p .0) (p .1) (a .result) (a .ensures .0) (a .ensures .1)
     (e .span-of .result) (d .threshold-of .result) (b .short .result) (e .span-of .ensures) (d .threshold-of .ensures)
     (b .short .ensures) (c .before .before .if1 .taken))
 
@@ -34,12 +41,12 @@ returns-2 c =
     let p = f .pre in
     let a = e .before .amounts-of in
     rw (c .none .ensures)
-    (chosen-made (f .args .processors) (now (f .args .store)) (p .0) (p .1) (a .result) (a .ensures .0) (a .ensures .1) (e .span-of .result)
+    (chosen-made (f .args .w) (now (f .args .store)) (p .0) (p .1) (a .result) (a .ensures .0) (a .ensures .1) (e .span-of .result)
     (d .threshold-of .result) (b .short .result) (e .span-of .ensures) (d .threshold-of .ensures) (b .short .ensures)
-    (c .before .before .before .if1 .left))
+    (p .2) (c .before .before .before .if1 .left))
 
 pub plan-read-spec : {M : Type 1} → statement M
 plan-read-spec =
     tie.close (tie.spec
-    (λ c κs. search needs) (λ c κs. search needs) (λ c κs. search needs) cast-threshold (λ c κs. search needs)
+    (λ c κs. search needs) (λ c κs. search needs) (λ c κs. search needs) cast-threshold short-requires
     (λ c κs. search needs) (λ c κs. search needs) returns (λ c κs. search needs) returns-2)

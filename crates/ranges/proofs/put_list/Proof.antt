@@ -7,7 +7,7 @@ use Rattle.blocks.specs.declared.Range.{Range}
 use Rattle.blocks.specs.Sums.{column}
 use Rattle.lists.specs.BelowLaws.{indicesIn}
 use Rattle.ranges.specs.Code.{rangeOf}
-use Rattle.ranges.specs.Listed.{few-loops, span-fits, range-small, lengths-in}
+use Rattle.ranges.specs.Listed.{few-loops, block-asks, range-small, lengths-in}
 use Rattle.ranges.proofs.Laws.{Filled, filled-none, filled-next}
 use Rattle.ranges.proofs.put_list.Statement.{statement}
 use Rattle.ranges.proofs.put_list.Tie as tie
@@ -22,7 +22,7 @@ abbrev μ-loop : tie.MeasureT-loop
 block-of-requires : tie.Need-block-of-requires Inv-loop μ-loop
 block-of-requires c κs = let a = c .before .args in
     let p = c .before .pre in
-    (p .1, omega (arith, span-fits (a .a) (now (a .store)) (p .0)))
+    block-asks (a .a) (now (a .store)) (p .0) (a .b) (p .1)
 
 part-in-requires : tie.Need-part-in-requires Inv-loop μ-loop
 part-in-requires c κs = tt
@@ -65,7 +65,7 @@ array-read-put-range c =
     let b = c .before .before .before .before .before .before .before .before .before .before .before .before in
     let a = b .args in
     let p = b .pre in
-    omega (arith, few-loops (a .a) (now (a .store)) (p .0), c .before .before .before .before .before .before .loops-in .ensures, p .0 .shifts-long)
+    omega (arith, few-loops (a .a) (now (a .store)) (p .0), c .before .before .before .before .before .before .loops-in .ensures, p .0 .kept .shifts-long)
 
 put-range-requires : tie.Need-put-range-requires Inv-loop μ-loop
 put-range-requires c κs =

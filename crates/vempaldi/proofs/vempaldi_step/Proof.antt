@@ -1,7 +1,6 @@
 use mathlib.Core.Path.{ap, _∙_}
 use denote.Ref.{now}
 use Rattle.stepping.specs.declared.Report.{Report}
-use Rattle.plans.specs.Plans.{settings}
 use Rattle.told.specs.Answers.{reported}
 use Rattle.vempaldi.proofs.Laws.{report-small}
 use borrow.Author.Needs.{needs}
@@ -12,7 +11,7 @@ tell-report-requires : tie.Need-tell-report-requires
 tell-report-requires c κs =
     let a = c .before .before .before .before .before .before .before .before .before .before .args in
     let x = c .before .before .before .before .before .step in
-    report-small (now (a .table)) (settings (a .processors)) (a .processor) (now (a .counts)) (now (a .memory)) (x .result .report) (x .ensures .report-is)
+    report-small (now (a .table)) (a .w) (a .processor) (now (a .counts)) (now (a .memory)) (x .result .report) (x .ensures .report-is)
 
 returns : tie.Need-returns
 returns c =
