@@ -20,7 +20,7 @@ use Rattle.numbers.specs.Numbers.{encoded}
 use Rattle.serial.specs.Serial.{table}
 use Rattle.tables.specs.Nine.{told-some, refused-told}
 use Rattle.outputs.specs.Given.{fitted}
-use Rattle.plans.specs.Plans.{Settings, Planned, planOf, thresholdOf, shortFor, badProcessors, badNumber, fits, fitting, planned, plannedFor}
+use Rattle.plans.specs.Plans.{Settings, Planned, planOf, thresholdOf, shortFor, badProcessors, badNumber, badLine, fits, fitting, planned, plannedFor}
 use Rattle.sweeps.specs.Sweeps as Sweeps
 use Rattle.facts.specs.Facts.{factsOf, factsGiven}
 use Rattle.entries.specs.Entries.{amountsOf, blocksOf, listedOf, rangesOf, amounts, thresholds, sweepsGiven, blocksGiven, listGiven, rangesGiven}
@@ -32,9 +32,9 @@ use Rattle.turns.specs.Reach.{Turn, does, halts, stops, turn-is}
 use Rattle.turns.specs.Meaning.{turn-said}
 use Rattle.stepping.specs.Step.{workOf, elements, steppedBy, step}
 use Rattle.stepping.specs.Run.{runAnswer}
-use Rattle.answers.specs.Statements.{BadProcessors, BadNumber, Short, OtherLength, NoRoom, BadState}
-use Rattle.answers.specs.Tests.{Decides, ten, ten-named, eleven, fifteen}
-use Rattle.answers.specs.Refusing.{Then, before, here, ReadRefused, FitRefused, PlanRefused, NamedRefused, MemoryRefused, OutputRefused, StepRefused, Nonzero}
+use Rattle.answers.specs.Statements.{BadProcessors, BadNumber, BadLine, Short, OtherLength, NoRoom, BadState}
+use Rattle.answers.specs.Tests.{Decides, ten, ten-named, eleven, fifteen, seventeen}
+use Rattle.answers.specs.Refusing.{Then, before, here, ReadRefused, LineRefused, FitRefused, PlanRefused, NamedRefused, MemoryRefused, OutputRefused, StepRefused, Nonzero}
 
 -- 12 and 13 after any answer
 module _ {T : Type 0} (a : AnswerOf T) (Before : Refusal → Type 0) (first : Only Before a) where
@@ -82,14 +82,20 @@ module _ (s : List ℕ) where
     fitting-only : (Bad : Type 0) (wrong : Bool) → Decides wrong Bad → Only (FitRefused s w Bad) (fitting wrong w (table s))
     unfolding fitting
     fitting-only Bad wrong d =
-        test-only (FitRefused s w Bad) (table s) 10 (λ t. wrong) (fits w) (λ r e. before (before (check-refused r e)))
-        (λ t e x. before (here t e (d .0 x)))
-        (λ t e x. short t e (λ bad. false≢true (sym x ∙ d .1 bad)) (shortFor t w) refl)
+        test-only (FitRefused s w Bad) (table s) 10 (λ t. wrong) (λ t. refused (met 17 0) if badLine w else fits w t)
+        (λ r e. before (before (before (check-refused r e))))
+        (λ t e x. before (before (here t e (d .0 x))))
+        (λ t e x. lined t e (λ bad. false≢true (sym x ∙ d .1 bad)) (badLine w) refl)
       where
-        short : (t : Table) → table s ≡ accepted t → (Bad → ⊥) → (x : Bool) → shortFor t w ≡ x
+        short : (t : Table) → table s ≡ accepted t → (Bad → ⊥) → (BadLine w → ⊥) → (x : Bool) → shortFor t w ≡ x
             → Only {T = Planned} (FitRefused s w Bad) (refused (met 11 0) if x else accepted (record { table = t; plan = planOf t w }))
-        short t e fine true x r f = subst (FitRefused s w Bad) (ap refusalOf f) (here t e (fine, eleven t w .0 x))
-        short t e fine false x r f = accepted-only (FitRefused s w Bad) (record { table = t; plan = planOf t w }) r f
+        short t e fine whole true x r f = subst (FitRefused s w Bad) (ap refusalOf f) (here t e (fine, whole, eleven t w .0 x))
+        short t e fine whole false x r f = accepted-only (FitRefused s w Bad) (record { table = t; plan = planOf t w }) r f
+
+        lined : (t : Table) → table s ≡ accepted t → (Bad → ⊥) → (x : Bool) → badLine w ≡ x
+            → Only {T = Planned} (FitRefused s w Bad) (refused (met 17 0) if x else fits w t)
+        lined t e fine true x r f = subst (FitRefused s w Bad) (ap refusalOf f) (before (here t e (fine, seventeen w .0 x)))
+        lined t e fine false x r f = short t e fine (λ bad. false≢true (sym x ∙ seventeen w .1 bad)) (shortFor t w) refl r f
 
     plan-refused : Only (PlanRefused s w) (planned s w)
     unfolding planned
@@ -167,9 +173,11 @@ module _ (s : List ℕ) where
   module _ (w : Settings) where
     pub fit-some : (Bad : Type 0) → Nonzero (FitRefused s w Bad)
     fit-some Bad =
-        then-some (table s) (Then (table s) (ReadRefused s) 10 (λ t. Bad))
+        then-some (table s) (LineRefused s w Bad)
+        (then-some (table s) (Then (table s) (ReadRefused s) 10 (λ t. Bad))
         (then-some (table s) (ReadRefused s) read-some 10 (λ t. Bad) (omega arith))
-        11 (λ t. (Bad → ⊥) × Short t w) (omega arith)
+        17 (λ t. (Bad → ⊥) × BadLine w) (omega arith))
+        11 (λ t. (Bad → ⊥) × (BadLine w → ⊥) × Short t w) (omega arith)
 
     pub step-some : (b : ℕ) (counts : List ℕ) (m : List Float) → Nonzero (StepRefused s w b counts m)
     step-some b counts m =

@@ -13,7 +13,7 @@ use Rattle.tables.specs.Told.{Told}
 use Rattle.plans.specs.Plans.{Settings, Planned, plannedFor}
 use Rattle.iterations.specs.Memory.{remembered}
 use Rattle.stepping.specs.Step.{elements}
-use Rattle.answers.specs.Statements.{BadProcessors, BadNumber, Short, OtherLength, NoRoom, BadState}
+use Rattle.answers.specs.Statements.{BadProcessors, BadNumber, BadLine, Short, OtherLength, NoRoom, BadState}
 
 -- an answer, and then a test of what it accepts: the answer's own refusal; or the test's number, where its ground holds, with place 0 and no name
 pub data Then {T : Type 0} (a : AnswerOf T) (Before : Refusal → Type 0) (g : ℕ) (Holds : T → Type 0) : Refusal → Type 0 where
@@ -25,10 +25,13 @@ module _ (s : List ℕ) where
   abbrev pub ReadRefused : Refusal → Type 0
   ReadRefused r = Told r s
 
-  -- then 10, which is asked of P and of a processor that is named, and 11
+  -- then 10, which is asked of P and of a processor that is named, then 17 and 11
   module _ (w : Settings) where
+    abbrev pub LineRefused : Type 0 → Refusal → Type 0
+    LineRefused Bad = Then (table s) (Then (table s) ReadRefused 10 (λ t. Bad)) 17 (λ t. (Bad → ⊥) × BadLine w)
+
     abbrev pub FitRefused : Type 0 → Refusal → Type 0
-    FitRefused Bad = Then (table s) (Then (table s) ReadRefused 10 (λ t. Bad)) 11 (λ t. (Bad → ⊥) × Short t w)
+    FitRefused Bad = Then (table s) (LineRefused Bad) 11 (λ t. (Bad → ⊥) × (BadLine w → ⊥) × Short t w)
 
     abbrev pub PlanRefused : Refusal → Type 0
     PlanRefused = FitRefused (BadProcessors w)
@@ -48,7 +51,7 @@ module _ {T : Type 0} (a : AnswerOf T) (Before : Refusal → Type 0) where
 abbrev pub StateRefused : AnswerOf Planned → (Refusal → Type 0) → List ℕ → Refusal → Type 0
 StateRefused a Before counts = Then a Before 15 (λ q. BadState q counts)
 
--- a step: 1 to 9, 10 of P and of its number, 11, 12, 15
+-- a step: 1 to 9, 10 of P and of its number, 17, 11, 12, 15
 module _ (s : List ℕ) (w : Settings) (b : ℕ) (counts : List ℕ) (m : List Float) where
   abbrev pub StepRefused : Refusal → Type 0
   StepRefused =

@@ -1,4 +1,4 @@
--- The grounds 10 to 13 and 15, each by itself, in docs/TABLE.md's words. (1 to 8 are in grounds, 9 in serial, 14 and joining's own 4 in joins.)
+-- The grounds 10 to 13, 15 and 17, each by itself, in docs/TABLE.md's words. (1 to 8 are in grounds, 9 in serial, 14 and joining's own 4 in joins.)
 use Prim.Native.Nat.{ℕ, _+_, _≤_, _<_}
 use mathlib.Core.Logic.{_⊎_, _≢_}
 use mathlib.Core.List.{List}
@@ -6,7 +6,7 @@ use lib.ListN.{length}
 use Rattle.model.specs.Table.{Table}
 use Rattle.blocks.specs.Sums.{column}
 use Rattle.blocks.specs.Span.{tableSpan}
-use Rattle.blocks.specs.Blocks.{size}
+use Rattle.blocks.specs.Blocks.{lines, width}
 use Rattle.lists.specs.Fusion.{fusedList, peeledList}
 use Rattle.plans.specs.Plans.{Settings, Planned, thresholdOf}
 
@@ -18,12 +18,17 @@ BadProcessors w = (w .processors < 1) ⊎ (64 < w .processors)
 abbrev pub BadNumber : Settings → ℕ → Type 0
 BadNumber w b = BadProcessors w ⊎ (w .processors ≤ b)
 
--- 11: T < P, or P ≥ 2 and some block below the threshold
+-- 17: W outside 1 to 64
+abbrev pub BadLine : Settings → Type 0
+BadLine w = (w .line < 1) ⊎ (64 < w .line)
+
+-- 11: fewer lines than P, or P ≥ 2 and some block, the last one as it is cut, below the threshold
 abbrev pub Short : Table → Settings → Type 0
 Short t w =
     let T = tableSpan t .count in
+    let W = w .line in
     let P = w .processors in
-    (T < P) ⊎ ((2 ≤ P) × (b : ℕ) × (b < P) × (size T P b < thresholdOf t))
+    (lines T W < P) ⊎ ((2 ≤ P) × (b : ℕ) × (b < P) × (width T W P b < thresholdOf t))
 
 -- 12: its length, n, isn't the table's element total
 abbrev pub OtherLength : ℕ → ℕ → Type 0

@@ -13,12 +13,12 @@ use Rattle.model.specs.Table.{Table}
 use Rattle.blocks.specs.Sums.{column}
 use Rattle.blocks.specs.SumLaws.{some-which, some-here}
 use Rattle.blocks.specs.Span.{tableSpan}
-use Rattle.blocks.specs.BlockLaws.{short-given, short-not}
+use Rattle.blocks.specs.LineLaws.{short-given, short-not}
 use Rattle.turns.specs.Turn.{closed, wrongCount, wrongState}
-use Rattle.plans.specs.Plans.{Settings, Planned, thresholdOf, badProcessors, badNumber, shortFor}
+use Rattle.plans.specs.Plans.{Settings, Planned, thresholdOf, outside, badProcessors, badNumber, badLine, shortFor}
 use Rattle.stepping.specs.Step.{workOf, fused, peeled}
 use Rattle.stepping.specs.Worded.{wrong-is, barrier-is}
-use Rattle.answers.specs.Statements.{BadProcessors, BadNumber, Short, AboveLists, BeforeBarrier, BadCount, above, early, beyond, BadState}
+use Rattle.answers.specs.Statements.{BadProcessors, BadNumber, BadLine, Short, AboveLists, BeforeBarrier, BadCount, above, early, beyond, BadState}
 
 -- a test and a statement say the same
 abbrev pub Decides : Bool → Type 0 → Type 0
@@ -50,22 +50,29 @@ below m n = (ltb-true m n, lt-ltb m n)
 at-most : (m n : ℕ) → Decides (leb m n) (m ≤ n)
 at-most m n = (leb-true m n, le-leb m n)
 
+outside-is : (most n : ℕ) → Decides (outside most n) ((n < 1) ⊎ (most < n))
+outside-is most n = either (eqb n 0) (ltb most n) (λ e. omega (arith, eqb-true n 0 e), λ l. eq-eqb n 0 (omega arith)) (below most n)
+
 -- 10
 pub ten : (w : Settings) → Decides (badProcessors w) (BadProcessors w)
-ten w =
-    either (eqb (w .processors) 0) (ltb 64 (w .processors))
-    (λ e. omega (arith, eqb-true (w .processors) 0 e), λ l. eq-eqb (w .processors) 0 (omega arith))
-    (below 64 (w .processors))
+ten w = outside-is 64 (w .processors)
 
 pub ten-named : (w : Settings) (b : ℕ) → Decides (badNumber w b) (BadNumber w b)
 ten-named w b = either (badProcessors w) (leb (w .processors) b) (ten w) (at-most (w .processors) b)
 
+-- 17
+pub seventeen : (w : Settings) → Decides (badLine w) (BadLine w)
+seventeen w = outside-is 64 (w .line)
+
 -- 11
 pub eleven : (t : Table) (w : Settings) → Decides (shortFor t w) (Short t w)
-eleven t w = (short-given T P (thresholdOf t), λ h. go h (shortFor t w) refl)
+eleven t w = (short-given T W P (thresholdOf t), λ h. go h (shortFor t w) refl)
   where
     T : ℕ
     T = tableSpan t .count
+
+    W : ℕ
+    W = w .line
 
     P : ℕ
     P = w .processors
@@ -73,8 +80,8 @@ eleven t w = (short-given T P (thresholdOf t), λ h. go h (shortFor t w) refl)
     go : Short t w → (x : Bool) → shortFor t w ≡ x → x ≡ true
     go h true e = refl
     go h false e =
-        let (enough, wide) = short-not T P (thresholdOf t) e in
-        absurd (⊎-elim (λ l. omega arith) (λ (two, b, l, less). omega (arith, less, wide two b)) h)
+        let (enough, wide) = short-not T W P (thresholdOf t) e in
+        absurd (⊎-elim (λ l. omega arith) (λ (two, b, l, less). omega (arith, less, wide two b l)) h)
 
 -- 15
 module _ (q : Planned) (counts : List ℕ) where

@@ -11,28 +11,32 @@ use Rattle.refusals.specs.Answers.{AnswerOf, accepted, refused, after}
 use Rattle.model.specs.Table.{Table}
 use Rattle.serial.specs.Serial.{table}
 use Rattle.outputs.specs.Given.{fitted}
-use Rattle.plans.specs.Plans.{Settings, Planned, badProcessors, badNumber, fitting, planned, plannedFor}
+use Rattle.plans.specs.Plans.{Settings, Planned, badProcessors, badNumber, badLine, fitting, planned, plannedFor}
 use Rattle.plans.specs.Accepted.{planned-accepts}
 use Rattle.iterations.specs.Memory.{remembered}
 use Rattle.turns.specs.Turn.{refuses, stays, stepped}
 use Rattle.stepping.specs.Step.{elements, steppedBy, step}
-use Rattle.answers.specs.Statements.{BadProcessors, BadNumber, Short, OtherLength, NoRoom, BadState}
-use Rattle.answers.specs.Tests.{Decides, ten, ten-named, eleven, fifteen}
+use Rattle.answers.specs.Statements.{BadProcessors, BadNumber, BadLine, Short, OtherLength, NoRoom, BadState}
+use Rattle.answers.specs.Tests.{Decides, ten, ten-named, eleven, fifteen, seventeen}
 
 -- a statement that does not hold is decided against
 refuted : (x : Bool) {A : Type 0} → Decides x A → (A → ⊥) → x ≡ false
 refuted true d n = absurd (n (d .0 refl))
 refuted false d n = refl
 
--- 10 and 11, of a table that was read
+-- 10, 17 and 11, of a table that was read
 module _ (s : List ℕ) (w : Settings) (t : Table) (read : table s ≡ accepted t) where
   fitting-ten : (wrong : Bool) → wrong ≡ true → fitting wrong w (table s) ≡ refused (met 10 0)
   unfolding fitting
   fitting-ten wrong e = rw (read, e)
 
-  fitting-eleven : (wrong : Bool) → wrong ≡ false → Short t w → fitting wrong w (table s) ≡ refused (met 11 0)
+  fitting-seventeen : (wrong : Bool) → wrong ≡ false → BadLine w → fitting wrong w (table s) ≡ refused (met 17 0)
   unfolding fitting
-  fitting-eleven wrong e h = rw (read, e, eleven t w .1 h)
+  fitting-seventeen wrong e h = rw (read, e, seventeen w .1 h)
+
+  fitting-eleven : (wrong : Bool) → wrong ≡ false → (BadLine w → ⊥) → Short t w → fitting wrong w (table s) ≡ refused (met 11 0)
+  unfolding fitting
+  fitting-eleven wrong e n h = rw (read, e, refuted (badLine w) (seventeen w) n, eleven t w .1 h)
 
   pub ten-where : BadProcessors w → planned s w ≡ refused (met 10 0)
   unfolding planned
@@ -42,19 +46,31 @@ module _ (s : List ℕ) (w : Settings) (t : Table) (read : table s ≡ accepted 
   unfolding plannedFor
   ten-named-where b h = fitting-ten (badNumber w b) (ten-named w b .1 h)
 
-  pub eleven-where : (BadProcessors w → ⊥) → Short t w → planned s w ≡ refused (met 11 0)
+  pub seventeen-where : (BadProcessors w → ⊥) → BadLine w → planned s w ≡ refused (met 17 0)
   unfolding planned
-  eleven-where n h = fitting-eleven (badProcessors w) (refuted (badProcessors w) (ten w) n) h
+  seventeen-where n h = fitting-seventeen (badProcessors w) (refuted (badProcessors w) (ten w) n) h
 
-  pub eleven-named-where : (b : ℕ) → (BadNumber w b → ⊥) → Short t w → plannedFor s w b ≡ refused (met 11 0)
+  pub seventeen-named-where : (b : ℕ) → (BadNumber w b → ⊥) → BadLine w → plannedFor s w b ≡ refused (met 17 0)
   unfolding plannedFor
-  eleven-named-where b n h = fitting-eleven (badNumber w b) (refuted (badNumber w b) (ten-named w b) n) h
+  seventeen-named-where b n h = fitting-seventeen (badNumber w b) (refuted (badNumber w b) (ten-named w b) n) h
 
--- an accepted plan meets neither
-pub planned-free : (s : List ℕ) (w : Settings) (q : Planned) → planned s w ≡ accepted q → (BadProcessors w → ⊥) × (Short (q .table) w → ⊥)
+  pub eleven-where : (BadProcessors w → ⊥) → (BadLine w → ⊥) → Short t w → planned s w ≡ refused (met 11 0)
+  unfolding planned
+  eleven-where n m h = fitting-eleven (badProcessors w) (refuted (badProcessors w) (ten w) n) m h
+
+  pub eleven-named-where : (b : ℕ) → (BadNumber w b → ⊥) → (BadLine w → ⊥) → Short t w → plannedFor s w b ≡ refused (met 11 0)
+  unfolding plannedFor
+  eleven-named-where b n m h = fitting-eleven (badNumber w b) (refuted (badNumber w b) (ten-named w b) n) m h
+
+-- an accepted plan meets none of them
+pub planned-free : (s : List ℕ) (w : Settings) (q : Planned) → planned s w ≡ accepted q
+    → (BadProcessors w → ⊥) × (BadLine w → ⊥) × (Short (q .table) w → ⊥)
 planned-free s w q e =
-    let law = planned-accepts s w q e in
-    (λ h. false≢true (sym (law .not-ten) ∙ ten w .1 h), λ h. false≢true (sym (law .not-eleven) ∙ eleven (q .table) w .1 h))
+    let law = planned-accepts s w q e in (
+      λ h. false≢true (sym (law .not-ten) ∙ ten w .1 h),
+      λ h. false≢true (sym (law .not-seventeen) ∙ seventeen w .1 h),
+      λ h. false≢true (sym (law .not-eleven) ∙ eleven (q .table) w .1 h),
+    )
 
 -- 12 and 13, after any answer that accepts
 module _ {T : Type 0} (a : AnswerOf T) (t : T) (e : a ≡ accepted t) where

@@ -15,6 +15,7 @@ use Rattle.chains.specs.TableGraph.{graph}
 use Rattle.chains.specs.Walk.{shifts, peels}
 use Rattle.chains.specs.Threshold.{threshold}
 use Rattle.blocks.specs.declared.Axis.{Axis}
+use Rattle.blocks.specs.Code.{Cuttable}
 use Rattle.blocks.specs.declared.Range.{Range}
 use Rattle.blocks.specs.Sums.{column}
 use Rattle.lists.specs.Fusion.{fusionIn, work}

@@ -15,8 +15,11 @@ use Rattle.chains.specs.Threshold.{threshold}
 use Rattle.blocks.specs.Span.{tableSpan}
 use Rattle.blocks.specs.Blocks.{isShort}
 use Rattle.lists.specs.Fusion.{Fusion, fusionOf}
+use Rattle.plans.specs.declared.Settings.{Settings as Struct}
+
 -- what settles the lists beside the table: the count of processors P, and the length W of a line
-pub use Rattle.plans.specs.declared.Settings.{Settings}
+abbrev pub Settings : Type 0
+Settings = Struct
 
 abbrev pub settings : ℕ → ℕ → Settings
 settings P W = record { processors = P; line = W }

@@ -1,4 +1,5 @@
 // The exported functions: thin, with plain numbers and slices. None requires anything: what it cannot take it refuses.
+use plans::Settings;
 use steps::Counts;
 use told::refusal_in;
 use told::tell_outcome;
@@ -14,14 +15,13 @@ ghost use Rattle.facts.specs.Facts.{factsGiven};
 ghost use Rattle.entries.specs.Entries.{amounts, thresholds, sweepsGiven, blocksGiven, fusedGiven, peeledGiven, fusedRangesGiven, peeledRangesGiven};
 ghost use Rattle.printing.specs.Printing.{listingGiven};
 ghost use Rattle.plain.specs.Plain.{plainAnswer, plainMemory};
-ghost use Rattle.plans.specs.Plans.{settings};
 ghost use Rattle.stepping.specs.Step.{step};
 ghost use Rattle.stepping.specs.Run.{runAnswer, runMemory, runIdle};
 ghost use Rattle.told.specs.Answers.{answered, reported, refusalIn, reportAt};
 ghost use Rattle.vempaldi.specs.Version.{version};
 
 // The version: 10,000 times the first of its numbers, 100 times the second, and the third.
-const VERSION: u32 = 200;
+const VERSION: u32 = 300;
 
 #[no_mangle]
 pub extern "C" fn vempaldi_version() -> u32
@@ -85,15 +85,15 @@ pub extern "C" fn vempaldi_shifts_and_peels(
 #[no_mangle]
 pub extern "C" fn vempaldi_listing(
     table: &[u8],
-    processors: u32,
+    settings: Settings,
     out: &mut [u8],
     answer: &mut [u64; 4],
 ) -> u64
-    ensures { λ r. ⌜ now (answer .exit) ≡ answered (refusalOf (listingGiven (now (table .entry)) (settings processors) (length (now (out .entry))))) (now (answer .entry)) ⌝ }
-    ensures { λ r. ⌜ r ≡ countOf (listingGiven (now (table .entry)) (settings processors) (length (now (out .entry)))) ⌝ }
-    ensures { λ r. ⌜ now (out .exit) ≡ final (listingGiven (now (table .entry)) (settings processors) (length (now (out .entry)))) (now (out .entry)) ⌝ }
+    ensures { λ r. ⌜ now (answer .exit) ≡ answered (refusalOf (listingGiven (now (table .entry)) settings (length (now (out .entry))))) (now (answer .entry)) ⌝ }
+    ensures { λ r. ⌜ r ≡ countOf (listingGiven (now (table .entry)) settings (length (now (out .entry)))) ⌝ }
+    ensures { λ r. ⌜ now (out .exit) ≡ final (listingGiven (now (table .entry)) settings (length (now (out .entry)))) (now (out .entry)) ⌝ }
 {
-    let o = printing::print_listing(table, processors, out);
+    let o = printing::print_listing(table, settings, out);
     tell_outcome(answer, o)
 }
 
@@ -123,15 +123,15 @@ pub extern "C" fn vempaldi_sweeps(table: &[u8], out: &mut [u8], answer: &mut [u6
 #[no_mangle]
 pub extern "C" fn vempaldi_blocks(
     table: &[u8],
-    processors: u32,
+    settings: Settings,
     out: &mut [u8],
     answer: &mut [u64; 4],
 ) -> u64
-    ensures { λ r. ⌜ now (answer .exit) ≡ answered (refusalOf (blocksGiven (now (table .entry)) (settings processors) (length (now (out .entry))))) (now (answer .entry)) ⌝ }
-    ensures { λ r. ⌜ r ≡ countOf (blocksGiven (now (table .entry)) (settings processors) (length (now (out .entry)))) ⌝ }
-    ensures { λ r. ⌜ now (out .exit) ≡ final (blocksGiven (now (table .entry)) (settings processors) (length (now (out .entry)))) (now (out .entry)) ⌝ }
+    ensures { λ r. ⌜ now (answer .exit) ≡ answered (refusalOf (blocksGiven (now (table .entry)) settings (length (now (out .entry))))) (now (answer .entry)) ⌝ }
+    ensures { λ r. ⌜ r ≡ countOf (blocksGiven (now (table .entry)) settings (length (now (out .entry)))) ⌝ }
+    ensures { λ r. ⌜ now (out .exit) ≡ final (blocksGiven (now (table .entry)) settings (length (now (out .entry)))) (now (out .entry)) ⌝ }
 {
-    let o = entries::blocks(table, processors, out);
+    let o = entries::blocks(table, settings, out);
     tell_outcome(answer, o)
 }
 
@@ -139,16 +139,16 @@ pub extern "C" fn vempaldi_blocks(
 #[no_mangle]
 pub extern "C" fn vempaldi_fused_list(
     table: &[u8],
-    processors: u32,
+    settings: Settings,
     processor: u32,
     out: &mut [u8],
     answer: &mut [u64; 4],
 ) -> u64
-    ensures { λ r. ⌜ now (answer .exit) ≡ answered (refusalOf (fusedGiven (now (table .entry)) (settings processors) processor (length (now (out .entry))))) (now (answer .entry)) ⌝ }
-    ensures { λ r. ⌜ r ≡ countOf (fusedGiven (now (table .entry)) (settings processors) processor (length (now (out .entry)))) ⌝ }
-    ensures { λ r. ⌜ now (out .exit) ≡ final (fusedGiven (now (table .entry)) (settings processors) processor (length (now (out .entry)))) (now (out .entry)) ⌝ }
+    ensures { λ r. ⌜ now (answer .exit) ≡ answered (refusalOf (fusedGiven (now (table .entry)) settings processor (length (now (out .entry))))) (now (answer .entry)) ⌝ }
+    ensures { λ r. ⌜ r ≡ countOf (fusedGiven (now (table .entry)) settings processor (length (now (out .entry)))) ⌝ }
+    ensures { λ r. ⌜ now (out .exit) ≡ final (fusedGiven (now (table .entry)) settings processor (length (now (out .entry)))) (now (out .entry)) ⌝ }
 {
-    let o = entries::list(table, 0, processors, processor, out);
+    let o = entries::list(table, 0, settings, processor, out);
     tell_outcome(answer, o)
 }
 
@@ -156,16 +156,16 @@ pub extern "C" fn vempaldi_fused_list(
 #[no_mangle]
 pub extern "C" fn vempaldi_peeled_list(
     table: &[u8],
-    processors: u32,
+    settings: Settings,
     processor: u32,
     out: &mut [u8],
     answer: &mut [u64; 4],
 ) -> u64
-    ensures { λ r. ⌜ now (answer .exit) ≡ answered (refusalOf (peeledGiven (now (table .entry)) (settings processors) processor (length (now (out .entry))))) (now (answer .entry)) ⌝ }
-    ensures { λ r. ⌜ r ≡ countOf (peeledGiven (now (table .entry)) (settings processors) processor (length (now (out .entry)))) ⌝ }
-    ensures { λ r. ⌜ now (out .exit) ≡ final (peeledGiven (now (table .entry)) (settings processors) processor (length (now (out .entry)))) (now (out .entry)) ⌝ }
+    ensures { λ r. ⌜ now (answer .exit) ≡ answered (refusalOf (peeledGiven (now (table .entry)) settings processor (length (now (out .entry))))) (now (answer .entry)) ⌝ }
+    ensures { λ r. ⌜ r ≡ countOf (peeledGiven (now (table .entry)) settings processor (length (now (out .entry)))) ⌝ }
+    ensures { λ r. ⌜ now (out .exit) ≡ final (peeledGiven (now (table .entry)) settings processor (length (now (out .entry)))) (now (out .entry)) ⌝ }
 {
-    let o = entries::list(table, 1, processors, processor, out);
+    let o = entries::list(table, 1, settings, processor, out);
     tell_outcome(answer, o)
 }
 
@@ -173,16 +173,16 @@ pub extern "C" fn vempaldi_peeled_list(
 #[no_mangle]
 pub extern "C" fn vempaldi_fused_ranges(
     table: &[u8],
-    processors: u32,
+    settings: Settings,
     processor: u32,
     out: &mut [u8],
     answer: &mut [u64; 4],
 ) -> u64
-    ensures { λ r. ⌜ now (answer .exit) ≡ answered (refusalOf (fusedRangesGiven (now (table .entry)) (settings processors) processor (length (now (out .entry))))) (now (answer .entry)) ⌝ }
-    ensures { λ r. ⌜ r ≡ countOf (fusedRangesGiven (now (table .entry)) (settings processors) processor (length (now (out .entry)))) ⌝ }
-    ensures { λ r. ⌜ now (out .exit) ≡ final (fusedRangesGiven (now (table .entry)) (settings processors) processor (length (now (out .entry)))) (now (out .entry)) ⌝ }
+    ensures { λ r. ⌜ now (answer .exit) ≡ answered (refusalOf (fusedRangesGiven (now (table .entry)) settings processor (length (now (out .entry))))) (now (answer .entry)) ⌝ }
+    ensures { λ r. ⌜ r ≡ countOf (fusedRangesGiven (now (table .entry)) settings processor (length (now (out .entry)))) ⌝ }
+    ensures { λ r. ⌜ now (out .exit) ≡ final (fusedRangesGiven (now (table .entry)) settings processor (length (now (out .entry)))) (now (out .entry)) ⌝ }
 {
-    let o = entries::ranges(table, 0, processors, processor, out);
+    let o = entries::ranges(table, 0, settings, processor, out);
     tell_outcome(answer, o)
 }
 
@@ -190,16 +190,16 @@ pub extern "C" fn vempaldi_fused_ranges(
 #[no_mangle]
 pub extern "C" fn vempaldi_peeled_ranges(
     table: &[u8],
-    processors: u32,
+    settings: Settings,
     processor: u32,
     out: &mut [u8],
     answer: &mut [u64; 4],
 ) -> u64
-    ensures { λ r. ⌜ now (answer .exit) ≡ answered (refusalOf (peeledRangesGiven (now (table .entry)) (settings processors) processor (length (now (out .entry))))) (now (answer .entry)) ⌝ }
-    ensures { λ r. ⌜ r ≡ countOf (peeledRangesGiven (now (table .entry)) (settings processors) processor (length (now (out .entry)))) ⌝ }
-    ensures { λ r. ⌜ now (out .exit) ≡ final (peeledRangesGiven (now (table .entry)) (settings processors) processor (length (now (out .entry)))) (now (out .entry)) ⌝ }
+    ensures { λ r. ⌜ now (answer .exit) ≡ answered (refusalOf (peeledRangesGiven (now (table .entry)) settings processor (length (now (out .entry))))) (now (answer .entry)) ⌝ }
+    ensures { λ r. ⌜ r ≡ countOf (peeledRangesGiven (now (table .entry)) settings processor (length (now (out .entry)))) ⌝ }
+    ensures { λ r. ⌜ now (out .exit) ≡ final (peeledRangesGiven (now (table .entry)) settings processor (length (now (out .entry)))) (now (out .entry)) ⌝ }
 {
-    let o = entries::ranges(table, 1, processors, processor, out);
+    let o = entries::ranges(table, 1, settings, processor, out);
     tell_outcome(answer, o)
 }
 
@@ -217,21 +217,21 @@ pub extern "C" fn vempaldi_plain_run(table: &[u8], memory: &mut [f64], answer: &
 #[no_mangle]
 pub extern "C" fn vempaldi_step(
     table: &[u8],
-    processors: u32,
+    settings: Settings,
     processor: u32,
     counts: &mut [u32; 64],
     memory: &mut [f64],
     report: &mut [u32; 3],
     answer: &mut [u64; 4],
 )
-    ensures { λ _. ⌜ now (counts .exit) ≡ step (now (table .entry)) (settings processors) processor (now (counts .entry)) (now (memory .entry)) .counts ⌝ }
-    ensures { λ _. ⌜ now (memory .exit) ≡ step (now (table .entry)) (settings processors) processor (now (counts .entry)) (now (memory .entry)) .memory ⌝ }
-    ensures { λ _. ⌜ now (report .exit) ≡ reported (reportAt (now (table .entry)) (settings processors) processor (now (counts .entry)) (now (memory .entry))) (now (report .entry)) ⌝ }
-    ensures { λ _. ⌜ now (answer .exit) ≡ answered (refusalIn (reportAt (now (table .entry)) (settings processors) processor (now (counts .entry)) (now (memory .entry)))) (now (answer .entry)) ⌝ }
+    ensures { λ _. ⌜ now (counts .exit) ≡ step (now (table .entry)) settings processor (now (counts .entry)) (now (memory .entry)) .counts ⌝ }
+    ensures { λ _. ⌜ now (memory .exit) ≡ step (now (table .entry)) settings processor (now (counts .entry)) (now (memory .entry)) .memory ⌝ }
+    ensures { λ _. ⌜ now (report .exit) ≡ reported (reportAt (now (table .entry)) settings processor (now (counts .entry)) (now (memory .entry))) (now (report .entry)) ⌝ }
+    ensures { λ _. ⌜ now (answer .exit) ≡ answered (refusalIn (reportAt (now (table .entry)) settings processor (now (counts .entry)) (now (memory .entry)))) (now (answer .entry)) ⌝ }
 {
     let done = *counts;
     let state = Counts { done };
-    let r = state.step(table, processors, processor, memory);
+    let r = state.step(table, settings, processor, memory);
     let c = r.counts;
     let left = c.done;
     *counts = left;
@@ -244,16 +244,16 @@ pub extern "C" fn vempaldi_step(
 #[no_mangle]
 pub extern "C" fn vempaldi_run(
     table: &[u8],
-    processors: u32,
+    settings: Settings,
     order: &[u8],
     memory: &mut [f64],
     answer: &mut [u64; 4],
 ) -> u64
-    ensures { λ r. ⌜ now (answer .exit) ≡ answered (refusalOf (runAnswer (now (table .entry)) (settings processors) (length (now (memory .entry))))) (now (answer .entry)) ⌝ }
-    ensures { λ r. ⌜ now (memory .exit) ≡ runMemory (now (table .entry)) (settings processors) (now (order .entry)) (now (memory .entry)) ⌝ }
-    ensures { λ r. ⌜ r ≡ runIdle (now (table .entry)) (settings processors) (now (order .entry)) (now (memory .entry)) ⌝ }
+    ensures { λ r. ⌜ now (answer .exit) ≡ answered (refusalOf (runAnswer (now (table .entry)) settings (length (now (memory .entry))))) (now (answer .entry)) ⌝ }
+    ensures { λ r. ⌜ now (memory .exit) ≡ runMemory (now (table .entry)) settings (now (order .entry)) (now (memory .entry)) ⌝ }
+    ensures { λ r. ⌜ r ≡ runIdle (now (table .entry)) settings (now (order .entry)) (now (memory .entry)) ⌝ }
 {
-    let v = running::run(table, processors, order, memory);
+    let v = running::run(table, settings, order, memory);
     write_answer(answer, v.refusal);
     v.idle as u64
 }

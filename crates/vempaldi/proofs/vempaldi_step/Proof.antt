@@ -11,7 +11,7 @@ tell-report-requires : tie.Need-tell-report-requires
 tell-report-requires c κs =
     let a = c .before .before .before .before .before .before .before .before .before .before .args in
     let x = c .before .before .before .before .before .step in
-    report-small (now (a .table)) (a .w) (a .processor) (now (a .counts)) (now (a .memory)) (x .result .report) (x .ensures .report-is)
+    report-small (now (a .table)) (a .settings) (a .processor) (now (a .counts)) (now (a .memory)) (x .result .report) (x .ensures .report-is)
 
 returns : tie.Need-returns
 returns c =
