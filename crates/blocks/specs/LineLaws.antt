@@ -81,8 +81,8 @@ module _ (T W P : ℕ) where
       before-whole b l = omega (arith, inside b l)
 
       -- every block but the last is a whole number of lines
-      pub width-whole : (b : ℕ) → suc b < P → width T W P b ≡ W * size L P b
-      width-whole b l = omega (arith, before-whole b (omega arith), before-whole (suc b) l, next b)
+      pub before-next : (b : ℕ) → suc b < P → before T W P (suc b) ≡ before T W P b + W * size L P b
+      before-next b l = omega (arith, before-whole b (omega arith), before-whole (suc b) l, next b)
 
       -- none is empty
       pub before-rises : (b : ℕ) → b < P → before T W P b < before T W P (suc b)
@@ -91,7 +91,7 @@ module _ (T W P : ℕ) where
           go : Dec (suc b ≡ P) → before T W P b < before T W P (suc b)
           go (yes e) = omega (arith, before-whole b l, inside b l, ap (before T W P) e ∙ before-last)
           go (no e) =
-              omega (arith, before-whole b l, before-whole (suc b) (omega arith), next b, mul-le-mul-left W (size-some L P pos enough b), mul-suc W 0, mul-zero W)
+              omega (arith, before-next b (omega arith), mul-le-mul-left W (size-some L P pos enough b), mul-suc W 0, mul-zero W)
 
       -- and the last one is the smallest
       pub width-least : (b : ℕ) → b < P → T - before T W P (P - 1) ≤ width T W P b
@@ -107,7 +107,7 @@ module _ (T W P : ℕ) where
           go (no f) =
               omega (
                 arith,
-                width-whole b (omega arith),
+                before-next b (omega arith),
                 before-whole (P - 1) (omega arith),
                 lines-enough T W wide,
                 next (P - 1),

@@ -1,5 +1,5 @@
 -- Laws of T and the least first: every index of every loop is among them.
-use mathlib.Core.Path.{_≡_, _∙_, ap}
+use mathlib.Core.Path.{_≡_, refl, _∙_, ap}
 use Prim.Native.Nat.{ℕ, suc, _+_, _-_, _≤_, _<_}
 use native.Mathlib.Omega.{arith}
 use Rattle.model.specs.Table.{count, first}
@@ -22,6 +22,15 @@ module _ (n : ℕ) (from to : ℕ → ℕ) where
   pub span-past : (k : ℕ) → k < n → to k < spanOf n from to .first + spanOf n from to .count
   unfolding spanOf
   span-past k l = omega (arith, largest-bound n k to l)
+
+  -- from the least first to the greatest last
+  pub span-begins : spanOf n from to .first ≡ least n from
+  unfolding spanOf
+  span-begins = refl
+
+  pub span-ends : 0 < n → from 0 ≤ to 0 → spanOf n from to .first + spanOf n from to .count ≡ suc (largest n to)
+  unfolding spanOf
+  span-ends pos h = omega (arith, least-bound n 0 from pos, largest-bound n 0 to pos)
 
   -- and none is past the greatest last
   pub span-most : (most : ℕ) → 0 < n → from 0 ≤ to 0 → ((k : ℕ) → k < n → to k ≤ most) → spanOf n from to .first + spanOf n from to .count ≤ suc most

@@ -24,6 +24,8 @@ pub mod Limits
 pub mod Values
 -- the grounds that a call meets beside a table's
 pub mod Calls
+-- blocks on whole lines
+pub mod Lines
 -- the example's lists, steps and runs
 pub mod Runs
 -- the numbers in lent bytes

@@ -2,6 +2,8 @@
 pub mod Plans
 -- what is known of an accepted plan
 pub mod Accepted
+-- its blocks, on whole lines
+pub mod OnLines
 -- what the code leaves of it
 pub mod Code
 -- 11 is nowhere given where bounds that play no part would not give it
