@@ -12,6 +12,8 @@ pub mod Blocks
 pub mod BlockLaws
 -- blocks on whole lines: they follow on each other and cover all; ground 11; and lines of one index
 pub mod LineLaws
+-- ten indices on whole lines, by computation
+pub mod LineKnown
 -- the parts of one index: each iteration in one of them, and what a dependence keeps
 pub mod Index
 -- the same parts as ranges
