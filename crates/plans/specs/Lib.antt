@@ -1,9 +1,11 @@
--- a table's plan: shifts, peels, threshold, and for P processors its blocks and lists; 10 and 11
+-- a table's plan: shifts, peels, threshold, and for P processors its blocks and lists; 10, 17 and 11
 pub mod Plans
 -- what is known of an accepted plan
 pub mod Accepted
--- its blocks, on whole lines
+-- blocks on whole lines
 pub mod OnLines
+-- those of an accepted plan are
+pub mod OnLinesLaws
 -- what the code leaves of it
 pub mod Code
 -- 11 is nowhere given where bounds that play no part would not give it
