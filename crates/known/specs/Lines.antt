@@ -61,6 +61,10 @@ pub record Lines : Type 0 where
   -- 11 by the last block as it is cut: the example's threshold is 2; of four lines of 3 the last has one index, of three lines of 4 two
   pub last-cut : refusalOn example 4 3 ≡ met 11 0
   pub last-enough : refusalOn example 3 4 ≡ none
+  -- of two lines of 9 the last has one; and three lines of 4 are too few for four processors, two of 5 for three
+  pub nine-two : refusalOn example 2 9 ≡ met 11 0
+  pub four-four : refusalOn example 4 4 ≡ met 11 0
+  pub five-three : refusalOn example 3 5 ≡ met 11 0
   -- with one processor no block is too short
   pub one-processor : refusalOn example 1 64 ≡ none
   -- 17: W is 1 to 64
@@ -108,6 +112,9 @@ lines = record {
   lines-up = refl;
   last-cut = refl;
   last-enough = refl;
+  nine-two = refl;
+  four-four = refl;
+  five-three = refl;
   one-processor = refl;
   no-line = refl;
   longest-line = refl;
