@@ -4,13 +4,15 @@
 use crate::plans::{planned, Planned};
 use crate::schedulers::{self, Scheduler};
 use crate::stop::{first_difference, same_bits, stop};
+use vempaldi_checks::blocks::{indices, plan};
 use vempaldi_checks::interpreter::plain_run;
 use vempaldi_checks::library_running as library;
 use vempaldi_checks::memories;
 use vempaldi_checks::misjudged::bounds_matter;
 use vempaldi_checks::outcome::agrees;
 use vempaldi_checks::random::Random;
-use vempaldi_checks::stepping::{Counts, Report};
+use vempaldi_checks::settings::Settings;
+use vempaldi_checks::stepping::{Counts, Report, Schedule};
 
 const PLANS: u64 = 6_000;
 const LEAST_OF_EACH: u64 = 10_000;
@@ -23,10 +25,50 @@ struct Calls {
     /// Plans of loops that would be shifted or peeled more if their bounds
     /// were not asked.
     apart: u64,
+    /// Plans for two processors or more, by their lines.
+    lines: Lines,
     done: u64,
     waiting: u64,
     finished: u64,
     refused: u64,
+}
+
+/// Plans with lines of two iterations or more; of these, those with a last
+/// block that is cut, and those with a last block shorter than all others.
+#[derive(Default)]
+struct Lines {
+    longer: u64,
+    cut: u64,
+    shorter: u64,
+}
+
+impl Lines {
+    fn add(&mut self, schedule: &Schedule) {
+        let Settings { processors, line } = schedule.settings;
+        if processors < 2 || line < 2 {
+            return;
+        }
+        let indices = indices(&schedule.table);
+        let blocks = plan(&schedule.table, schedule.settings).expect("planned").blocks;
+        let (last, others) = blocks.split_last().expect("a plan has blocks");
+        self.longer += 1;
+        self.cut += u64::from(indices.count() % i64::from(line) > 0);
+        self.shorter += u64::from(others.iter().all(|block| last.count() < block.count()));
+    }
+
+    fn print(&self) {
+        println!(
+            "  {} for two processors and more with lines of two iterations or more:",
+            self.longer
+        );
+        println!(
+            "  of these {} cut their last block, {} have it shorter than all others",
+            self.cut, self.shorter
+        );
+        for count in [self.longer, self.cut, self.shorter] {
+            assert!(count >= 1_000, "too few plans with lines of one kind");
+        }
+    }
 }
 
 pub fn compare_all() {
@@ -36,6 +78,7 @@ pub fn compare_all() {
         let planned = planned(&mut random);
         let processors = planned.schedule.processors();
         calls.widest += u64::from(processors == 64);
+        calls.lines.add(&planned.schedule);
         let parallel = processors > 1;
         calls.apart += u64::from(parallel && bounds_matter(&planned.schedule.table));
         for scheduler in schedulers::every(&mut random, processors) {
@@ -48,6 +91,7 @@ pub fn compare_all() {
     );
     println!("  {} of {PLANS} plans for 64 processors", calls.widest);
     println!("  {} for two processors and more with loops that bounds keep apart", calls.apart);
+    calls.lines.print();
     assert!(calls.widest >= 50, "too few plans for 64 processors");
     assert!(calls.apart >= 500, "too few plans of loops that never meet");
     for count in [calls.rows, calls.done, calls.waiting, calls.finished, calls.refused] {
@@ -75,7 +119,9 @@ fn row(calls: &mut Calls, random: &mut Random, planned: &Planned, scheduler: Sch
     plain_run(&planned.bytes, &mut plain).expect("accepted");
     if !same_bits(&state.found, &plain) {
         let difference = first_difference(&state.found, &plain);
-        stop("row and plain run", &planned.bytes, &format!("  {scheduler:?}\n{difference}"));
+        let settings = planned.schedule.settings;
+        let details = format!("  {settings:?}, {scheduler:?}\n{difference}");
+        stop("row and plain run", &planned.bytes, &details);
     }
     calls.rows += 1;
 }
@@ -102,17 +148,11 @@ pub fn numbers(report: Report) -> [u32; 3] {
 
 fn call(calls: &mut Calls, planned: &Planned, state: &mut State, named: u32) {
     let schedule = &planned.schedule;
-    let processors = schedule.processors();
+    let settings = schedule.settings;
     let mut counts = state.counts;
     let mut report = NO_REPORT;
-    let answer = library::step(
-        &planned.bytes,
-        processors,
-        named,
-        &mut counts,
-        &mut state.found,
-        &mut report,
-    );
+    let answer =
+        library::step(&planned.bytes, settings, named, &mut counts, &mut state.found, &mut report);
     let expected = schedule.checked_step(named, &mut state.counts, &mut state.wanted);
     let wanted = expected.as_ref().map_or(NO_REPORT, |&report| numbers(report));
     let same = agrees(&answer, expected.as_ref().err())
@@ -122,7 +162,7 @@ fn call(calls: &mut Calls, planned: &Planned, state: &mut State, named: u32) {
     if !same {
         let difference = first_difference(&state.found, &state.wanted);
         let details = format!(
-            "  processors {processors}, stepped {named}\n\
+            "  {settings:?}, stepped {named}\n\
              \x20 library  {answer:?}, report {report:?}, counts {counts:?}\n\
              \x20 expected {expected:?}, counts {:?}\n{difference}",
             state.counts
