@@ -97,7 +97,7 @@ static int step(struct call *call, struct stepped *on, int fits) {
 static void any_counts(const struct call *call, struct cursor *bytes, uint32_t counts[MOST_PROCESSORS]) {
     memset(counts, 0, 4 * MOST_PROCESSORS);
     uint32_t way = take(bytes, 1);
-    if (!call->verdict[0] && !call->planned && way % 2)
+    if (!call->verdict[0] && !call->planned && (bytes->large || way % 2))
         for (uint32_t b = 0; b < call->settings.processors; b++) {
             counts[b] = (uint32_t)list_length(&call->plan, FUSED, b);
             if (way % 4 == 1) counts[b] += take(bytes, 1) % (uint32_t)(list_length(&call->plan, PEELED, b) + 1);
@@ -117,6 +117,8 @@ static void steps(struct call *call, struct cursor *bytes, const struct lent *pl
     any_counts(call, bytes, (uint32_t *)counts);
     uint32_t way = take(bytes, 1) % 8;
     call->processor = way > 3 ? take(bytes, 1) % 4 : way ? call->settings.processors - 1 : wide(bytes, take(bytes, 1) % 4);
+    /* Large inputs are few, so none is spent on a number that is refused. */
+    if (bytes->large) call->processor %= call->settings.processors;
     step(call, &on, fits);
     uint64_t left = call->verdict[0] || call->planned || !fits ? 0 : iterations_of(&call->table);
     int complete = left > 0 && left <= MOST_STEPPED && plain->size <= 8 * LONG_MEMORY;

@@ -52,10 +52,11 @@ peeled 0 1 8 9
 sweeps 6 5
 ";
 
-/// The example's blocks, or their ground, for so many processors and lines of
-/// so many iterations. Its indices are 1 to 10, its threshold is 2.
+/// For so many processors and lines of so many iterations the first and the
+/// last index of each block, or the ground.
 pub type Aligned = (u32, u32, Result<&'static [(u32, u32)], u64>);
 
+/// The example's. Its indices are 1 to 10, its threshold is 2.
 pub const EXAMPLE_ALIGNED: [Aligned; 20] = [
     (1, 4, Ok(&[(1, 10)])),
     (2, 4, Ok(&[(1, 8), (9, 10)])),
@@ -83,6 +84,17 @@ pub const EXAMPLE_ALIGNED: [Aligned; 20] = [
     (6, u32::MAX, Err(17)),
     (0, 0, Err(10)),
     (65, 65, Err(10)),
+];
+
+/// Those of `ten_indices`, 0 to 9, of which the threshold is 0.
+pub const TEN_ALIGNED: [Aligned; 7] = [
+    (2, 3, Ok(&[(0, 5), (6, 9)])),
+    (3, 3, Ok(&[(0, 5), (6, 8), (9, 9)])),
+    (4, 3, Ok(&[(0, 2), (3, 5), (6, 8), (9, 9)])),
+    (5, 3, Err(11)),
+    (2, 9, Ok(&[(0, 8), (9, 9)])),
+    (2, 10, Err(11)),
+    (11, 0, Err(17)),
 ];
 
 /// Loops over 10 to 49 and arrays of 60: loop k stores array k and reads what

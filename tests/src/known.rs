@@ -107,26 +107,22 @@ fn ten_indices_over_three_processors() {
 }
 
 #[test]
-fn the_example_has_its_lines() {
-    for (processors, line, wanted) in EXAMPLE_ALIGNED {
-        let found = blocks_of(&EXAMPLE, processors, line);
-        assert_eq!(found, wanted.map(<[_]>::to_vec), "P = {processors}, W = {line}");
+fn blocks_are_on_whole_lines() {
+    for (table, typed) in [(EXAMPLE.to_vec(), &EXAMPLE_ALIGNED[..]), (ten_indices(), &TEN_ALIGNED)]
+    {
+        for &(processors, line, wanted) in typed {
+            let found = blocks_of(&table, processors, line);
+            assert_eq!(found, wanted.map(<[_]>::to_vec), "P = {processors}, W = {line}");
+        }
     }
-    let listed = lines(&EXAMPLE, Settings::new(2, 4)).expect("accepted");
-    assert_eq!(listed, EXAMPLE_LINES_OF_4);
-}
-
-/// One loop over 0 to 9 and threshold 0, so that lines alone count.
-#[test]
-fn ten_indices_in_lines() {
-    let blocks = |processors, line| blocks_of(&ten_indices(), processors, line);
-    assert_eq!(blocks(3, 3), Ok(vec![(0, 5), (6, 8), (9, 9)]));
-    assert_eq!(blocks(4, 3), Ok(vec![(0, 2), (3, 5), (6, 8), (9, 9)]));
-    assert_eq!(blocks(5, 3), Err(11));
-    assert_eq!(blocks(2, 9), Ok(vec![(0, 8), (9, 9)]));
-    assert_eq!(blocks(2, 10), Err(11));
     // Lines count from the least first, which is 10 here; 40 indices.
     assert_eq!(blocks_of(&three_loops(), 3, 16), Ok(vec![(10, 25), (26, 41), (42, 49)]));
+}
+
+#[test]
+fn the_example_has_its_listing_for_lines_of_4() {
+    let listed = lines(&EXAMPLE, Settings::new(2, 4)).expect("accepted");
+    assert_eq!(listed, EXAMPLE_LINES_OF_4);
 }
 
 #[test]
@@ -203,6 +199,15 @@ fn idle_bytes_are_counted() {
     // none.
     let all = [[1; 9], [0; 9]].concat();
     assert_eq!(idle(&[&all[..], &[1, 0, 0, 0]].concat()), 2);
+}
+
+/// With lines of four iterations processor 1 has 9 and 10 of loop 0 and 10 of
+/// loop 1, and then waits.
+#[test]
+fn idle_bytes_follow_the_lines() {
+    let mut memory = own_index(&table(&EXAMPLE).arrays);
+    assert_eq!(run(&EXAMPLE, Settings::new(2, 4), &[1; 5], &mut memory), Ok(2));
+    assert_eq!((memory[25], memory[29], memory[34]), (3.0, 12.0, 21.0));
 }
 
 #[test]

@@ -60,9 +60,8 @@ fn short_last(random: &mut Random, processors: i64, line: i64) -> (i64, i64) {
     (lines * line - over, threshold)
 }
 
-/// Loop 0 stores A0[i] and reads A1[i], loop 1 stores A1[i] and reads A0[i +
-/// shift] and A0[i - peel], which add up to the threshold. At times the least first is one loop's and the
-/// greatest last the other's.
+/// Two loops whose shift and peel add up to the threshold. At times the least
+/// first is one loop's and the greatest last the other's.
 fn two_loops(random: &mut Random, indices: i64, threshold: i64) -> Table {
     let most = i64::from(MOST_OFFSET);
     let shift = random.between((threshold - most).max(0), threshold.min(most));
@@ -74,6 +73,17 @@ fn two_loops(random: &mut Random, indices: i64, threshold: i64) -> Table {
     if random.chance(1, 2) {
         bounds.reverse();
     }
+    shifted_and_peeled(bounds, shift, peel)
+}
+
+/// Two loops from `first` on over so many indices; the later has a shift.
+pub fn over(first: i64, indices: i64, shift: i64) -> Table {
+    shifted_and_peeled([(first, first + indices - 1); 2], shift, 0)
+}
+
+/// Loop 0 stores A0[i] and reads A1[i], loop 1 stores A1[i] and reads A0[i +
+/// shift] and A0[i - peel].
+fn shifted_and_peeled(bounds: [(i64, i64); 2], shift: i64, peel: i64) -> Table {
     let at = |array, offset: i64| Reference { array, offset: offset as i16 };
     let a_loop = |number: usize, items| {
         let (first, last) = (bounds[number].0 as u32, bounds[number].1 as u32);
@@ -82,6 +92,7 @@ fn two_loops(random: &mut Random, indices: i64, threshold: i64) -> Table {
     let sum = |one, other| vec![one, other, Item::Operation(Operation::Add)];
     let front = sum(Item::Read(at(1, 0)), Item::Constant(3));
     let back = sum(Item::Read(at(0, shift)), Item::Read(at(0, -peel)));
+    let last = bounds[0].1.max(bounds[1].1);
     Table {
         arrays: vec![(last + shift + 1) as u32, last as u32 + 1],
         loops: vec![a_loop(0, front), a_loop(1, back)],

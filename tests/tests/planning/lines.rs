@@ -1,4 +1,4 @@
-//! Blocks on whole lines: what is typed of the example, many calls in which
+//! Blocks on whole lines: what is typed, every small case, many calls in which
 //! one line or one index decides, with a count of those by which each wrong
 //! way would be seen, and lines of one iteration by the rule of before.
 
@@ -6,7 +6,7 @@ use crate::entries::{every_entry, needed, ranges, with_room};
 use vempaldi_checks::blocks::{indices, Range};
 use vempaldi_checks::dealt;
 use vempaldi_checks::encoder::encode;
-use vempaldi_checks::examples::{EXAMPLE, EXAMPLE_ALIGNED};
+use vempaldi_checks::examples::{ten_indices, Aligned, EXAMPLE, EXAMPLE_ALIGNED, TEN_ALIGNED};
 use vempaldi_checks::library_planning as library;
 use vempaldi_checks::lined::{self, Lined};
 use vempaldi_checks::misaligned::{Asked, Misaligned};
@@ -30,21 +30,41 @@ const ROOM: usize = 512;
 
 pub fn compare_all() {
     let mut tally = Tally::new();
-    typed(&mut tally);
+    typed(&mut tally, &EXAMPLE, &EXAMPLE_ALIGNED);
+    typed(&mut tally, &ten_indices(), &TEN_ALIGNED);
+    small();
     made(&mut tally);
     tally.print("entries of blocks on whole lines");
     tally.require(&[0, 10, 11, 13, 17], LEAST_OF_EACH);
     old_rule();
 }
 
-fn typed(tally: &mut Tally) {
-    for (processors, line, wanted) in EXAMPLE_ALIGNED {
+fn typed(tally: &mut Tally, table: &[u8], typed: &[Aligned]) {
+    for &(processors, line, wanted) in typed {
         let settings = Settings::new(processors, line);
         let ends = |&(a, e): &(u32, u32)| Range { a: a.into(), e: e.into() };
         let wanted = wanted.map(|blocks| blocks.iter().map(ends).collect());
-        compare(&EXAMPLE, settings, &wanted, "what is typed");
-        every_entry(tally, &EXAMPLE, settings, processors / 2);
+        compare(table, settings, &wanted, "what is typed");
+        every_entry(tally, table, settings, processors / 2);
     }
+}
+
+/// Every number of up to twenty indices, of processors up to one more than
+/// indices, and every length of a line up to one out of range; the thresholds
+/// 0 and 3.
+fn small() {
+    let mut calls = 0;
+    for (count, threshold) in (1..=20).flat_map(|count| [(count, 0), (count, 3)]) {
+        let table = lined::over(7, count, threshold);
+        let bytes = encode(&table);
+        for (processors, line) in (0..=count + 1).flat_map(|p| (0..=65).map(move |w| (p, w))) {
+            let settings = Settings::new(processors as u32, line);
+            let wanted = dealt_out(&table, settings);
+            compare(&bytes, settings, &wanted, "lines dealt out one by one");
+            calls += 1;
+        }
+    }
+    println!("every small case: {calls} calls, blocks as they are dealt out line by line");
 }
 
 fn made(tally: &mut Tally) {

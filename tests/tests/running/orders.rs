@@ -7,6 +7,7 @@ use std::hint::black_box;
 use vempaldi_checks::collisions;
 use vempaldi_checks::damage;
 use vempaldi_checks::encoder::encode;
+use vempaldi_checks::examples::EXAMPLE;
 use vempaldi_checks::interpreter::plain_run;
 use vempaldi_checks::library_running as library;
 use vempaldi_checks::line_lengths;
@@ -22,6 +23,7 @@ use vempaldi_checks::tally::Tally;
 const PLANS: u64 = 20_000;
 
 pub fn compare_all() {
+    typed();
     let mut random = Random::new(13);
     let mut tally = Tally::new();
     let mut idle = 0;
@@ -42,6 +44,15 @@ pub fn compare_all() {
     tally.print("runs in a caller's order");
     println!("  {idle} idle bytes in all");
     tally.require(&[0, 1, 3, 4, 5, 6, 7, 8, 9, 10, 11, 12, 17], 50);
+}
+
+/// The example for lines of four iterations: processor 1 has 9 and 10 of loop 0
+/// and 10 of loop 1, and then waits.
+fn typed() {
+    let mut memory: Vec<f64> = (0..36).map(|at| f64::from(at % 12)).collect();
+    let (answer, idle) = library::run(&EXAMPLE, Settings::new(2, 4), &[1; 5], &mut memory);
+    assert_eq!((answer, idle), (ACCEPTED, 2), "a typed run");
+    assert_eq!((memory[25], memory[29], memory[34]), (3.0, 12.0, 21.0), "a typed run");
 }
 
 /// Few runs of larger tables, up to some thousand iterations.
