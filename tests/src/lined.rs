@@ -16,12 +16,18 @@ pub struct Lined {
 pub fn made(random: &mut Random, most: i64) -> Lined {
     let line = line_lengths::good(random);
     let processors = if random.chance(1, 6) { most } else { random.between(1, most.min(9)) };
+    let settings = Settings::new(processors as u32, line);
+    Lined { table: made_for(random, settings, 3), settings }
+}
+
+/// A table for these settings; its last block has so many lines at most.
+pub fn made_for(random: &mut Random, settings: Settings, most: i64) -> Table {
+    let (processors, line) = (settings.processors.into(), settings.line.into());
     let (indices, threshold) = match random.below(3) {
-        0 => few_lines(random, processors, line.into()),
-        _ => short_last(random, processors, line.into()),
+        0 => few_lines(random, processors, line),
+        _ => short_last(random, processors, line, most),
     };
-    let table = two_loops(random, indices, threshold);
-    Lined { table, settings: Settings::new(processors as u32, line) }
+    two_loops(random, indices, threshold)
 }
 
 /// The same with numbers out of range at times, one or both.
@@ -48,8 +54,8 @@ fn few_lines(random: &mut Random, processors: i64, line: i64) -> (i64, i64) {
 
 /// The last block has the threshold's indices, one more or one fewer, or so
 /// many that it is long enough only if it is not cut.
-fn short_last(random: &mut Random, processors: i64, line: i64) -> (i64, i64) {
-    let own = random.small(1, 3);
+fn short_last(random: &mut Random, processors: i64, line: i64, most: i64) -> (i64, i64) {
+    let own = random.small(1, most);
     let lines = processors * own + random.between(0, processors - 1);
     let over = random.between(0, line - 1);
     let last = own * line - over;

@@ -29,8 +29,8 @@ const EVERY: u64 = 60;
 const ROOM: usize = 512;
 
 pub fn compare_all() {
-    let mut tally = Tally::new();
-    typed(&mut tally, &EXAMPLE, &EXAMPLE_ALIGNED);
+    let (example, mut tally) = (EXAMPLE.to_vec(), Tally::new());
+    typed(&mut tally, &example, &EXAMPLE_ALIGNED);
     typed(&mut tally, &ten_indices(), &TEN_ALIGNED);
     small();
     made(&mut tally);

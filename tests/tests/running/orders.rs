@@ -50,7 +50,9 @@ pub fn compare_all() {
 /// and 10 of loop 1, and then waits.
 fn typed() {
     let mut memory: Vec<f64> = (0..36).map(|at| f64::from(at % 12)).collect();
-    let (answer, idle) = library::run(&EXAMPLE, Settings::new(2, 4), &[1; 5], &mut memory);
+    // On the heap: a call that writes to them is found out below.
+    let (table, order) = (EXAMPLE.to_vec(), vec![1; 5]);
+    let (answer, idle) = library::run(&table, Settings::new(2, 4), &order, &mut memory);
     assert_eq!((answer, idle), (ACCEPTED, 2), "a typed run");
     assert_eq!((memory[25], memory[29], memory[34]), (3.0, 12.0, 21.0), "a typed run");
 }

@@ -34,7 +34,7 @@ pub fn planned(random: &mut Random) -> Planned {
         if most == 1 && random.chance(7, 8) {
             continue;
         }
-        let least = if random.chance(1, 4) { most } else { most.min(2) };
+        let least = if random.chance(1, 3) { most } else { most.min(2) };
         let processors = random.between(least, most) as u32;
         let bytes = encode(&table);
         if let Ok(schedule) = Schedule::new(&bytes, Settings::new(processors, line)) {
@@ -52,13 +52,19 @@ fn a_table(random: &mut Random) -> (Table, u32) {
         1 => line_lengths::good(random),
         _ => random.small(2, 9) as u32,
     };
-    match random.below(12) {
+    match random.below(13) {
         0 | 1 => (tables::any(random, &SMALL), line),
         2 | 3 => (tables::aligned(random, &SMALL), line),
         4 | 5 => (tables::aligned(random, &NEAR), line),
         6 | 7 => (tables::aligned(random, &CHAINED), line),
         8 | 9 => (meeting::short_table(random), line),
-        10 => (tables::aligned(random, &WIDE), random.pick(&[1, 1, 2])),
-        _ => (lined::made(random, 3).table, line_lengths::good(random)),
+        10 => (tables::aligned(random, &WIDE), random.pick(&[1, 1, 1, 2])),
+        _ => lined_table(random),
     }
+}
+
+/// Lines of any length, and few of them, so that rows are not too long.
+fn lined_table(random: &mut Random) -> (Table, u32) {
+    let settings = Settings::new(random.pick(&[2, 2, 3]), random.between(2, 64) as u32);
+    (lined::made_for(random, settings, 1), settings.line)
 }

@@ -1,21 +1,21 @@
 //! Complete rows of steps: every report, every count and the memory after
 //! every call, and at the end the memory of the plain run.
 
+use crate::lines::Lines;
 use crate::plans::{planned, Planned};
 use crate::schedulers::{self, Scheduler};
 use crate::stop::{first_difference, same_bits, stop};
-use vempaldi_checks::blocks::{indices, plan};
 use vempaldi_checks::interpreter::plain_run;
 use vempaldi_checks::library_running as library;
 use vempaldi_checks::memories;
 use vempaldi_checks::misjudged::bounds_matter;
 use vempaldi_checks::outcome::agrees;
 use vempaldi_checks::random::Random;
-use vempaldi_checks::settings::Settings;
-use vempaldi_checks::stepping::{Counts, Report, Schedule};
+use vempaldi_checks::stepping::{Counts, Report};
 
 const PLANS: u64 = 6_000;
 const LEAST_OF_EACH: u64 = 10_000;
+const LEAST_LINED: u64 = 1_000;
 
 #[derive(Default)]
 struct Calls {
@@ -25,50 +25,11 @@ struct Calls {
     /// Plans of loops that would be shifted or peeled more if their bounds
     /// were not asked.
     apart: u64,
-    /// Plans for two processors or more, by their lines.
     lines: Lines,
     done: u64,
     waiting: u64,
     finished: u64,
     refused: u64,
-}
-
-/// Plans with lines of two iterations or more; of these, those with a last
-/// block that is cut, and those with a last block shorter than all others.
-#[derive(Default)]
-struct Lines {
-    longer: u64,
-    cut: u64,
-    shorter: u64,
-}
-
-impl Lines {
-    fn add(&mut self, schedule: &Schedule) {
-        let Settings { processors, line } = schedule.settings;
-        if processors < 2 || line < 2 {
-            return;
-        }
-        let indices = indices(&schedule.table);
-        let blocks = plan(&schedule.table, schedule.settings).expect("planned").blocks;
-        let (last, others) = blocks.split_last().expect("a plan has blocks");
-        self.longer += 1;
-        self.cut += u64::from(indices.count() % i64::from(line) > 0);
-        self.shorter += u64::from(others.iter().all(|block| last.count() < block.count()));
-    }
-
-    fn print(&self) {
-        println!(
-            "  {} for two processors and more with lines of two iterations or more:",
-            self.longer
-        );
-        println!(
-            "  of these {} cut their last block, {} have it shorter than all others",
-            self.cut, self.shorter
-        );
-        for count in [self.longer, self.cut, self.shorter] {
-            assert!(count >= 1_000, "too few plans with lines of one kind");
-        }
-    }
 }
 
 pub fn compare_all() {
@@ -92,6 +53,7 @@ pub fn compare_all() {
     println!("  {} of {PLANS} plans for 64 processors", calls.widest);
     println!("  {} for two processors and more with loops that bounds keep apart", calls.apart);
     calls.lines.print();
+    calls.lines.require(LEAST_LINED);
     assert!(calls.widest >= 50, "too few plans for 64 processors");
     assert!(calls.apart >= 500, "too few plans of loops that never meet");
     for count in [calls.rows, calls.done, calls.waiting, calls.finished, calls.refused] {
