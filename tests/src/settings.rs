@@ -1,6 +1,6 @@
 //! What settles a table's lists beside the table itself.
 
-/// The header's struct, given to a call by value: what a later request adds
+/// The header's struct, given to a call by value: what a later version adds
 /// stands here as one member more.
 #[repr(C)]
 #[derive(Clone, Copy, Debug, PartialEq, Eq)]
