@@ -6,30 +6,58 @@
 #include <stdlib.h>
 #include <string.h>
 
-enum { MOST_READS = 16, PATTERN = 4096 };
+enum { MOST_READS = 16, PATTERN = 4096, GROUNDS = 18 };
 
 static const char *const names[ENTRIES] = {"check",      "join",        "facts",        "shifts and peels", "threshold",
                                            "sweeps",     "blocks",      "listing",      "fused list",       "peeled list",
                                            "fused ranges", "peeled ranges", "plain run", "step",            "run"};
 
-static uint64_t met[ENTRIES][16], named_reads[MOST_READS], with_pairs[MEETINGS];
+static uint64_t met[ENTRIES][GROUNDS], named_reads[MOST_READS], with_pairs[MEETINGS];
 
 /* The library is not instrumented, so the fuzzer learns what is new from the answers. Without libFuzzer this is a plain array. */
 #if defined(__clang__)
 __attribute__((section("__libfuzzer_extra_counters")))
 #endif
-static uint8_t novel[ENTRIES * 16 * 64];
+static uint8_t novel[ENTRIES * GROUNDS * 64];
 
-void begin_call(struct call *call, const uint8_t *bytes, size_t length, uint32_t processors) {
-    call->bytes = bytes, call->length = length, call->processors = processors, call->processor = 0;
+void begin_call(struct call *call, const uint8_t *bytes, size_t length, struct vempaldi_settings settings) {
+    call->bytes = bytes, call->length = length, call->settings = settings, call->processor = 0;
     read_table(bytes, length, &call->table, call->verdict);
     if (call->verdict[0]) return;
     find_amounts(&call->table, &call->plan);
-    call->planned = find_blocks(&call->plan, processors);
+    call->planned = find_blocks(&call->plan, settings.processors, settings.line);
 }
 
 void count_pairs(const struct call *call) {
     for (int kind = 0; kind < MEETINGS && !call->verdict[0]; kind++) with_pairs[kind] += call->plan.pairs[kind] > 0;
+}
+
+/* Plans by what their blocks are like, and refusals with 11 by what alone makes them. */
+static struct {
+    uint64_t plans, lined, cut, shorter, few, by_cut;
+} blocks;
+
+void count_blocks(const struct call *call) {
+    if (call->verdict[0] || (call->planned && call->planned != 11)) return;
+    const struct plan *plan = &call->plan;
+    if (call->planned) {
+        blocks.few += plan->lines < call->settings.processors && plan->indices >= call->settings.processors;
+        blocks.by_cut += plan->lines >= call->settings.processors && !plan->uncut_short;
+        return;
+    }
+    uint32_t last = plan->processors - 1;
+    blocks.plans++;
+    blocks.lined += call->settings.line > 1;
+    blocks.cut += plan->indices < (int64_t)plan->lines * call->settings.line;
+    blocks.shorter += last > 0 && plan->end[last] - plan->begin[last] < plan->end[last - 1] - plan->begin[last - 1];
+}
+
+static void tell_blocks(void) {
+    fprintf(stderr, "  plans: %" PRIu64 ", with lines of two iterations or more: %" PRIu64 ", with a last block that is cut: %" PRIu64,
+            blocks.plans, blocks.lined, blocks.cut);
+    fprintf(stderr, ", that is shorter than the one before: %" PRIu64 "\n", blocks.shorter);
+    fprintf(stderr, "  11 of lines alone, not of indices: %" PRIu64 ", of the last block's cut alone: %" PRIu64 "\n", blocks.few,
+            blocks.by_cut);
 }
 
 void expect(struct call *call, enum entry entry, uint64_t ground) {
@@ -41,7 +69,7 @@ void expect(struct call *call, enum entry entry, uint64_t ground) {
 
 uint64_t plan_ground(const struct call *call, int has_processor) {
     if (call->verdict[0]) return 0;
-    if (has_processor && call->planned != 10 && call->processor >= call->processors) return 10;
+    if (has_processor && call->planned != 10 && call->processor >= call->settings.processors) return 10;
     return call->planned;
 }
 
@@ -51,7 +79,7 @@ void answered(struct call *call) {
     met[call->entry][number]++;
     if (call->entry == CHECK && number == 9) named_reads[read % MOST_READS]++;
     uint64_t which = number == 9 ? place % 4 * 16 + read % 16 : place < 63 ? place : 63;
-    novel[((unsigned)call->entry * 16 + number) * 64 + which] = 1;
+    novel[((unsigned)call->entry * GROUNDS + number) * 64 + which] = 1;
 }
 
 static void tell_answer(const char *what, const uint64_t answer[4]) {
@@ -61,7 +89,8 @@ static void tell_answer(const char *what, const uint64_t answer[4]) {
 }
 
 void breach(const struct call *call, const char *what) {
-    fprintf(stderr, "BREACH in %s: %s\n  processors %u, processor %u\n", names[call->entry], what, call->processors, call->processor);
+    fprintf(stderr, "BREACH in %s: %s\n  processors %u, line %u, processor %u\n", names[call->entry], what, call->settings.processors,
+            call->settings.line, call->processor);
     tell_answer("answer", call->answer);
     tell_answer("expected", call->expected);
     fprintf(stderr, "  table    ");
@@ -74,7 +103,7 @@ void tell(void) {
     fprintf(stderr, "fuzz: calls by ground (0 accepted):\n");
     for (int e = 0; e < ENTRIES; e++) {
         fprintf(stderr, "  %-16s", names[e]);
-        for (int n = 0; n < 16; n++)
+        for (int n = 0; n < GROUNDS; n++)
             if (met[e][n]) fprintf(stderr, " %d:%" PRIu64, n, met[e][n]);
         fprintf(stderr, "\n");
     }
@@ -85,6 +114,7 @@ void tell(void) {
     fprintf(stderr, "  tables with references that are apart, miss by one, meet once, meet often:");
     for (int kind = 0; kind < MEETINGS; kind++) fprintf(stderr, " %" PRIu64, with_pairs[kind]);
     fprintf(stderr, "\n");
+    tell_blocks();
 }
 
 /* Bytes of which none is like its neighbours. */

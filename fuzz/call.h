@@ -15,8 +15,9 @@ struct call {
     enum entry entry;
     const uint8_t *bytes;
     size_t length;
-    uint32_t processors, processor;
-    /* The model's: the table with its plan, the refusal of the bytes, and 10 or 11 of the number of processors. */
+    struct vempaldi_settings settings;
+    uint32_t processor;
+    /* The model's: the table with its plan, the refusal of the bytes, and 10, 17 or 11 of the settings. */
     struct table table;
     struct plan plan;
     uint64_t verdict[4], planned;
@@ -25,15 +26,16 @@ struct call {
 };
 
 /* Reads the bytes by the model and plans them. `call` stays where it is from then on, for its plan points to its table. */
-void begin_call(struct call *call, const uint8_t *bytes, size_t length, uint32_t processors);
+void begin_call(struct call *call, const uint8_t *bytes, size_t length, struct vempaldi_settings settings);
 
-/* Counts an accepted table by how the references of its loops meet. */
+/* Counts an accepted table by how the references of its loops meet, and its plan by what its blocks are like. */
 void count_pairs(const struct call *call);
+void count_blocks(const struct call *call);
 
 /* Sets what the next call is to answer: the refusal of the bytes, or else `ground` (0 where it is accepted). */
 void expect(struct call *call, enum entry entry, uint64_t ground);
 
-/* 10 or 11: of the number of processors, and of the processor's own number where a call has one. */
+/* 10, 17 or 11: of the settings, and 10 of the processor's own number where a call has one. */
 uint64_t plan_ground(const struct call *call, int has_processor);
 
 /* The answer is the one expected. */
@@ -42,7 +44,7 @@ void answered(struct call *call);
 /* Prints the call and its table, and aborts. */
 void breach(const struct call *call, const char *what);
 
-/* How often each entry gave each ground, and how often check named each read. */
+/* How often each entry gave each ground, how often check named each read, and what was counted. */
 void tell(void);
 
 /* Lent bytes with guards on both sides, and beside them what they are to be after the call. */

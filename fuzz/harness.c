@@ -1,5 +1,5 @@
-/* One input, any bytes: a table (as it comes, or made from the bytes and then perhaps damaged), numbers of processors, orders, counts,
- * lengths of memories and outputs. Every exported function is called with them. What must hold whatever the input is:
+/* One input, any bytes: a table (as it comes, or made from the bytes and then perhaps damaged), numbers of processors, lengths of a line,
+ * orders, counts, lengths of memories and outputs. Every exported function is called with them. What must hold whatever the input is:
  *
  * - all four numbers of an answer, the count of bytes written, the bytes, the memory, the counts, the report and the idle count are what
  *   the model (model.h) says from the table's bytes; no call of the library is measured by another one;
@@ -27,10 +27,20 @@ static void another_byte(struct call *call, uint8_t *table, struct cursor *bytes
     size_t at = take(bytes, 2) % call->length;
     uint8_t kept = table[at];
     table[at] ^= (uint8_t)(1 + take(bytes, 1) % 255);
-    begin_call(&other, table, call->length, call->processors);
+    begin_call(&other, table, call->length, call->settings);
     check(&other);
     table[at] = kept;
     check(call);
+}
+
+/* A line's length: one iteration, few, since most tables are short, any in range, or one out of it. A large input has one in range. */
+static uint32_t any_line(struct cursor *bytes) {
+    static const uint32_t ends[] = {0, 63, 64, 65};
+    uint32_t way = take(bytes, 1);
+    if (bytes->large || way >= 224) return 1 + way % 64;
+    if (way < 96) return 1;
+    if (way < 192) return 2 + way % 6;
+    return way < 208 ? ends[way % 4] : wide(bytes, 1 + way % 8);
 }
 
 int LLVMFuzzerTestOneInput(const uint8_t *data, size_t size) {
@@ -46,8 +56,9 @@ int LLVMFuzzerTestOneInput(const uint8_t *data, size_t size) {
     if (bytes.large) p = 1 + p % 3;
     else if (seldom(&bytes, size_made > 1000 ? 2 : 16)) p = p % 2 ? 64 : 48 + p % 16;
     else p = p < 224 ? p % 9 : p < 240 ? p - 160 : wide(&bytes, 1 + p % 8);
-    begin_call(&call, length ? table : NULL, length, p);
+    begin_call(&call, length ? table : NULL, length, (struct vempaldi_settings){p, any_line(&bytes)});
     count_pairs(&call);
+    count_blocks(&call);
     check(&call);
     if (length) another_byte(&call, table, &bytes);
     if (vempaldi_version() != VEMPALDI_VERSION) breach(&call, "the library's version is not the header's");

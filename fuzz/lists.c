@@ -59,7 +59,7 @@ void lists_together(struct call *call) {
     memset(&seen, 0, sizeof seen);
     for (int k = 0; k < call->table.loops; k++)
         seen.begins[k + 1] = seen.begins[k] + (uint64_t)(call->table.loop[k].last - call->table.loop[k].first + 1);
-    for (call->processor = 0; call->processor < call->processors; call->processor++) {
+    for (call->processor = 0; call->processor < call->settings.processors; call->processor++) {
         one_list(call, &seen, FUSED);
         one_list(call, &seen, PEELED);
     }

@@ -49,7 +49,7 @@ static void run(struct call *call, struct cursor *bytes, const struct lent *plai
     double *lent = memory(&own, numbers, seed);
     uint64_t ground = plan_ground(call, 0);
     expect(call, RUN, ground ? ground : fits ? 0 : 12);
-    uint64_t idle = vempaldi_run(call->bytes, call->length, call->processors, length ? order : NULL, length, numbers ? lent : NULL,
+    uint64_t idle = vempaldi_run(call->bytes, call->length, call->settings, length ? order : NULL, length, numbers ? lent : NULL,
                                  numbers, call->answer);
     answered(call);
     if (memcmp(order, kept, length)) breach(call, "the order itself changed");
@@ -82,7 +82,7 @@ static int step(struct call *call, struct stepped *on, int fits) {
     uint64_t ground = plan_ground(call, 1);
     if (!call->verdict[0] && !ground) ground = !fits ? 12 : in_order(&call->plan, counts) ? 0 : 15;
     expect(call, STEP, ground);
-    vempaldi_step(call->bytes, call->length, call->processors, call->processor, counts, (double *)(on->memory.all + GUARD),
+    vempaldi_step(call->bytes, call->length, call->settings, call->processor, counts, (double *)(on->memory.all + GUARD),
                   on->memory.size / 8, report, call->answer);
     answered(call);
     if (!call->expected[0]) step_once(&call->plan, call->processor, to_count, (double *)wanted_in(&on->memory), to_report);
@@ -97,8 +97,8 @@ static int step(struct call *call, struct stepped *on, int fits) {
 static void any_counts(const struct call *call, struct cursor *bytes, uint32_t counts[MOST_PROCESSORS]) {
     memset(counts, 0, 4 * MOST_PROCESSORS);
     uint32_t way = take(bytes, 1);
-    if (!call->verdict[0] && !call->planned && way % 2)
-        for (uint32_t b = 0; b < call->processors; b++) {
+    if (!call->verdict[0] && !call->planned && (bytes->large || way % 2))
+        for (uint32_t b = 0; b < call->settings.processors; b++) {
             counts[b] = (uint32_t)list_length(&call->plan, FUSED, b);
             if (way % 4 == 1) counts[b] += take(bytes, 1) % (uint32_t)(list_length(&call->plan, PEELED, b) + 1);
             /* Near the end of the fused list. */
@@ -116,7 +116,9 @@ static void steps(struct call *call, struct cursor *bytes, const struct lent *pl
     memory(&on.memory, plain->size / 8, seed);
     any_counts(call, bytes, (uint32_t *)counts);
     uint32_t way = take(bytes, 1) % 8;
-    call->processor = way > 3 ? take(bytes, 1) % 4 : way ? call->processors - 1 : wide(bytes, take(bytes, 1) % 4);
+    call->processor = way > 3 ? take(bytes, 1) % 4 : way ? call->settings.processors - 1 : wide(bytes, take(bytes, 1) % 4);
+    /* Large inputs are few, so none is spent on a number that is refused. */
+    if (bytes->large) call->processor %= call->settings.processors;
     step(call, &on, fits);
     uint64_t left = call->verdict[0] || call->planned || !fits ? 0 : iterations_of(&call->table);
     int complete = left > 0 && left <= MOST_STEPPED && plain->size <= 8 * LONG_MEMORY;
@@ -127,7 +129,7 @@ static void steps(struct call *call, struct cursor *bytes, const struct lent *pl
     }
     for (uint32_t tries = 0; complete && left > 0; tries++) {
         /* First as the input says, then each processor in turn, which always comes to the end. */
-        call->processor = tries < 64 ? take(bytes, 1) % (call->processors + 1) : tries % call->processors;
+        call->processor = tries < 64 ? take(bytes, 1) % (call->settings.processors + 1) : tries % call->settings.processors;
         left -= (uint64_t)step(call, &on, fits);
     }
     memcpy(wanted_in(&on.memory), wanted_in(plain), complete ? plain->size : 0);

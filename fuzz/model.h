@@ -6,7 +6,7 @@
 #include <stddef.h>
 #include <stdint.h>
 
-enum { MOST_ARRAYS = 16, MOST_LOOPS = 16, MOST_ITEMS = 32, MOST_PROCESSORS = 64 };
+enum { MOST_ARRAYS = 16, MOST_LOOPS = 16, MOST_ITEMS = 32, MOST_PROCESSORS = 64, LONGEST_LINE = 64 };
 
 struct reference {
     int array;
@@ -59,15 +59,20 @@ struct plan {
     /* How many such pairs there are of each kind. */
     uint32_t pairs[MEETINGS];
     uint32_t processors;
+    /* All indices, and the lines that they have; whether 11 is given even if the last block is not cut. */
+    int64_t indices;
+    uint32_t lines;
+    int uncut_short;
     /* First and last index of each block. */
     int64_t begin[MOST_PROCESSORS], end[MOST_PROCESSORS];
 };
 
 enum phase { FUSED = 0, PEELED = 1 };
 
-/* Shifts, peels and the threshold of an accepted table; then, for a number of processors, its blocks. Answers 0, 10 or 11. */
+/* Shifts, peels and the threshold of an accepted table; then, for a number of processors and a line's length, its blocks. Answers 0, 10, 17
+ * or 11. */
 void find_amounts(const struct table *table, struct plan *plan);
-uint64_t find_blocks(struct plan *plan, uint32_t processors);
+uint64_t find_blocks(struct plan *plan, uint32_t processors, uint32_t line);
 
 struct range part_of(const struct plan *plan, enum phase phase, uint32_t processor, int loop);
 uint64_t list_length(const struct plan *plan, enum phase phase, uint32_t processor);

@@ -70,18 +70,19 @@ static void write_output(const struct call *call, enum entry entry, struct outpu
 uint64_t called(struct call *call, enum entry entry, uint8_t *out, size_t room) {
     const uint8_t *t = call->bytes;
     size_t n = call->length;
-    uint32_t p = call->processors, q = call->processor;
+    struct vempaldi_settings s = call->settings;
+    uint32_t q = call->processor;
     switch (entry) {
     case FACTS: return vempaldi_facts(t, n, out, room, call->answer);
     case SHIFTS_AND_PEELS: return vempaldi_shifts_and_peels(t, n, out, room, call->answer);
     case THRESHOLD: return vempaldi_threshold(t, n, out, room, call->answer);
     case SWEEPS: return vempaldi_sweeps(t, n, out, room, call->answer);
-    case BLOCKS: return vempaldi_blocks(t, n, p, out, room, call->answer);
-    case FUSED_LIST: return vempaldi_fused_list(t, n, p, q, out, room, call->answer);
-    case PEELED_LIST: return vempaldi_peeled_list(t, n, p, q, out, room, call->answer);
-    case FUSED_RANGES: return vempaldi_fused_ranges(t, n, p, q, out, room, call->answer);
-    case PEELED_RANGES: return vempaldi_peeled_ranges(t, n, p, q, out, room, call->answer);
-    default: return vempaldi_listing(t, n, p, out, room, call->answer);
+    case BLOCKS: return vempaldi_blocks(t, n, s, out, room, call->answer);
+    case FUSED_LIST: return vempaldi_fused_list(t, n, s, q, out, room, call->answer);
+    case PEELED_LIST: return vempaldi_peeled_list(t, n, s, q, out, room, call->answer);
+    case FUSED_RANGES: return vempaldi_fused_ranges(t, n, s, q, out, room, call->answer);
+    case PEELED_RANGES: return vempaldi_peeled_ranges(t, n, s, q, out, room, call->answer);
+    default: return vempaldi_listing(t, n, s, out, room, call->answer);
     }
 }
 
@@ -149,7 +150,7 @@ void join(const struct call *left, struct cursor *bytes) {
     size_t length = make_other(left, bytes, other), behind = bytes_behind(bytes);
     memset(other + length, 0, behind);
     length += behind;
-    begin_call(&right, other, length, left->processors);
+    begin_call(&right, other, length, left->settings);
     check(&right);
     uint64_t ground = joined(left, &right, &wanted);
     size_t rooms[] = {VEMPALDI_TABLE_BYTES, take(bytes, 2) % 300, wanted.length, wanted.length ? wanted.length - 1 : 0};
@@ -186,5 +187,5 @@ void outputs(struct call *call, struct cursor *bytes) {
     size_t any = take(bytes, 2) % 700 + (seldom(bytes, 64) ? 65536 : 0);
     for (enum entry entry = FACTS; entry <= LISTING; entry++) with_rooms(call, entry, any, 0);
     of_processor(call, take(bytes, 1) % 8 ? take(bytes, 1) % 8 : wide(bytes, take(bytes, 1) % 4), any);
-    if (!call->verdict[0] && !call->planned) of_processor(call, take(bytes, 1) % call->processors, take(bytes, 1));
+    if (!call->verdict[0] && !call->planned) of_processor(call, take(bytes, 1) % call->settings.processors, take(bytes, 1));
 }

@@ -49,21 +49,34 @@ void find_amounts(const struct table *table, struct plan *plan) {
     }
 }
 
-uint64_t find_blocks(struct plan *plan, uint32_t processors) {
+/* Lines from `first` on, the last one perhaps only begun, dealt out to the blocks in turn: how many each gets. Answers how many there are. */
+static uint32_t deal(int64_t first, int64_t last, uint32_t line, uint32_t processors, uint32_t shares[MOST_PROCESSORS]) {
+    uint32_t lines = 0;
+    memset(shares, 0, MOST_PROCESSORS * sizeof *shares);
+    for (int64_t at = first; at <= last; at += line) shares[lines++ % processors]++;
+    return lines;
+}
+
+uint64_t find_blocks(struct plan *plan, uint32_t processors, uint32_t line) {
+    uint32_t shares[MOST_PROCESSORS];
     if (processors < 1 || processors > MOST_PROCESSORS) return 10;
+    if (line < 1 || line > LONGEST_LINE) return 17;
     int64_t first = plan->table->loop[0].first, last = plan->table->loop[0].last;
     for (int k = 1; k < plan->table->loops; k++) {
         first = lesser(first, plan->table->loop[k].first);
         last = greater(last, plan->table->loop[k].last);
     }
-    int64_t indices = last - first + 1, next = first;
-    if (indices < processors) return 11;
+    plan->indices = last - first + 1, plan->lines = deal(first, last, line, processors, shares);
+    if (plan->lines < processors) return 11;
+    int cut_short = 0;
     for (uint32_t b = 0; b < processors; b++) {
-        int64_t size = indices / processors + (b < indices % processors);
-        if (processors > 1 && size < plan->threshold) return 11;
-        plan->begin[b] = next;
-        plan->end[b] = (next += size) - 1;
+        int64_t size = shares[b] * line;
+        plan->begin[b] = b ? plan->end[b - 1] + 1 : first;
+        plan->end[b] = lesser(plan->begin[b] + size - 1, last);
+        plan->uncut_short |= processors > 1 && size < plan->threshold;
+        cut_short |= processors > 1 && plan->end[b] - plan->begin[b] + 1 < plan->threshold;
     }
+    if (cut_short) return 11;
     plan->processors = processors;
     return 0;
 }

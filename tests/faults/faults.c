@@ -22,6 +22,14 @@ int fault_in(const char *call, const char *name) {
 
 size_t length_in(const char *call, size_t length) { return fault_in(call, "length-16-bits") ? length & 0xffff : length; }
 
+int line_in_range(uint32_t line) { return line >= 1 && line <= VEMPALDI_LONGEST_LINE; }
+
+struct vempaldi_settings settings_in(const char *call, struct vempaldi_settings settings) {
+    if (line_in_range(settings.line) && (fault("all-line-ignored") || fault_in(call, "line-ignored"))) settings.line = 1;
+    if (fault_in(call, "line-8-bits")) settings.line &= 0xff;
+    return settings;
+}
+
 void mask(uint8_t *out, uint64_t written, uint32_t bits) {
     for (uint64_t at = 0; at + 4 <= written; at += 4) put_at(out + at, number_at(out + at) & bits);
 }

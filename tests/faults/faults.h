@@ -17,6 +17,13 @@ size_t length_in(const char *call, size_t length);
 /* Another length as a call takes it: with the fault of this name its low two bytes alone. */
 size_t low_of(const char *name, size_t length);
 
+/* Whether a line's length is in range. */
+int line_in_range(uint32_t line);
+
+/* The settings as a call takes them: of the faults CALL-line-ignored and all-line-ignored with lines of one iteration, where the length is
+ * in range; of CALL-line-8-bits with the low byte of the length alone. */
+struct vempaldi_settings settings_in(const char *call, struct vempaldi_settings settings);
+
 /* Every number of an output with these bits alone. */
 void mask(uint8_t *out, uint64_t written, uint32_t bits);
 
@@ -32,6 +39,10 @@ void refuse(uint64_t answer[4], uint64_t ground);
 /* Shifts and peels, or the threshold, of an accepted table by a wrong rule on which loops meet, where such a fault is chosen. */
 void misjudge_amounts(const uint8_t *table, uint8_t *out);
 void misjudge_threshold(const uint8_t *table, uint8_t *out);
+
+/* Blocks by a wrong rule on lines, where such a fault is chosen, in place of what the real call did. Answers the count of bytes written. */
+uint64_t misalign(const uint8_t *table, size_t table_length, struct vempaldi_settings settings, uint8_t *out, size_t out_length,
+                  uint64_t answer[4], uint64_t written);
 
 #define REAL(name) extern __typeof__(vempaldi_##name) real_vempaldi_##name
 REAL(version);

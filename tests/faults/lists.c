@@ -40,11 +40,12 @@ static void shorten(const uint8_t *table, size_t table_length, uint8_t *ranges, 
     if (number_at(part) == number_at(part + 4)) memset(part, 0, 8);
 }
 
-uint64_t vempaldi_fused_list(const uint8_t *table, size_t table_length, uint32_t processors, uint32_t processor, uint8_t *out,
-                             size_t out_length, uint64_t answer[4]) {
+uint64_t vempaldi_fused_list(const uint8_t *table, size_t table_length, struct vempaldi_settings settings, uint32_t processor,
+                             uint8_t *out, size_t out_length, uint64_t answer[4]) {
+    settings = settings_in("fused-list", settings);
     table_length = length_in("fused-list", table_length), out_length = low_of("fused-list-room-16-bits", out_length);
     if (fault("fused-list-processor-16-bits")) processor &= 0xffff;
-    uint64_t written = real_vempaldi_fused_list(table, table_length, processors, processor, out, out_length, answer);
+    uint64_t written = real_vempaldi_fused_list(table, table_length, settings, processor, out, out_length, answer);
     if (answer[0]) return written;
     if (fault("list-index-16-bits")) mask(out, written, 0xffff);
     if (fault("list-long-wrong") && written > 8 * 4096) out[8 * 4096] ^= 1;
@@ -55,38 +56,45 @@ uint64_t vempaldi_fused_list(const uint8_t *table, size_t table_length, uint32_t
     return written;
 }
 
-uint64_t vempaldi_peeled_list(const uint8_t *table, size_t table_length, uint32_t processors, uint32_t processor, uint8_t *out,
-                              size_t out_length, uint64_t answer[4]) {
+uint64_t vempaldi_peeled_list(const uint8_t *table, size_t table_length, struct vempaldi_settings settings, uint32_t processor,
+                              uint8_t *out, size_t out_length, uint64_t answer[4]) {
+    settings = settings_in("peeled-list", settings);
     table_length = length_in("peeled-list", table_length);
     if (fault("peeled-list-processor-16-bits")) processor &= 0xffff;
-    if (fault("list-of-next-processor") && processor + 1 < processors) processor++;
-    uint64_t written = real_vempaldi_peeled_list(table, table_length, processors, processor, out, out_length, answer);
+    if (fault("list-of-next-processor") && processor + 1 < settings.processors) processor++;
+    uint64_t written = real_vempaldi_peeled_list(table, table_length, settings, processor, out, out_length, answer);
     for (uint64_t at = 8; at < written && fault("list-of-copies"); at += 8) memcpy(out + at, out, 8);
     return written;
 }
 
-uint64_t vempaldi_fused_ranges(const uint8_t *table, size_t table_length, uint32_t processors, uint32_t processor, uint8_t *out,
-                               size_t out_length, uint64_t answer[4]) {
+/* 17 or 11 told before 10 of the processor. */
+static void told_early(const uint8_t *table, size_t table_length, struct vempaldi_settings settings, uint64_t answer[4]) {
+    uint8_t blocks[VEMPALDI_BLOCK_BYTES];
+    uint64_t plan[4];
+    real_vempaldi_blocks(table, table_length, settings, blocks, sizeof blocks, plan);
+    if (fault("ranges-short-before-processor") && plan[0] == 11) refuse(answer, 11);
+    if (fault("ranges-line-before-processor") && plan[0] == 17) refuse(answer, 17);
+}
+
+uint64_t vempaldi_fused_ranges(const uint8_t *table, size_t table_length, struct vempaldi_settings settings, uint32_t processor,
+                               uint8_t *out, size_t out_length, uint64_t answer[4]) {
+    settings = settings_in("fused-ranges", settings);
     table_length = length_in("fused-ranges", table_length);
     if (fault("fused-ranges-processor-16-bits")) processor &= 0xffff;
-    uint64_t written = real_vempaldi_fused_ranges(table, table_length, processors, processor, out, out_length, answer);
+    uint64_t written = real_vempaldi_fused_ranges(table, table_length, settings, processor, out, out_length, answer);
     if (fault("ranges-16-bits")) mask(out, written, 0xffff);
-    if (fault("ranges-short-before-processor") && answer[0] == 10 && processors >= 1 && processors <= 64) {
-        uint8_t blocks[VEMPALDI_BLOCK_BYTES];
-        uint64_t plan[4];
-        real_vempaldi_blocks(table, table_length, processors, blocks, sizeof blocks, plan);
-        if (plan[0] == 11) refuse(answer, 11);
-    }
+    if (answer[0] == 10) told_early(table, table_length, settings, answer);
     if (fault("list-and-ranges-shorter") && !answer[0]) shorten(table, table_length, out, written / 8);
     if (fault("ranges-last-included") && !answer[0] && number_at(out + 4)) put_at(out + 4, number_at(out + 4) - 1);
     return written;
 }
 
-uint64_t vempaldi_peeled_ranges(const uint8_t *table, size_t table_length, uint32_t processors, uint32_t processor, uint8_t *out,
-                                size_t out_length, uint64_t answer[4]) {
+uint64_t vempaldi_peeled_ranges(const uint8_t *table, size_t table_length, struct vempaldi_settings settings, uint32_t processor,
+                                uint8_t *out, size_t out_length, uint64_t answer[4]) {
+    settings = settings_in("peeled-ranges", settings);
     table_length = length_in("peeled-ranges", table_length);
     if (fault("peeled-ranges-processor-16-bits")) processor &= 0xffff;
-    uint64_t written = real_vempaldi_peeled_ranges(table, table_length, processors, processor, out, out_length, answer);
+    uint64_t written = real_vempaldi_peeled_ranges(table, table_length, settings, processor, out, out_length, answer);
     for (uint64_t at = 0; at < written; at += 8) {
         int empty = number_at(out + at + 4) == 0;
         if (fault("ranges-empty-not-0") && empty) put_at(out + at, 1), put_at(out + at + 4, 1);

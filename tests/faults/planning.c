@@ -1,4 +1,4 @@
-/* Faults in facts, amounts, sweeps, blocks and the listing. */
+/* Faults in facts, amounts, sweeps, blocks (lines.c has more) and the listing. */
 #include <string.h>
 
 #include "faults.h"
@@ -63,25 +63,17 @@ uint64_t vempaldi_sweeps(const uint8_t *table, size_t table_length, uint8_t *out
     return written;
 }
 
-/* The longer blocks last. */
-static void longer_last(uint8_t *out, uint32_t processors) {
-    uint32_t next = number_at(out), all = number_at(out + 8 * processors - 4) - next + 1;
-    for (uint32_t b = 0; b < processors; b++) {
-        uint32_t size = all / processors + (processors - b <= all % processors);
-        put_at(out + 8 * b, next);
-        put_at(out + 8 * b + 4, (next += size) - 1);
-    }
-}
-
-uint64_t vempaldi_blocks(const uint8_t *table, size_t table_length, uint32_t processors, uint8_t *out, size_t out_length,
+uint64_t vempaldi_blocks(const uint8_t *table, size_t table_length, struct vempaldi_settings settings, uint8_t *out, size_t out_length,
                          uint64_t answer[4]) {
-    table_length = length_in("blocks", table_length);
-    if (fault("blocks-processors-16-bits")) processors &= 0xffff;
-    uint64_t written = real_vempaldi_blocks(table, table_length, processors, out, out_length, answer);
+    table_length = length_in("blocks", table_length), settings = settings_in("blocks", settings);
+    if (fault("blocks-processors-16-bits")) settings.processors &= 0xffff;
+    if (fault("blocks-line-0") && settings.line == 0) settings.line = 1;
+    if (fault("blocks-line-64-refused") && settings.line == 64) settings.line = 65;
+    uint64_t written = real_vempaldi_blocks(table, table_length, settings, out, out_length, answer);
+    written = misalign(table, table_length, settings, out, out_length, answer, written);
     if (fault("blocks-16-bits")) mask(out, written, 0xffff);
-    if (fault("blocks-longer-last") && !answer[0]) longer_last(out, processors);
     if (fault("blocks-refusal-writes") && answer[0] && out_length) out[0] ^= 1;
-    if (fault("blocks-buffer-before-short") && answer[0] == 11 && out_length < 8 * processors) refuse(answer, 13);
+    if (fault("blocks-buffer-before-short") && answer[0] == 11 && out_length < 8 * settings.processors) refuse(answer, 13);
     return written;
 }
 
@@ -94,13 +86,15 @@ static uint64_t line_less(uint8_t *out, uint64_t written) {
     return written - (last - before);
 }
 
-uint64_t vempaldi_listing(const uint8_t *table, size_t table_length, uint32_t processors, uint8_t *out, size_t out_length,
+uint64_t vempaldi_listing(const uint8_t *table, size_t table_length, struct vempaldi_settings settings, uint8_t *out, size_t out_length,
                           uint64_t answer[4]) {
-    table_length = length_in("listing", table_length);
+    uint32_t processors = settings.processors;
+    table_length = length_in("listing", table_length), settings = settings_in("listing", settings);
     if (fault("listing-just-fits-refused") && out_length) out_length--;
-    uint64_t written = real_vempaldi_listing(table, table_length, processors, out, out_length, answer);
+    uint64_t written = real_vempaldi_listing(table, table_length, settings, out, out_length, answer);
     if (fault("listing-long-wrong") && written > 30000) out[30000] ^= 1;
     if (fault("listing-line-missing") && !answer[0]) written = line_less(out, written);
     if (fault("listing-processors-before-serial") && answer[0] == 9 && (processors < 1 || processors > 64)) refuse(answer, 10);
+    if (fault("listing-line-before-serial") && answer[0] == 9 && !line_in_range(settings.line)) refuse(answer, 17);
     return written;
 }

@@ -59,14 +59,15 @@ void vempaldi_plain_run(const uint8_t *table, size_t table_length, double *memor
 }
 
 /* A step with 15 told before 12. */
-static int wrong_state(const uint8_t *table, size_t length, uint32_t processors, uint32_t processor, const uint32_t counts[64]) {
+static int wrong_state(const uint8_t *table, size_t length, struct vempaldi_settings settings, uint32_t processor,
+                       const uint32_t counts[64]) {
     size_t elements = elements_of(table, length);
     double *memory = calloc(elements + 1, sizeof *memory);
     uint32_t own[64], report[3];
     uint64_t answer[4];
     if (!memory) abort();
     memcpy(own, counts, sizeof own);
-    real_vempaldi_step(table, length, processors, processor, own, memory, elements, report, answer);
+    real_vempaldi_step(table, length, settings, processor, own, memory, elements, report, answer);
     free(memory);
     return answer[0] == 15;
 }
@@ -83,41 +84,44 @@ static void told_wrong(uint32_t counts[64], uint32_t processor, uint32_t report[
     if (fault("step-reports-from-0")) report[0]--;
 }
 
-void vempaldi_step(const uint8_t *table, size_t table_length, uint32_t processors, uint32_t processor, uint32_t counts[64],
+void vempaldi_step(const uint8_t *table, size_t table_length, struct vempaldi_settings settings, uint32_t processor, uint32_t counts[64],
                    double *memory, size_t memory_length, uint32_t report[3], uint64_t answer[4]) {
     double *before = copy_of(memory, memory_length);
-    uint32_t above = processors < 64 ? counts[63] : 0, found[3] = {report[0], report[1], report[2]};
+    uint32_t processors = settings.processors, above = processors < 64 ? counts[63] : 0, found[3] = {report[0], report[1], report[2]};
+    settings = settings_in("step", settings);
     table_length = length_in("step", table_length), memory_length = low_of("step-memory-16-bits", memory_length);
     if (fault("step-processor-16-bits")) processor &= 0xffff;
     if (fault("step-takes-count-16-bits") && processor < 64) counts[processor] &= 0xffff;
     if (fault("step-last-count-not-looked-at") && processors < 64) counts[63] = 0;
-    real_vempaldi_step(table, table_length, processors, processor, counts, memory, memory_length, report, answer);
+    real_vempaldi_step(table, table_length, settings, processor, counts, memory, memory_length, report, answer);
     if (fault("step-last-count-not-looked-at") && processors < 64) counts[63] = above;
     if (fault("step-stores-nothing")) put_back(memory, before, memory_length);
     if (!answer[0]) told_wrong(counts, processor, report, found);
     if (fault("step-refused-counts") && answer[0] == 10) counts[0]++;
     if (fault("step-refused-zeroes") && answer[0]) memset(report, 0, 12);
     if (fault("step-refused-reports") && answer[0]) memset(report, 0, 12), report[1] = 1;
-    if (fault("step-state-before-memory") && answer[0] == 12 && wrong_state(table, table_length, processors, processor, counts))
+    if (fault("step-state-before-memory") && answer[0] == 12 && wrong_state(table, table_length, settings, processor, counts))
         refuse(answer, 15);
+    if (fault("step-memory-before-line") && answer[0] == 17 && memory_length != elements_of(table, table_length)) refuse(answer, 12);
     if (fault("all-nan-sign")) other_sign(memory, before, memory_length);
     free(before);
 }
 
-uint64_t vempaldi_run(const uint8_t *table, size_t table_length, uint32_t processors, const uint8_t *order, size_t order_length,
-                      double *memory, size_t memory_length, uint64_t answer[4]) {
+uint64_t vempaldi_run(const uint8_t *table, size_t table_length, struct vempaldi_settings settings, const uint8_t *order,
+                      size_t order_length, double *memory, size_t memory_length, uint64_t answer[4]) {
     double *before = copy_of(memory, memory_length);
     table_length = length_in("run", table_length), memory_length = low_of("run-memory-16-bits", memory_length);
-    order_length = low_of("run-order-16-bits", order_length);
-    uint64_t idle = real_vempaldi_run(table, table_length, processors, order, order_length, memory, memory_length, answer);
+    order_length = low_of("run-order-16-bits", order_length), settings = settings_in("run", settings);
+    uint64_t idle = real_vempaldi_run(table, table_length, settings, order, order_length, memory, memory_length, answer);
     if (fault("run-idle-8-bits")) idle &= 0xff;
     if (fault("run-idle-16-bits")) idle &= 0xffff;
     if (fault("run-long-order") && order_length > 1000 && !answer[0]) idle++;
     if (fault("run-idle-one-more") && !answer[0]) idle++;
     if (fault("run-idle-of-wrong-numbers") && !answer[0]) {
         idle = 0;
-        for (size_t i = 0; i < order_length; i++) idle += order[i] >= processors;
+        for (size_t i = 0; i < order_length; i++) idle += order[i] >= settings.processors;
     }
+    if (fault("run-memory-before-line") && answer[0] == 17 && memory_length != elements_of(table, table_length)) refuse(answer, 12);
     if (fault("run-stores-nothing")) put_back(memory, before, memory_length);
     if (fault("run-writes-order") && order_length) ((uint8_t *)order)[0] ^= 1;
     if (fault("run-refused-writes") && answer[0] && memory_length) memory[0] = 0.5;

@@ -2,12 +2,15 @@
 
 use crate::outcome::Refusal;
 use crate::planner::{amounts, threshold, Amounts};
+use crate::settings::Settings;
 use crate::table::Table;
 
 const PROCESSORS: u64 = 10;
 const SHORT: u64 = 11;
+const LINE: u64 = 17;
 
 pub const MOST_PROCESSORS: u32 = 64;
+pub const LONGEST_LINE: u32 = 64;
 
 /// The indices from a to e, both included. With e = a - 1 it is empty.
 #[derive(Clone, Copy, Debug, PartialEq, Eq)]
@@ -33,18 +36,21 @@ pub struct Plan {
     bounds: Vec<Range>,
 }
 
-/// The plan of a table for a number of processors, or ground 10 or 11.
-pub fn plan(table: &Table, processors: u32) -> Result<Plan, Refusal> {
-    if processors == 0 || processors > MOST_PROCESSORS {
+/// The plan of a table, or ground 10, 17 or 11.
+pub fn plan(table: &Table, settings: Settings) -> Result<Plan, Refusal> {
+    if !(1..=MOST_PROCESSORS).contains(&settings.processors) {
         return Err(Refusal::whole(PROCESSORS));
+    }
+    if !(1..=LONGEST_LINE).contains(&settings.line) {
+        return Err(Refusal::whole(LINE));
     }
     let amounts = amounts(table);
     let indices = indices(table);
-    let count = i64::from(processors);
-    if indices.count() < count {
+    let count = i64::from(settings.processors);
+    if lines(indices, settings.line) < count {
         return Err(Refusal::whole(SHORT));
     }
-    let blocks = split(indices, count);
+    let blocks = split(indices, settings);
     let least = threshold(&amounts);
     if count >= 2 && blocks.iter().any(|block| block.count() < least) {
         return Err(Refusal::whole(SHORT));
@@ -67,23 +73,32 @@ fn bounds(first: u32, last: u32) -> Range {
 }
 
 /// From the least first to the greatest last.
-fn indices(table: &Table) -> Range {
+pub fn indices(table: &Table) -> Range {
     let first = table.loops.iter().map(|one| one.first).min();
     let last = table.loops.iter().map(|one| one.last).max();
     bounds(first.unwrap_or(0), last.unwrap_or(0))
 }
 
-/// The blocks in order; the first (T mod P) have one index more.
-fn split(indices: Range, processors: i64) -> Vec<Range> {
-    let least = indices.count() / processors;
-    let longer = indices.count() % processors;
-    let mut a = indices.a;
-    (0..processors)
+/// How many lines the indices have; the last one may be begun and not full.
+pub fn lines(indices: Range, line: u32) -> i64 {
+    let line = i64::from(line);
+    let full = indices.count() / line;
+    full + i64::from(full * line < indices.count())
+}
+
+/// The blocks in order, one behind the other: the first (L mod P) have one
+/// line more. Where the last line goes beyond the greatest last, its block is
+/// cut there.
+fn split(indices: Range, settings: Settings) -> Vec<Range> {
+    let (count, line) = (i64::from(settings.processors), i64::from(settings.line));
+    let lines = lines(indices, settings.line);
+    let mut next = indices.a;
+    (0..count)
         .map(|b| {
-            let size = least + i64::from(b < longer);
-            let block = Range { a, e: a + size - 1 };
-            a += size;
-            block
+            let own = lines / count + i64::from(b < lines % count);
+            let a = next;
+            next += own * line;
+            Range { a, e: next - 1 }.cut(indices)
         })
         .collect()
 }

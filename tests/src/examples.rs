@@ -37,6 +37,66 @@ peeled 0 1 5 6
 sweeps 6 5
 ";
 
+/// The listing of the same table and two processors for lines of four
+/// iterations: 1 to 4, 5 to 8, and the begun 9 to 10.
+pub const EXAMPLE_LINES_OF_4: &str = "\
+loop 0 0 0
+loop 1 1 1
+block 0 1 8
+block 1 9 10
+fused 0 0 1 8
+fused 0 1 1 7
+fused 1 0 9 10
+fused 1 1 10 10
+peeled 0 1 8 9
+sweeps 6 5
+";
+
+/// For so many processors and lines of so many iterations the first and the
+/// last index of each block, or the ground.
+pub type Aligned = (u32, u32, Result<&'static [(u32, u32)], u64>);
+
+/// The example's. Its indices are 1 to 10, its threshold is 2.
+pub const EXAMPLE_ALIGNED: [Aligned; 20] = [
+    (1, 4, Ok(&[(1, 10)])),
+    (2, 4, Ok(&[(1, 8), (9, 10)])),
+    (3, 4, Ok(&[(1, 4), (5, 8), (9, 10)])),
+    // Three lines.
+    (4, 4, Err(11)),
+    // Four lines, two each.
+    (2, 3, Ok(&[(1, 6), (7, 10)])),
+    // A last block of 10 alone.
+    (3, 3, Err(11)),
+    (4, 3, Err(11)),
+    (2, 9, Err(11)),
+    // Five lines.
+    (3, 2, Ok(&[(1, 4), (5, 8), (9, 10)])),
+    (4, 2, Ok(&[(1, 4), (5, 6), (7, 8), (9, 10)])),
+    (5, 2, Ok(&[(1, 2), (3, 4), (5, 6), (7, 8), (9, 10)])),
+    (6, 2, Err(11)),
+    (2, 8, Ok(&[(1, 8), (9, 10)])),
+    // One line.
+    (1, 64, Ok(&[(1, 10)])),
+    (2, 64, Err(11)),
+    (1, 0, Err(17)),
+    (1, 65, Err(17)),
+    // 17 before 11, and 10 before 17.
+    (6, u32::MAX, Err(17)),
+    (0, 0, Err(10)),
+    (65, 65, Err(10)),
+];
+
+/// Those of `ten_indices`, 0 to 9, of which the threshold is 0.
+pub const TEN_ALIGNED: [Aligned; 7] = [
+    (2, 3, Ok(&[(0, 5), (6, 9)])),
+    (3, 3, Ok(&[(0, 5), (6, 8), (9, 9)])),
+    (4, 3, Ok(&[(0, 2), (3, 5), (6, 8), (9, 9)])),
+    (5, 3, Err(11)),
+    (2, 9, Ok(&[(0, 8), (9, 9)])),
+    (2, 10, Err(11)),
+    (11, 0, Err(17)),
+];
+
 /// Loops over 10 to 49 and arrays of 60: loop k stores array k and reads what
 /// `reads` gives for it, summed.
 pub fn loops_reading(reads: &[&[(u8, i16)]]) -> Vec<u8> {

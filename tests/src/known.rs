@@ -5,12 +5,13 @@ use crate::encoder::Encoder;
 use crate::examples::*;
 use crate::facts::facts;
 use crate::interpreter::plain_run;
-use crate::listing::listing;
+use crate::listing::{lines, listing};
 use crate::lists::{lists, Iteration};
 use crate::memories::{bits, own_index};
 use crate::outputs;
 use crate::planner::{amounts, threshold};
 use crate::reader::read;
+use crate::settings::Settings;
 use crate::stepping::run;
 use crate::sweeps::{sweeps, Sweeps};
 use crate::table::Table;
@@ -29,7 +30,14 @@ fn threshold_of(bytes: &[u8]) -> i64 {
 
 /// The number of the refusal, 0 where the plan is accepted.
 fn number(bytes: &[u8], processors: u32) -> u64 {
-    plan(&table(bytes), processors).err().map_or(0, |refusal| refusal.number)
+    plan(&table(bytes), Settings::of(processors)).err().map_or(0, |refusal| refusal.number)
+}
+
+/// First and last index of each block, or the refusal's number.
+fn blocks_of(bytes: &[u8], processors: u32, line: u32) -> Result<Vec<(u32, u32)>, u64> {
+    let plan = plan(&table(bytes), Settings::new(processors, line));
+    let ends = |block: &Range| (block.a as u32, block.e as u32);
+    plan.map(|plan| plan.blocks.iter().map(ends).collect()).map_err(|refusal| refusal.number)
 }
 
 #[test]
@@ -91,7 +99,7 @@ fn the_threshold_is_of_one_loop() {
 
 #[test]
 fn ten_indices_over_three_processors() {
-    let plan = plan(&table(&ten_indices()), 3).expect("accepted");
+    let plan = plan(&table(&ten_indices()), Settings::of(3)).expect("accepted");
     let sizes: Vec<i64> = plan.blocks.iter().map(Range::count).collect();
     assert_eq!(sizes, [4, 3, 3]);
     assert_eq!(number(&ten_indices(), 10), 0);
@@ -99,8 +107,27 @@ fn ten_indices_over_three_processors() {
 }
 
 #[test]
+fn blocks_are_on_whole_lines() {
+    for (table, typed) in [(EXAMPLE.to_vec(), &EXAMPLE_ALIGNED[..]), (ten_indices(), &TEN_ALIGNED)]
+    {
+        for &(processors, line, wanted) in typed {
+            let found = blocks_of(&table, processors, line);
+            assert_eq!(found, wanted.map(<[_]>::to_vec), "P = {processors}, W = {line}");
+        }
+    }
+    // Lines count from the least first, which is 10 here; 40 indices.
+    assert_eq!(blocks_of(&three_loops(), 3, 16), Ok(vec![(10, 25), (26, 41), (42, 49)]));
+}
+
+#[test]
+fn the_example_has_its_listing_for_lines_of_4() {
+    let listed = lines(&EXAMPLE, Settings::new(2, 4)).expect("accepted");
+    assert_eq!(listed, EXAMPLE_LINES_OF_4);
+}
+
+#[test]
 fn the_example_has_its_lists() {
-    let plan = plan(&table(&EXAMPLE), 2).expect("accepted");
+    let plan = plan(&table(&EXAMPLE), Settings::of(2)).expect("accepted");
     let found = lists(&plan);
     let row = |pairs: &[(u32, u32)]| -> Vec<Iteration> {
         pairs.iter().map(|&(loop_number, index)| Iteration { loop_number, index }).collect()
@@ -127,10 +154,10 @@ fn the_example_has_its_ranges() {
         assert!(bytes.chunks(4).all(|number| number[1..] == [0, 0, 0]));
         bytes.into_iter().step_by(4).collect()
     };
-    assert_eq!(numbers(outputs::fused_ranges(&EXAMPLE, 2, 0, 16)), [1, 6, 1, 5]);
-    assert_eq!(numbers(outputs::fused_ranges(&EXAMPLE, 2, 1, 16)), [6, 11, 7, 11]);
-    assert_eq!(numbers(outputs::peeled_ranges(&EXAMPLE, 2, 0, 16)), [0, 0, 5, 7]);
-    assert_eq!(numbers(outputs::peeled_ranges(&EXAMPLE, 2, 1, 16)), [0, 0, 0, 0]);
+    assert_eq!(numbers(outputs::fused_ranges(&EXAMPLE, Settings::of(2), 0, 16)), [1, 6, 1, 5]);
+    assert_eq!(numbers(outputs::fused_ranges(&EXAMPLE, Settings::of(2), 1, 16)), [6, 11, 7, 11]);
+    assert_eq!(numbers(outputs::peeled_ranges(&EXAMPLE, Settings::of(2), 0, 16)), [0, 0, 5, 7]);
+    assert_eq!(numbers(outputs::peeled_ranges(&EXAMPLE, Settings::of(2), 1, 16)), [0, 0, 0, 0]);
 }
 
 #[test]
@@ -154,7 +181,7 @@ fn every_order_of_the_example_leaves_the_same() {
     plain_run(&EXAMPLE, &mut plain).expect("accepted");
     for order in [&[][..], &[1; 30], &[0, 1, 0, 1], &[7, 0, 200, 1]] {
         let mut memory = start.clone();
-        run(&EXAMPLE, 2, order, &mut memory).expect("accepted");
+        run(&EXAMPLE, Settings::of(2), order, &mut memory).expect("accepted");
         assert_eq!(bits(&memory), bits(&plain));
     }
 }
@@ -162,7 +189,8 @@ fn every_order_of_the_example_leaves_the_same() {
 #[test]
 fn idle_bytes_are_counted() {
     let start = own_index(&table(&EXAMPLE).arrays);
-    let idle = |order: &[u8]| run(&EXAMPLE, 2, order, &mut start.clone()).expect("accepted");
+    let idle =
+        |order: &[u8]| run(&EXAMPLE, Settings::of(2), order, &mut start.clone()).expect("accepted");
     assert_eq!(idle(&[]), 0);
     // Processor 1 has nine fused iterations and then waits.
     assert_eq!(idle(&[1; 12]), 3);
@@ -171,6 +199,15 @@ fn idle_bytes_are_counted() {
     // none.
     let all = [[1; 9], [0; 9]].concat();
     assert_eq!(idle(&[&all[..], &[1, 0, 0, 0]].concat()), 2);
+}
+
+/// With lines of four iterations processor 1 has 9 and 10 of loop 0 and 10 of
+/// loop 1, and then waits.
+#[test]
+fn idle_bytes_follow_the_lines() {
+    let mut memory = own_index(&table(&EXAMPLE).arrays);
+    assert_eq!(run(&EXAMPLE, Settings::new(2, 4), &[1; 5], &mut memory), Ok(2));
+    assert_eq!((memory[25], memory[29], memory[34]), (3.0, 12.0, 21.0));
 }
 
 #[test]

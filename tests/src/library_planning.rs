@@ -2,6 +2,7 @@
 
 use crate::library::UNWRITTEN;
 use crate::outcome::Answer;
+use crate::settings::Settings;
 
 extern "C" {
     fn vempaldi_facts(
@@ -35,7 +36,7 @@ extern "C" {
     fn vempaldi_blocks(
         table: *const u8,
         table_len: usize,
-        processors: u32,
+        settings: Settings,
         out: *mut u8,
         out_len: usize,
         answer: *mut Answer,
@@ -43,7 +44,7 @@ extern "C" {
     fn vempaldi_listing(
         table: *const u8,
         table_len: usize,
-        processors: u32,
+        settings: Settings,
         out: *mut u8,
         out_len: usize,
         answer: *mut Answer,
@@ -51,7 +52,7 @@ extern "C" {
     fn vempaldi_fused_list(
         table: *const u8,
         table_len: usize,
-        processors: u32,
+        settings: Settings,
         processor: u32,
         out: *mut u8,
         out_len: usize,
@@ -60,7 +61,7 @@ extern "C" {
     fn vempaldi_peeled_list(
         table: *const u8,
         table_len: usize,
-        processors: u32,
+        settings: Settings,
         processor: u32,
         out: *mut u8,
         out_len: usize,
@@ -69,7 +70,7 @@ extern "C" {
     fn vempaldi_fused_ranges(
         table: *const u8,
         table_len: usize,
-        processors: u32,
+        settings: Settings,
         processor: u32,
         out: *mut u8,
         out_len: usize,
@@ -78,7 +79,7 @@ extern "C" {
     fn vempaldi_peeled_ranges(
         table: *const u8,
         table_len: usize,
-        processors: u32,
+        settings: Settings,
         processor: u32,
         out: *mut u8,
         out_len: usize,
@@ -87,9 +88,9 @@ extern "C" {
 }
 
 type OfTable = unsafe extern "C" fn(*const u8, usize, *mut u8, usize, *mut Answer) -> u64;
-type OfPlan = unsafe extern "C" fn(*const u8, usize, u32, *mut u8, usize, *mut Answer) -> u64;
+type OfPlan = unsafe extern "C" fn(*const u8, usize, Settings, *mut u8, usize, *mut Answer) -> u64;
 type OfProcessor =
-    unsafe extern "C" fn(*const u8, usize, u32, u32, *mut u8, usize, *mut Answer) -> u64;
+    unsafe extern "C" fn(*const u8, usize, Settings, u32, *mut u8, usize, *mut Answer) -> u64;
 
 pub fn facts(table: &[u8], out: &mut [u8]) -> (Answer, u64) {
     of_table(vempaldi_facts, table, out)
@@ -107,38 +108,48 @@ pub fn sweeps(table: &[u8], out: &mut [u8]) -> (Answer, u64) {
     of_table(vempaldi_sweeps, table, out)
 }
 
-pub fn blocks(table: &[u8], processors: u32, out: &mut [u8]) -> (Answer, u64) {
-    of_plan(vempaldi_blocks, table, processors, out)
+pub fn blocks(table: &[u8], settings: Settings, out: &mut [u8]) -> (Answer, u64) {
+    of_plan(vempaldi_blocks, table, settings, out)
 }
 
-pub fn listing(table: &[u8], processors: u32, out: &mut [u8]) -> (Answer, u64) {
-    of_plan(vempaldi_listing, table, processors, out)
+pub fn listing(table: &[u8], settings: Settings, out: &mut [u8]) -> (Answer, u64) {
+    of_plan(vempaldi_listing, table, settings, out)
 }
 
-pub fn fused_list(table: &[u8], processors: u32, processor: u32, out: &mut [u8]) -> (Answer, u64) {
-    of_processor(vempaldi_fused_list, table, processors, processor, out)
+pub fn fused_list(
+    table: &[u8],
+    settings: Settings,
+    processor: u32,
+    out: &mut [u8],
+) -> (Answer, u64) {
+    of_processor(vempaldi_fused_list, table, settings, processor, out)
 }
 
-pub fn peeled_list(table: &[u8], processors: u32, processor: u32, out: &mut [u8]) -> (Answer, u64) {
-    of_processor(vempaldi_peeled_list, table, processors, processor, out)
+pub fn peeled_list(
+    table: &[u8],
+    settings: Settings,
+    processor: u32,
+    out: &mut [u8],
+) -> (Answer, u64) {
+    of_processor(vempaldi_peeled_list, table, settings, processor, out)
 }
 
 pub fn fused_ranges(
     table: &[u8],
-    processors: u32,
+    settings: Settings,
     processor: u32,
     out: &mut [u8],
 ) -> (Answer, u64) {
-    of_processor(vempaldi_fused_ranges, table, processors, processor, out)
+    of_processor(vempaldi_fused_ranges, table, settings, processor, out)
 }
 
 pub fn peeled_ranges(
     table: &[u8],
-    processors: u32,
+    settings: Settings,
     processor: u32,
     out: &mut [u8],
 ) -> (Answer, u64) {
-    of_processor(vempaldi_peeled_ranges, table, processors, processor, out)
+    of_processor(vempaldi_peeled_ranges, table, settings, processor, out)
 }
 
 fn of_table(entry: OfTable, table: &[u8], out: &mut [u8]) -> (Answer, u64) {
@@ -150,11 +161,11 @@ fn of_table(entry: OfTable, table: &[u8], out: &mut [u8]) -> (Answer, u64) {
     (answer, written)
 }
 
-fn of_plan(entry: OfPlan, table: &[u8], processors: u32, out: &mut [u8]) -> (Answer, u64) {
+fn of_plan(entry: OfPlan, table: &[u8], settings: Settings, out: &mut [u8]) -> (Answer, u64) {
     let mut answer = UNWRITTEN;
     // SAFETY: as in `of_table`.
     let written = unsafe {
-        entry(table.as_ptr(), table.len(), processors, out.as_mut_ptr(), out.len(), &mut answer)
+        entry(table.as_ptr(), table.len(), settings, out.as_mut_ptr(), out.len(), &mut answer)
     };
     (answer, written)
 }
@@ -162,7 +173,7 @@ fn of_plan(entry: OfPlan, table: &[u8], processors: u32, out: &mut [u8]) -> (Ans
 fn of_processor(
     entry: OfProcessor,
     table: &[u8],
-    processors: u32,
+    settings: Settings,
     processor: u32,
     out: &mut [u8],
 ) -> (Answer, u64) {
@@ -172,7 +183,7 @@ fn of_processor(
         entry(
             table.as_ptr(),
             table.len(),
-            processors,
+            settings,
             processor,
             out.as_mut_ptr(),
             out.len(),

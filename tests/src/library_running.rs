@@ -3,6 +3,7 @@
 
 use crate::library::UNWRITTEN;
 use crate::outcome::Answer;
+use crate::settings::Settings;
 use crate::stepping::Counts;
 
 extern "C" {
@@ -16,7 +17,7 @@ extern "C" {
     fn vempaldi_step(
         table: *const u8,
         table_len: usize,
-        processors: u32,
+        settings: Settings,
         processor: u32,
         counts: *mut Counts,
         memory: *mut f64,
@@ -27,7 +28,7 @@ extern "C" {
     fn vempaldi_run(
         table: *const u8,
         table_len: usize,
-        processors: u32,
+        settings: Settings,
         order: *const u8,
         order_len: usize,
         memory: *mut f64,
@@ -54,7 +55,7 @@ pub fn plain_run(table: &[u8], memory: &mut [f64]) -> Answer {
 
 pub fn step(
     table: &[u8],
-    processors: u32,
+    settings: Settings,
     processor: u32,
     counts: &mut Counts,
     memory: &mut [f64],
@@ -67,7 +68,7 @@ pub fn step(
         vempaldi_step(
             table.as_ptr(),
             table.len(),
-            processors,
+            settings,
             processor,
             counts,
             memory.as_mut_ptr(),
@@ -80,14 +81,14 @@ pub fn step(
 }
 
 /// The answer and the idle count.
-pub fn run(table: &[u8], processors: u32, order: &[u8], memory: &mut [f64]) -> (Answer, u64) {
+pub fn run(table: &[u8], settings: Settings, order: &[u8], memory: &mut [f64]) -> (Answer, u64) {
     let mut answer = UNWRITTEN;
     // SAFETY: as in `plain_run`.
     let idle = unsafe {
         vempaldi_run(
             table.as_ptr(),
             table.len(),
-            processors,
+            settings,
             order.as_ptr(),
             order.len(),
             memory.as_mut_ptr(),

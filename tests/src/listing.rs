@@ -3,23 +3,24 @@
 use crate::blocks::{plan, Plan, Range};
 use crate::outcome::Refusal;
 use crate::reader::read;
+use crate::settings::Settings;
 use crate::sweeps::sweeps;
 use crate::table::Table;
 use std::fmt::Write;
 
-/// What the program writes: the lines of the plan, or the single line of the
-/// refusal.
+/// What the program writes: the lines of the plan for cache lines of one
+/// iteration, or the single line of the refusal.
 pub fn listing(bytes: &[u8], processors: u32) -> String {
-    match lines(bytes, processors) {
+    match lines(bytes, Settings::of(processors)) {
         Ok(text) => text,
         Err(refusal) => format!("refused {} {}\n", refusal.number, refusal.place),
     }
 }
 
 /// The lines of the plan.
-pub fn lines(bytes: &[u8], processors: u32) -> Result<String, Refusal> {
+pub fn lines(bytes: &[u8], settings: Settings) -> Result<String, Refusal> {
     let table = read(bytes)?;
-    let plan = plan(&table, processors)?;
+    let plan = plan(&table, settings)?;
     let mut text = String::new();
     write_lines(&mut text, &table, &plan).expect("a string takes every line");
     Ok(text)

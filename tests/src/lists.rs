@@ -52,7 +52,9 @@ fn collect(plan: &Plan, range: impl Fn(usize) -> Range) -> Vec<Iteration> {
 mod tests {
     use super::*;
     use crate::blocks::plan;
+    use crate::line_lengths;
     use crate::random::Random;
+    use crate::settings::Settings;
     use crate::table::Table;
     use crate::tables::{self, SMALL};
 
@@ -66,8 +68,9 @@ mod tests {
         let mut random = Random::new(3);
         for _ in 0..5_000 {
             let table = tables::aligned(&mut random, &SMALL);
-            let processors = random.small(1, 8) as u32;
-            let Ok(plan) = plan(&table, processors) else { continue };
+            let line = line_lengths::good(&mut random);
+            let settings = Settings::new(random.small(1, 8) as u32, line);
+            let Ok(plan) = plan(&table, settings) else { continue };
             let mut found: Vec<(u32, u32)> = lists(&plan)
                 .iter()
                 .flat_map(|one| one.fused.iter().chain(&one.peeled))

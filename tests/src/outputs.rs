@@ -7,6 +7,7 @@ use crate::lists::{self, Iteration};
 use crate::outcome::Refusal;
 use crate::planner;
 use crate::reader::read;
+use crate::settings::Settings;
 use crate::sweeps;
 
 const BUFFER: u64 = 13;
@@ -28,38 +29,38 @@ pub fn threshold(table: &[u8], room: usize) -> Output {
     fit(encode([planner::threshold(&amounts)]), room)
 }
 
-pub fn blocks(table: &[u8], processors: u32, room: usize) -> Output {
-    let plan = plan(&read(table)?, processors)?;
+pub fn blocks(table: &[u8], settings: Settings, room: usize) -> Output {
+    let plan = plan(&read(table)?, settings)?;
     fit(encode(plan.blocks.iter().flat_map(|block| [block.a, block.e])), room)
 }
 
-pub fn fused_list(table: &[u8], processors: u32, processor: u32, room: usize) -> Output {
-    of_processor(table, processors, processor, room, |plan, b| numbers(&lists::fused(plan, b)))
+pub fn fused_list(table: &[u8], settings: Settings, processor: u32, room: usize) -> Output {
+    of_processor(table, settings, processor, room, |plan, b| numbers(&lists::fused(plan, b)))
 }
 
-pub fn peeled_list(table: &[u8], processors: u32, processor: u32, room: usize) -> Output {
-    of_processor(table, processors, processor, room, |plan, b| numbers(&lists::peeled(plan, b)))
+pub fn peeled_list(table: &[u8], settings: Settings, processor: u32, room: usize) -> Output {
+    of_processor(table, settings, processor, room, |plan, b| numbers(&lists::peeled(plan, b)))
 }
 
-pub fn fused_ranges(table: &[u8], processors: u32, processor: u32, room: usize) -> Output {
-    of_processor(table, processors, processor, room, |plan, b| ranges(plan, b, Plan::fused))
+pub fn fused_ranges(table: &[u8], settings: Settings, processor: u32, room: usize) -> Output {
+    of_processor(table, settings, processor, room, |plan, b| ranges(plan, b, Plan::fused))
 }
 
-pub fn peeled_ranges(table: &[u8], processors: u32, processor: u32, room: usize) -> Output {
-    of_processor(table, processors, processor, room, |plan, b| ranges(plan, b, Plan::peeled))
+pub fn peeled_ranges(table: &[u8], settings: Settings, processor: u32, room: usize) -> Output {
+    of_processor(table, settings, processor, room, |plan, b| ranges(plan, b, Plan::peeled))
 }
 
-/// Ground 10 is asked of both numbers before ground 11.
+/// Ground 10 is asked of both numbers before grounds 17 and 11.
 fn of_processor(
     table: &[u8],
-    processors: u32,
+    settings: Settings,
     processor: u32,
     room: usize,
     part: impl Fn(&Plan, usize) -> Vec<i64>,
 ) -> Output {
     let table = read(table)?;
-    number_below(processor, processors)?;
-    let plan = plan(&table, processors)?;
+    number_below(processor, settings.processors)?;
+    let plan = plan(&table, settings)?;
     fit(encode(part(&plan, processor as usize)), room)
 }
 
@@ -81,8 +82,8 @@ pub fn sweeps(table: &[u8], room: usize) -> Output {
 }
 
 /// The line of a refusal is the listing program's; the call is refused.
-pub fn listing(table: &[u8], processors: u32, room: usize) -> Output {
-    fit(listing::lines(table, processors)?.into_bytes(), room)
+pub fn listing(table: &[u8], settings: Settings, room: usize) -> Output {
+    fit(listing::lines(table, settings)?.into_bytes(), room)
 }
 
 /// Four bytes for each number.

@@ -1,18 +1,20 @@
 //! Numbers of processors that are worth asking a plan for.
 
-use crate::blocks::MOST_PROCESSORS;
+use crate::blocks::{indices, lines, MOST_PROCESSORS};
 use crate::planner::{amounts, threshold};
 use crate::random::Random;
 use crate::table::Table;
 
-/// The largest number for which the table has a plan, by division alone: the
-/// smallest block has T / P indices.
-pub fn most(table: &Table) -> u32 {
-    let least = threshold(&amounts(table)).max(1);
-    let first = table.loops.iter().map(|one| one.first).min().unwrap_or(0);
-    let last = table.loops.iter().map(|one| one.last).max().unwrap_or(0);
-    let indices = i64::from(last - first) + 1;
-    (indices / least).clamp(1, i64::from(MOST_PROCESSORS)) as u32
+/// The largest number for which the table has a plan with lines of this
+/// length, by division alone. The last block has the fewest lines, L / P, and
+/// lacks the indices by which the last line goes beyond the greatest last.
+pub fn most(table: &Table, line: u32) -> u32 {
+    let indices = indices(table);
+    let lines = lines(indices, line);
+    let line = i64::from(line);
+    let needed = threshold(&amounts(table)) + lines * line - indices.count();
+    let least = ((needed + line - 1) / line).max(1);
+    (lines / least).clamp(1, i64::from(MOST_PROCESSORS)) as u32
 }
 
 /// Any number that one byte can hold, and now and then one that only agrees
@@ -30,16 +32,23 @@ pub fn any(random: &mut Random) -> u32 {
 mod tests {
     use super::*;
     use crate::blocks::plan;
+    use crate::line_lengths;
+    use crate::lined;
+    use crate::settings::Settings;
     use crate::tables::{self, SMALL};
 
     #[test]
     fn the_next_number_has_no_plan() {
         let mut random = Random::new(4);
-        for _ in 0..2_000 {
-            let table = tables::aligned(&mut random, &SMALL);
-            let most = most(&table);
-            assert!(plan(&table, most).is_ok());
-            assert!(plan(&table, most + 1).is_err());
+        for number in 0..4_000 {
+            let table = match number % 2 {
+                0 => tables::aligned(&mut random, &SMALL),
+                _ => lined::made(&mut random, 9).table,
+            };
+            let line = line_lengths::good(&mut random);
+            let most = most(&table, line);
+            assert!(plan(&table, Settings::new(most, line)).is_ok());
+            assert!(plan(&table, Settings::new(most + 1, line)).is_err());
         }
     }
 }

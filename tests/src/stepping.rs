@@ -5,6 +5,7 @@ use crate::interpreter::{beginnings, fits, iteration};
 use crate::lists::{lists, Iteration, Lists};
 use crate::outcome::Refusal;
 use crate::reader::read;
+use crate::settings::Settings;
 use crate::table::Table;
 
 const STATE: u64 = 15;
@@ -19,20 +20,21 @@ pub enum Report {
     Finished,
 }
 
-/// A table with its lists for one number of processors.
+/// A table with its lists.
 pub struct Schedule {
     pub table: Table,
+    pub settings: Settings,
     pub lists: Vec<Lists>,
     beginnings: Vec<usize>,
 }
 
 impl Schedule {
-    /// Reads a table and plans it; grounds 1 to 11, ground 10 of P alone.
-    pub fn new(bytes: &[u8], processors: u32) -> Result<Schedule, Refusal> {
+    /// Reads a table and plans it; grounds 1 to 9, 10 of P alone, 17 and 11.
+    pub fn new(bytes: &[u8], settings: Settings) -> Result<Schedule, Refusal> {
         let table = read(bytes)?;
-        let lists = lists(&plan(&table, processors)?);
+        let lists = lists(&plan(&table, settings)?);
         let beginnings = beginnings(&table);
-        Ok(Schedule { table, lists, beginnings })
+        Ok(Schedule { table, settings, lists, beginnings })
     }
 
     pub fn processors(&self) -> u32 {
@@ -123,27 +125,28 @@ impl Schedule {
 }
 
 /// One public step: every ground in its order. Ground 10 of the stepped
-/// number stands before ground 11, so it is asked before the plan is made.
+/// number stands before grounds 17 and 11, so it is asked before the plan is
+/// made.
 pub fn step(
     bytes: &[u8],
-    processors: u32,
+    settings: Settings,
     processor: u32,
     counts: &mut Counts,
     memory: &mut [f64],
 ) -> Result<Report, Refusal> {
     read(bytes)?;
-    number_below(processor, processors)?;
-    Schedule::new(bytes, processors)?.checked_step(processor, counts, memory)
+    number_below(processor, settings.processors)?;
+    Schedule::new(bytes, settings)?.checked_step(processor, counts, memory)
 }
 
 /// One public run in a caller's order.
 pub fn run(
     bytes: &[u8],
-    processors: u32,
+    settings: Settings,
     order: &[u8],
     memory: &mut [f64],
 ) -> Result<u64, Refusal> {
-    let schedule = Schedule::new(bytes, processors)?;
+    let schedule = Schedule::new(bytes, settings)?;
     fits(&schedule.table, memory)?;
     Ok(schedule.run(order, memory))
 }

@@ -3,7 +3,8 @@
 
 #[derive(Default)]
 pub struct Tally {
-    counts: [u64; 16],
+    /// By number; the highest is 17.
+    counts: [u64; 18],
 }
 
 impl Tally {

@@ -6,6 +6,8 @@
 mod entries;
 #[path = "planning/large.rs"]
 mod large;
+#[path = "planning/lines.rs"]
+mod lines;
 #[path = "planning/listings.rs"]
 mod listings;
 #[path = "planning/meetings.rs"]
@@ -22,6 +24,7 @@ fn main() {
         ("version", version::compare),
         ("large", large::compare_all),
         ("meetings", meetings::compare_all),
+        ("lines", lines::compare_all),
         ("listings", listings::compare_all),
         ("entries", entries::compare_all),
         ("numbers", numbers::compare_all),

@@ -5,6 +5,8 @@
 
 #[path = "running/large.rs"]
 mod large;
+#[path = "running/lines.rs"]
+mod lines;
 #[path = "running/nans.rs"]
 mod nans;
 #[path = "running/orders.rs"]

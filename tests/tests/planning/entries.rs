@@ -9,10 +9,12 @@ use vempaldi_checks::encoder::encode;
 use vempaldi_checks::lent;
 use vempaldi_checks::library_planning as library;
 use vempaldi_checks::limits;
+use vempaldi_checks::line_lengths;
 use vempaldi_checks::outcome::{hex, Answer};
 use vempaldi_checks::outputs::{self, Output};
 use vempaldi_checks::processors;
 use vempaldi_checks::random::Random;
+use vempaldi_checks::settings::Settings;
 use vempaldi_checks::tables::{self, Shape, LARGE, MIDDLE, SMALL};
 use vempaldi_checks::tally::Tally;
 
@@ -33,14 +35,17 @@ pub fn compare_all() {
     let mut tally = Tally::new();
     let plans = every_list(&mut tally);
     for case in limits::cases() {
-        every_entry(&mut tally, &case.bytes, 2, 1);
+        // What a table itself is refused with stands before a bad line.
+        for line in [1, 65] {
+            every_entry(&mut tally, &case.bytes, Settings::new(2, line), 1);
+        }
     }
     for (seed, shape, count) in [(21, SMALL, 6_000), (22, MIDDLE, 2_000), (23, LARGE, 400)] {
         mixed(&mut tally, seed, &shape, count);
     }
     tally.print("entries of planning");
     println!("  every list of {plans} small plans among them");
-    tally.require(&[0, 1, 2, 3, 4, 5, 6, 7, 8, 9, 10, 11, 13], LEAST_OF_EACH);
+    tally.require(&[0, 1, 2, 3, 4, 5, 6, 7, 8, 9, 10, 11, 13, 17], LEAST_OF_EACH);
 }
 
 /// All lists and ranges of all processors, and one processor too many.
@@ -49,14 +54,16 @@ fn every_list(tally: &mut Tally) -> u64 {
     let mut plans = 0;
     while plans < SMALL_PLANS {
         let table = tables::aligned(&mut random, &SMALL);
-        let most = processors::most(&table);
+        let line = line_lengths::good(&mut random);
+        let most = processors::most(&table, line);
         let count = random.between(1, i64::from(most)) as u32;
-        if plan(&table, count).is_err() {
+        let settings = Settings::new(count, line);
+        if plan(&table, settings).is_err() {
             continue;
         }
         let bytes = encode(&table);
         for processor in (0..=count).chain([65_536, 65_536 + count - 1]) {
-            for entry in of_processor(&bytes, count, processor) {
+            for entry in of_processor(&bytes, settings, processor) {
                 every_room(tally, &bytes, &entry);
             }
         }
@@ -77,19 +84,20 @@ fn mixed(tally: &mut Tally, seed: u64, shape: &Shape, count: u64) {
         let torn = good[..random.below(good.len())].to_vec();
         for bytes in [good, meeting, colliding, broken, crowded, torn] {
             let processors = processors::any(&mut random);
+            let settings = Settings::new(processors, line_lengths::any(&mut random));
             let processor = random.below(processors.max(1) as usize + 1) as u32;
             let above = if random.chance(1, 16) { random.pick(&[1 << 8, 1 << 16]) } else { 0 };
             let processor = processor.saturating_add(above);
-            every_entry(tally, &bytes, processors, processor);
+            every_entry(tally, &bytes, settings, processor);
         }
     }
 }
 
-pub fn every_entry(tally: &mut Tally, table: &[u8], processors: u32, processor: u32) {
-    for entry in of_table(table, processors) {
+pub fn every_entry(tally: &mut Tally, table: &[u8], settings: Settings, processor: u32) {
+    for entry in of_table(table, settings) {
         every_room(tally, table, &entry);
     }
-    for entry in of_processor(table, processors, processor) {
+    for entry in of_processor(table, settings, processor) {
         every_room(tally, table, &entry);
     }
 }
@@ -102,7 +110,7 @@ pub fn facts(table: &[u8]) -> Entry<'_> {
     }
 }
 
-fn of_table(table: &[u8], processors: u32) -> [Entry<'_>; 6] {
+fn of_table(table: &[u8], settings: Settings) -> [Entry<'_>; 6] {
     [
         facts(table),
         Entry {
@@ -122,57 +130,57 @@ fn of_table(table: &[u8], processors: u32) -> [Entry<'_>; 6] {
         },
         Entry {
             name: "blocks",
-            expected: Box::new(move |room| outputs::blocks(table, processors, room)),
-            call: Box::new(move |out| library::blocks(table, processors, out)),
+            expected: Box::new(move |room| outputs::blocks(table, settings, room)),
+            call: Box::new(move |out| library::blocks(table, settings, out)),
         },
         Entry {
             name: "listing",
-            expected: Box::new(move |room| outputs::listing(table, processors, room)),
-            call: Box::new(move |out| library::listing(table, processors, out)),
+            expected: Box::new(move |room| outputs::listing(table, settings, room)),
+            call: Box::new(move |out| library::listing(table, settings, out)),
         },
     ]
 }
 
 /// The ranges of a processor, fused and peeled.
-pub fn ranges(table: &[u8], processors: u32, processor: u32) -> [Entry<'_>; 2] {
+pub fn ranges(table: &[u8], settings: Settings, processor: u32) -> [Entry<'_>; 2] {
     [
         Entry {
             name: "fused ranges",
-            expected: Box::new(move |room| {
-                outputs::fused_ranges(table, processors, processor, room)
-            }),
-            call: Box::new(move |out| library::fused_ranges(table, processors, processor, out)),
+            expected: Box::new(move |room| outputs::fused_ranges(table, settings, processor, room)),
+            call: Box::new(move |out| library::fused_ranges(table, settings, processor, out)),
         },
         Entry {
             name: "peeled ranges",
             expected: Box::new(move |room| {
-                outputs::peeled_ranges(table, processors, processor, room)
+                outputs::peeled_ranges(table, settings, processor, room)
             }),
-            call: Box::new(move |out| library::peeled_ranges(table, processors, processor, out)),
+            call: Box::new(move |out| library::peeled_ranges(table, settings, processor, out)),
         },
     ]
 }
 
-fn lists(table: &[u8], processors: u32, processor: u32) -> [Entry<'_>; 2] {
+fn lists(table: &[u8], settings: Settings, processor: u32) -> [Entry<'_>; 2] {
     [
         Entry {
             name: "fused list",
-            expected: Box::new(move |room| outputs::fused_list(table, processors, processor, room)),
-            call: Box::new(move |out| library::fused_list(table, processors, processor, out)),
+            expected: Box::new(move |room| outputs::fused_list(table, settings, processor, room)),
+            call: Box::new(move |out| library::fused_list(table, settings, processor, out)),
         },
         Entry {
             name: "peeled list",
-            expected: Box::new(move |room| {
-                outputs::peeled_list(table, processors, processor, room)
-            }),
-            call: Box::new(move |out| library::peeled_list(table, processors, processor, out)),
+            expected: Box::new(move |room| outputs::peeled_list(table, settings, processor, room)),
+            call: Box::new(move |out| library::peeled_list(table, settings, processor, out)),
         },
     ]
 }
 
-fn of_processor(table: &[u8], processors: u32, processor: u32) -> impl Iterator<Item = Entry<'_>> {
-    let lists = lists(table, processors, processor);
-    lists.into_iter().chain(ranges(table, processors, processor))
+fn of_processor(
+    table: &[u8],
+    settings: Settings,
+    processor: u32,
+) -> impl Iterator<Item = Entry<'_>> {
+    let lists = lists(table, settings, processor);
+    lists.into_iter().chain(ranges(table, settings, processor))
 }
 
 /// No room, one byte too little, enough, and more.

@@ -2,14 +2,17 @@
 
 use vempaldi_checks::damage;
 use vempaldi_checks::encoder::encode;
-use vempaldi_checks::examples::{two_ahead, EXAMPLE, EXAMPLE_LISTING, TWO_AHEAD_LISTINGS};
+use vempaldi_checks::examples::{two_ahead, EXAMPLE, TWO_AHEAD_LISTINGS};
+use vempaldi_checks::examples::{EXAMPLE_LINES_OF_4, EXAMPLE_LISTING};
 use vempaldi_checks::lent;
 use vempaldi_checks::library_planning as library;
 use vempaldi_checks::limits;
+use vempaldi_checks::line_lengths;
 use vempaldi_checks::outcome::hex;
 use vempaldi_checks::outputs;
 use vempaldi_checks::processors;
 use vempaldi_checks::random::Random;
+use vempaldi_checks::settings::Settings;
 use vempaldi_checks::table::{Item, Loop, Operation, Reference, Table};
 use vempaldi_checks::tables::{self, Shape, LARGE, MIDDLE, SMALL};
 use vempaldi_checks::tally::Tally;
@@ -34,10 +37,11 @@ pub fn compare_all() {
     let mut counts = Counts { tables: 0, with_peeled: 0, grounds: Tally::new() };
     typed();
     for count in 0..=255 {
-        compare(&mut counts, &EXAMPLE, count);
+        compare(&mut counts, &EXAMPLE, Settings::of(count));
+        compare(&mut counts, &EXAMPLE, Settings::new(2, count));
     }
     for case in limits::cases() {
-        compare(&mut counts, &case.bytes, 2);
+        compare(&mut counts, &case.bytes, Settings::of(2));
     }
     for (seed, shape, tables) in shapes() {
         whole(&mut counts, seed, &shape, tables);
@@ -47,21 +51,22 @@ pub fn compare_all() {
     long(&mut counts);
     counts.grounds.print("listings");
     println!("  of {} tables; {} plans have peeled lines", counts.tables, counts.with_peeled);
-    counts.grounds.require(&[0, 1, 2, 3, 4, 5, 6, 7, 8, 9, 10, 11], LEAST_OF_EACH);
+    counts.grounds.require(&[0, 1, 2, 3, 4, 5, 6, 7, 8, 9, 10, 11, 17], LEAST_OF_EACH);
     assert!(counts.tables >= LEAST_TABLES, "too few tables");
     assert!(counts.with_peeled >= LEAST_WITH_PEELED, "too few plans with peeled lines");
 }
 
-/// Known listings, typed: the example's, and those of loops that meet and do
-/// not.
+/// Known listings, typed: the example's, for lines of one iteration and of
+/// four, and those of loops that meet and do not.
 fn typed() {
-    let ahead = TWO_AHEAD_LISTINGS.map(|(last, text)| (two_ahead(last), 3, text));
-    let example = (EXAMPLE.to_vec(), 2, EXAMPLE_LISTING);
-    for (table, processors, wanted) in ahead.into_iter().chain([example]) {
+    let ahead = TWO_AHEAD_LISTINGS.map(|(last, text)| (two_ahead(last), Settings::of(3), text));
+    let example = (EXAMPLE.to_vec(), Settings::of(2), EXAMPLE_LISTING);
+    let of_4 = (EXAMPLE.to_vec(), Settings::new(2, 4), EXAMPLE_LINES_OF_4);
+    for (table, settings, wanted) in ahead.into_iter().chain([example, of_4]) {
         let mut out = [0; 256];
-        let (_, written) = library::listing(&table, processors, &mut out);
+        let (_, written) = library::listing(&table, settings, &mut out);
         let found = String::from_utf8_lossy(&out[..written as usize]);
-        assert_eq!(found, wanted, "a typed listing for {processors} processors");
+        assert_eq!(found, wanted, "a typed listing for {settings:?}");
     }
 }
 
@@ -81,17 +86,17 @@ fn shapes() -> Vec<(u64, Shape, u64)> {
 }
 
 /// The listing of one table, into a buffer that is a little longer.
-fn compare(counts: &mut Counts, table: &[u8], processors: u32) {
-    let expected = outputs::listing(table, processors, ENOUGH);
+fn compare(counts: &mut Counts, table: &[u8], settings: Settings) {
+    let expected = outputs::listing(table, settings, ENOUGH);
     let number = expected.as_ref().map_or_else(|refusal| refusal.number, |_| 0);
     let text =
         expected.as_ref().map_or("".into(), |bytes| String::from_utf8_lossy(bytes)).into_owned();
     let room = expected.as_ref().map_or(REFUSED_ROOM, |bytes| bytes.len() + 5);
-    let result = lent::compare(room, &expected, |out| library::listing(table, processors, out));
+    let result = lent::compare(room, &expected, |out| library::listing(table, settings, out));
     if let Err(report) = result {
         eprintln!("listing: the library and the second planner disagree");
-        eprintln!("  table    {}, processors {processors}", hex(table));
-        show_first_difference(table, processors, &text);
+        eprintln!("  table    {}, {settings:?}", hex(table));
+        show_first_difference(table, settings, &text);
         eprintln!("{report}");
         std::process::exit(1);
     }
@@ -99,9 +104,9 @@ fn compare(counts: &mut Counts, table: &[u8], processors: u32) {
     counts.with_peeled += u64::from(text.contains("peeled"));
 }
 
-fn show_first_difference(table: &[u8], processors: u32, wanted: &str) {
+fn show_first_difference(table: &[u8], settings: Settings, wanted: &str) {
     let mut out = vec![0; 65_536];
-    let (_, written) = library::listing(table, processors, &mut out);
+    let (_, written) = library::listing(table, settings, &mut out);
     let found = String::from_utf8_lossy(&out[..(written as usize).min(out.len())]).into_owned();
     let mut found = found.lines();
     for (number, wanted) in wanted.lines().enumerate() {
@@ -113,16 +118,22 @@ fn show_first_difference(table: &[u8], processors: u32, wanted: &str) {
     }
 }
 
-/// One table with numbers of processors that include the largest that has a
-/// plan and the next one.
+/// One table with numbers of processors that include, for lines of any length
+/// and of one iteration, the largest that has a plan and the next one.
 fn several(counts: &mut Counts, random: &mut Random, table: &Table) {
     counts.tables += 1;
     let bytes = encode(table);
-    let most = processors::most(table);
-    compare(counts, &bytes, most);
-    compare(counts, &bytes, most + 1);
-    compare(counts, &bytes, random.between(1, i64::from(most)) as u32);
-    compare(counts, &bytes, processors::any(random));
+    let line = if random.chance(1, 3) { 1 } else { line_lengths::good(random) };
+    let most = processors::most(table, line);
+    let fewer = random.between(1, i64::from(most)) as u32;
+    for processors in [most, most + 1, fewer] {
+        compare(counts, &bytes, Settings::new(processors, line));
+    }
+    compare(counts, &bytes, any_settings(random));
+}
+
+fn any_settings(random: &mut Random) -> Settings {
+    Settings::new(processors::any(random), line_lengths::any(random))
 }
 
 fn whole(counts: &mut Counts, seed: u64, shape: &Shape, count: u64) {
@@ -141,23 +152,24 @@ fn damaged(counts: &mut Counts, seed: u64, shape: &Shape, count: u64) {
     for _ in 0..count {
         counts.tables += 5;
         let bytes = encode(&tables::any(&mut random, &serial));
-        let processors = processors::any(&mut random);
-        compare(counts, &bytes, processors);
-        compare(counts, &bytes[..random.below(bytes.len())], processors);
-        compare(counts, &damage::crowd(&mut random, &bytes), processors);
-        compare(counts, &damage::field(&mut random, &bytes), processors);
-        compare(counts, &damage::change_byte(&mut random, &bytes), processors);
+        let settings = any_settings(&mut random);
+        compare(counts, &bytes, settings);
+        compare(counts, &bytes[..random.below(bytes.len())], settings);
+        compare(counts, &damage::crowd(&mut random, &bytes), settings);
+        compare(counts, &damage::field(&mut random, &bytes), settings);
+        compare(counts, &damage::change_byte(&mut random, &bytes), settings);
     }
 }
 
-/// Full tables, with every number of processors.
+/// Full tables, with every number of processors and lines of every length.
 fn full(counts: &mut Counts) {
     let mut random = Random::new(7);
     for reads in 0..=4 {
         counts.tables += 1;
         let table = encode(&tables::full(&mut random, reads, 4));
-        for processors in 0..=66 {
-            compare(counts, &table, processors);
+        for number in 0..=66 {
+            compare(counts, &table, Settings::of(number));
+            compare(counts, &table, Settings::new(66 - number, number));
         }
     }
 }
@@ -168,10 +180,11 @@ fn full(counts: &mut Counts) {
 fn long(counts: &mut Counts) {
     counts.tables += 1;
     let table = encode(&long_table());
-    let text = outputs::listing(&table, 64, ENOUGH).expect("accepted");
+    let most = Settings::of(64);
+    let text = outputs::listing(&table, most, ENOUGH).expect("accepted");
     assert_eq!(text.len(), LONG, "the long listing");
-    compare(counts, &table, 64);
-    let enough = lent::compare(ENOUGH, &Ok(text), |out| library::listing(&table, 64, out));
+    compare(counts, &table, most);
+    let enough = lent::compare(ENOUGH, &Ok(text), |out| library::listing(&table, most, out));
     assert!(enough.is_ok(), "{}", enough.unwrap_err());
 }
 

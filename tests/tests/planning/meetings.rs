@@ -6,12 +6,14 @@ use crate::entries::every_entry;
 use vempaldi_checks::boundaries;
 use vempaldi_checks::encoder::encode;
 use vempaldi_checks::library_planning as library;
+use vempaldi_checks::line_lengths;
 use vempaldi_checks::meeting;
 use vempaldi_checks::misjudged::Misjudged;
 use vempaldi_checks::outcome::hex;
 use vempaldi_checks::outputs;
 use vempaldi_checks::processors;
 use vempaldi_checks::random::Random;
+use vempaldi_checks::settings::Settings;
 use vempaldi_checks::tally::Tally;
 
 const TABLES: u64 = 60_000;
@@ -40,7 +42,7 @@ fn typed(tally: &mut Tally) {
             stop(&case.bytes);
         }
         for processors in 1..=3 {
-            every_entry(tally, &case.bytes, processors, processors - 1);
+            every_entry(tally, &case.bytes, Settings::of(processors), processors - 1);
         }
     }
 }
@@ -54,10 +56,12 @@ fn made(tally: &mut Tally) {
         amounts(&bytes);
         misjudged.add(&table);
         if number % EVERY == 0 {
-            let most = processors::most(&table);
+            let line = line_lengths::good(&mut random);
+            let most = processors::most(&table, line);
             let fewer = random.between(1, most.into()) as u32;
             let count = random.pick(&[most, most + 1, fewer]);
-            every_entry(tally, &bytes, count, random.below(count as usize + 1) as u32);
+            let processor = random.below(count as usize + 1) as u32;
+            every_entry(tally, &bytes, Settings::new(count, line), processor);
         }
     }
     misjudged.print("which loops meet");

@@ -8,9 +8,11 @@ use vempaldi_checks::encoder::encode;
 use vempaldi_checks::examples::EXAMPLE;
 use vempaldi_checks::library_planning as library;
 use vempaldi_checks::limits;
+use vempaldi_checks::line_lengths;
 use vempaldi_checks::outcome::{Answer, ACCEPTED};
 use vempaldi_checks::processors;
 use vempaldi_checks::random::Random;
+use vempaldi_checks::settings::Settings;
 use vempaldi_checks::table::Table;
 use vempaldi_checks::tables::{self, Shape, LARGE, MIDDLE, SMALL};
 use vempaldi_checks::tally::Tally;
@@ -26,7 +28,7 @@ pub fn compare_all() {
     let (mut of_facts, mut of_ranges) = (Tally::new(), Tally::new());
     for case in limits::cases() {
         every_room(&mut of_facts, &case.bytes, &facts(&case.bytes));
-        for entry in ranges(&case.bytes, 2, 1) {
+        for entry in ranges(&case.bytes, Settings::new(2, 3), 1) {
             every_room(&mut of_ranges, &case.bytes, &entry);
         }
     }
@@ -37,7 +39,7 @@ pub fn compare_all() {
     of_facts.print("facts");
     of_facts.require(&[0, 1, 2, 3, 4, 5, 6, 7, 8, 9, 13], LEAST_OF_EACH);
     of_ranges.print("ranges");
-    of_ranges.require(&[0, 1, 2, 3, 4, 5, 6, 7, 8, 9, 10, 11, 13], LEAST_OF_EACH);
+    of_ranges.require(&[0, 1, 2, 3, 4, 5, 6, 7, 8, 9, 10, 11, 13, 17], LEAST_OF_EACH);
     assert!(of_facts.total() >= LEAST, "too few facts");
     assert!(of_ranges.total() >= LEAST, "too few ranges");
 }
@@ -53,13 +55,19 @@ pub fn written(call: &dyn Fn(&mut [u8]) -> (Answer, u64), wanted: &[u32]) {
 
 /// The example's, typed.
 fn typed() {
-    let table = EXAMPLE.to_vec();
+    let (table, two) = (EXAMPLE.to_vec(), Settings::of(2));
     let facts = [3, 2, 36, 0, 12, 12, 12, 24, 12, 1, 10, 1, 10];
     written(&|out| library::facts(&table, out), &facts);
-    written(&|out| library::fused_ranges(&table, 2, 0, out), &[1, 6, 1, 5]);
-    written(&|out| library::fused_ranges(&table, 2, 1, out), &[6, 11, 7, 11]);
-    written(&|out| library::peeled_ranges(&table, 2, 0, out), &[0, 0, 5, 7]);
-    written(&|out| library::peeled_ranges(&table, 2, 1, out), &[0, 0, 0, 0]);
+    written(&|out| library::fused_ranges(&table, two, 0, out), &[1, 6, 1, 5]);
+    written(&|out| library::fused_ranges(&table, two, 1, out), &[6, 11, 7, 11]);
+    written(&|out| library::peeled_ranges(&table, two, 0, out), &[0, 0, 5, 7]);
+    written(&|out| library::peeled_ranges(&table, two, 1, out), &[0, 0, 0, 0]);
+    // Lines of four iterations: 1 to 4, 5 to 8, and the begun 9 to 10.
+    let four = Settings::new(2, 4);
+    written(&|out| library::fused_ranges(&table, four, 0, out), &[1, 9, 1, 8]);
+    written(&|out| library::fused_ranges(&table, four, 1, out), &[9, 11, 10, 11]);
+    written(&|out| library::peeled_ranges(&table, four, 0, out), &[0, 0, 8, 10]);
+    written(&|out| library::peeled_ranges(&table, four, 1, out), &[0, 0, 0, 0]);
 }
 
 /// Tables of one shape: right ones, ones whose iterations meet, damaged ones.
@@ -83,8 +91,9 @@ fn many(of_facts: &mut Tally, of_ranges: &mut Tally, seed: u64, shape: &Shape, c
             any_room(of_facts, &mut random, bytes, &facts(bytes));
             let processors = processors::any(&mut random);
             let processor = any_processor(&mut random, processors);
+            let settings = Settings::new(processors, line_lengths::any(&mut random));
             let phase = random.below(2);
-            let entry = &ranges(bytes, processors, processor)[phase];
+            let entry = &ranges(bytes, settings, processor)[phase];
             any_room(of_ranges, &mut random, bytes, entry);
         }
     }
@@ -92,11 +101,12 @@ fn many(of_facts: &mut Tally, of_ranges: &mut Tally, seed: u64, shape: &Shape, c
 
 /// One processor of a number that has a plan, or is the first that has none.
 fn planned(tally: &mut Tally, random: &mut Random, table: &Table, bytes: &[u8]) {
-    let most = processors::most(table);
+    let line = line_lengths::good(random);
+    let most = processors::most(table, line);
     let fewer = random.between(1, most.into()) as u32;
     let processors = random.pick(&[most, most, most + 1, fewer]);
     let processor = any_processor(random, processors);
-    for entry in ranges(bytes, processors, processor) {
+    for entry in ranges(bytes, Settings::new(processors, line), processor) {
         any_room(tally, random, bytes, &entry);
     }
 }
@@ -137,7 +147,7 @@ fn rooms(of_facts: &mut Tally, of_ranges: &mut Tally) {
     let full = tables::full(&mut random, 2, 4);
     let bytes = encode(&full);
     assert_eq!(needed(&facts(&bytes)), FACTS_ROOM, "the longest facts");
-    assert_eq!(needed(&ranges(&bytes, 64, 0)[0]), RANGES_ROOM, "the longest ranges");
+    assert_eq!(needed(&ranges(&bytes, Settings::of(64), 0)[0]), RANGES_ROOM, "the longest ranges");
     let mut all = vec![full];
     for shape in [SMALL, MIDDLE, LARGE] {
         all.extend((0..150).map(|_| tables::aligned(&mut random, &shape)));
@@ -145,9 +155,10 @@ fn rooms(of_facts: &mut Tally, of_ranges: &mut Tally) {
     for table in &all {
         let bytes = encode(table);
         every_room(of_facts, &bytes, &facts(&bytes));
-        let processors = processors::most(table);
+        let line = line_lengths::good(&mut random);
+        let processors = processors::most(table, line);
         for processor in [0, processors / 2, processors - 1, processors] {
-            for entry in ranges(&bytes, processors, processor) {
+            for entry in ranges(&bytes, Settings::new(processors, line), processor) {
                 every_room(of_ranges, &bytes, &entry);
             }
         }

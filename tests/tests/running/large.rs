@@ -12,6 +12,7 @@ use vempaldi_checks::library_running as library;
 use vempaldi_checks::memories;
 use vempaldi_checks::outcome::{agrees, ACCEPTED};
 use vempaldi_checks::random::Random;
+use vempaldi_checks::settings::Settings;
 use vempaldi_checks::stepping::{Counts, Report, Schedule};
 
 /// More bytes than two can count.
@@ -23,21 +24,21 @@ pub fn compare_all() {
     let mut random = Random::new(15);
     let start = memories::any(&mut random, 131_072);
     let mut steps = 0;
-    for processors in [1, 2, 64] {
-        let planned = planned_for(2, processors);
+    for (processors, line) in [(1, 1), (2, 64), (64, 63)] {
+        let planned = planned_for(2, Settings::new(processors, line));
         steps += near_the_ends(&planned, &start);
         runs(&mut random, &planned, &start);
     }
     // The longest list that there can be: 1,048,576 iterations.
-    steps += near_the_ends(&planned_for(16, 1), &start);
+    steps += near_the_ends(&planned_for(16, Settings::of(1)), &start);
     println!(
         "large tables: {steps} steps near the ends of their lists, runs of {LONG_ORDER} bytes"
     );
 }
 
-fn planned_for(loops: usize, processors: u32) -> Planned {
+fn planned_for(loops: usize, settings: Settings) -> Planned {
     let bytes = encode(&large::last_indices(loops));
-    let schedule = Schedule::new(&bytes, processors).expect("planned");
+    let schedule = Schedule::new(&bytes, settings).expect("planned");
     Planned { bytes, schedule }
 }
 
@@ -71,10 +72,10 @@ fn near_the_ends(planned: &Planned, start: &[f64]) -> u64 {
 }
 
 fn step(planned: &Planned, counts: &mut Counts, named: u32, found: &mut [f64], wanted: &mut [f64]) {
-    let processors = planned.schedule.processors();
+    let settings = planned.schedule.settings;
     let start = [71, 72, 73];
     let (mut own, mut report) = (*counts, start);
-    let answer = library::step(&planned.bytes, processors, named, &mut own, found, &mut report);
+    let answer = library::step(&planned.bytes, settings, named, &mut own, found, &mut report);
     let expected = planned.schedule.checked_step(named, counts, wanted);
     let wanted_report = expected.as_ref().map_or(start, |&report: &Report| numbers(report));
     let same = agrees(&answer, expected.as_ref().err())
@@ -83,7 +84,7 @@ fn step(planned: &Planned, counts: &mut Counts, named: u32, found: &mut [f64], w
         && same_bits(found, wanted);
     if !same {
         let details = format!(
-            "  processors {processors}, stepped {named}\n\
+            "  {settings:?}, stepped {named}\n\
              \x20 library  {answer:?}, report {report:?}, counts {own:?}\n\
              \x20 expected {expected:?}, counts {counts:?}\n{}",
             first_difference(found, wanted)
@@ -95,12 +96,13 @@ fn step(planned: &Planned, counts: &mut Counts, named: u32, found: &mut [f64], w
 /// One order that mixes the processors, and one that names none of them, so
 /// that all of its bytes are idle.
 fn runs(random: &mut Random, planned: &Planned, start: &[f64]) {
-    let processors = planned.schedule.processors();
-    let mixed = (0..LONG_ORDER).map(|_| random.below(processors as usize + 1) as u8).collect();
+    let settings = planned.schedule.settings;
+    let processors = settings.processors as usize;
+    let mixed = (0..LONG_ORDER).map(|_| random.below(processors + 1) as u8).collect();
     let orders: [Vec<u8>; 2] = [mixed, vec![64; LONG_ORDER]];
     let idle = orders.map(|order| {
         let (mut found, mut wanted) = (start.to_vec(), start.to_vec());
-        let (answer, idle) = library::run(&planned.bytes, processors, &order, &mut found);
+        let (answer, idle) = library::run(&planned.bytes, settings, &order, &mut found);
         let expected = planned.schedule.run(&order, &mut wanted);
         if answer != ACCEPTED || idle != expected || !same_bits(&found, &wanted) {
             let difference = first_difference(&found, &wanted);
@@ -119,9 +121,10 @@ fn longer_memory() {
     let mut memory = start.clone();
     let wrong = [12, 0, 0, 0];
     assert_eq!(library::plain_run(&EXAMPLE, &mut memory), wrong, "plain run");
-    assert_eq!(library::run(&EXAMPLE, 2, &[0, 1], &mut memory), (wrong, 0), "run");
+    assert_eq!(library::run(&EXAMPLE, Settings::of(2), &[0, 1], &mut memory), (wrong, 0), "run");
     let (mut counts, mut report) = ([0; 64], [1, 2, 3]);
-    let answer = library::step(&EXAMPLE, 2, 0, &mut counts, &mut memory, &mut report);
+    let two = Settings::of(2);
+    let answer = library::step(&EXAMPLE, two, 0, &mut counts, &mut memory, &mut report);
     assert_eq!((answer, counts, report), (wrong, [0; 64], [1, 2, 3]), "step");
     assert!(memory == start, "a refused call changed the memory");
 }
@@ -133,9 +136,10 @@ fn followed() {
     let start = vec![0.5; 36];
     let mut memory = start.clone();
     assert_eq!(library::plain_run(&table, &mut memory), tail, "plain run");
-    assert_eq!(library::run(&table, 2, &[0, 1], &mut memory), (tail, 0), "run");
+    assert_eq!(library::run(&table, Settings::of(2), &[0, 1], &mut memory), (tail, 0), "run");
     let (mut counts, mut report) = ([0; 64], [1, 2, 3]);
-    let answer = library::step(&table, 2, 0, &mut counts, &mut memory, &mut report);
+    let two = Settings::of(2);
+    let answer = library::step(&table, two, 0, &mut counts, &mut memory, &mut report);
     assert_eq!((answer, counts, report), (tail, [0; 64], [1, 2, 3]), "step");
     assert!(memory == start, "a refused call changed the memory");
 }

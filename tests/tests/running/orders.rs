@@ -7,12 +7,15 @@ use std::hint::black_box;
 use vempaldi_checks::collisions;
 use vempaldi_checks::damage;
 use vempaldi_checks::encoder::encode;
+use vempaldi_checks::examples::EXAMPLE;
 use vempaldi_checks::interpreter::plain_run;
 use vempaldi_checks::library_running as library;
+use vempaldi_checks::line_lengths;
 use vempaldi_checks::memories;
 use vempaldi_checks::outcome::{agrees, ACCEPTED};
 use vempaldi_checks::processors;
 use vempaldi_checks::random::Random;
+use vempaldi_checks::settings::Settings;
 use vempaldi_checks::stepping::run;
 use vempaldi_checks::tables::{self, Shape};
 use vempaldi_checks::tally::Tally;
@@ -20,6 +23,7 @@ use vempaldi_checks::tally::Tally;
 const PLANS: u64 = 20_000;
 
 pub fn compare_all() {
+    typed();
     let mut random = Random::new(13);
     let mut tally = Tally::new();
     let mut idle = 0;
@@ -28,8 +32,8 @@ pub fn compare_all() {
         let order = any_order(&mut random, &planned);
         let length = planned.schedule.table.elements() as usize;
         let start = memories::any(&mut random, length);
-        let processors = planned.schedule.processors();
-        idle += compare(&mut tally, &planned.bytes, processors, &order, &start);
+        let settings = planned.schedule.settings;
+        idle += compare(&mut tally, &planned.bytes, settings, &order, &start);
         same_as_plain(&planned, &order, &start);
         if turn % 4 == 0 {
             same_as_row(&planned, &order, &start);
@@ -39,7 +43,18 @@ pub fn compare_all() {
     long_runs(&mut tally);
     tally.print("runs in a caller's order");
     println!("  {idle} idle bytes in all");
-    tally.require(&[0, 1, 3, 4, 5, 6, 7, 8, 9, 10, 11, 12], 50);
+    tally.require(&[0, 1, 3, 4, 5, 6, 7, 8, 9, 10, 11, 12, 17], 50);
+}
+
+/// The example for lines of four iterations: processor 1 has 9 and 10 of loop 0
+/// and 10 of loop 1, and then waits.
+fn typed() {
+    let mut memory: Vec<f64> = (0..36).map(|at| f64::from(at % 12)).collect();
+    // On the heap: a call that writes to them is found out below.
+    let (table, order) = (EXAMPLE.to_vec(), vec![1; 5]);
+    let (answer, idle) = library::run(&table, Settings::new(2, 4), &order, &mut memory);
+    assert_eq!((answer, idle), (ACCEPTED, 2), "a typed run");
+    assert_eq!((memory[25], memory[29], memory[34]), (3.0, 12.0, 21.0), "a typed run");
 }
 
 /// Few runs of larger tables, up to some thousand iterations.
@@ -48,11 +63,12 @@ fn long_runs(tally: &mut Tally) {
     let mut random = Random::new(14);
     for _ in 0..60 {
         let table = tables::aligned(&mut random, &shape);
-        let processors = processors::most(&table).min(random.between(2, 64) as u32);
+        let line = line_lengths::good(&mut random);
+        let processors = processors::most(&table, line).min(random.between(2, 64) as u32);
         let start = memories::any(&mut random, table.elements() as usize);
         let order: Vec<u8> =
             (0..2_000).map(|_| random.below(processors as usize + 1) as u8).collect();
-        compare(tally, &encode(&table), processors, &order, &start);
+        compare(tally, &encode(&table), Settings::new(processors, line), &order, &start);
     }
 }
 
@@ -77,14 +93,20 @@ fn any_order(random: &mut Random, planned: &Planned) -> Vec<u8> {
 }
 
 /// The idle count where the run is accepted, else 0.
-fn compare(tally: &mut Tally, table: &[u8], processors: u32, order: &[u8], start: &[f64]) -> u64 {
+fn compare(
+    tally: &mut Tally,
+    table: &[u8],
+    settings: Settings,
+    order: &[u8],
+    start: &[f64],
+) -> u64 {
     let mut found = start.to_vec();
     let mut wanted = start.to_vec();
     let before = [table, order].concat();
-    let (answer, idle) = library::run(table, processors, order, &mut found);
+    let (answer, idle) = library::run(table, settings, order, &mut found);
     let after = [black_box(table), black_box(order)].concat();
     assert!(before == after, "the table or the order itself changed");
-    let expected = run(table, processors, order, &mut wanted);
+    let expected = run(table, settings, order, &mut wanted);
     let wanted_idle = *expected.as_ref().unwrap_or(&0);
     let same = agrees(&answer, expected.as_ref().err())
         && idle == wanted_idle
@@ -92,7 +114,7 @@ fn compare(tally: &mut Tally, table: &[u8], processors: u32, order: &[u8], start
     if !same {
         let difference = first_difference(&found, &wanted);
         let details = format!(
-            "  processors {processors}, order {order:?}\n\
+            "  {settings:?}, order {order:?}\n\
              \x20 library  {answer:?}, idle {idle}\n  expected {expected:?}\n{difference}"
         );
         stop("run in a caller's order", table, &details);
@@ -104,11 +126,13 @@ fn compare(tally: &mut Tally, table: &[u8], processors: u32, order: &[u8], start
 fn same_as_plain(planned: &Planned, order: &[u8], start: &[f64]) {
     let mut found = start.to_vec();
     let mut plain = start.to_vec();
-    library::run(&planned.bytes, planned.schedule.processors(), order, &mut found);
+    library::run(&planned.bytes, planned.schedule.settings, order, &mut found);
     plain_run(&planned.bytes, &mut plain).expect("accepted");
     if !same_bits(&found, &plain) {
+        let settings = planned.schedule.settings;
         let difference = first_difference(&found, &plain);
-        stop("run and plain run", &planned.bytes, &format!("  order {order:?}\n{difference}"));
+        let details = format!("  {settings:?}, order {order:?}\n{difference}");
+        stop("run and plain run", &planned.bytes, &details);
     }
 }
 
@@ -116,14 +140,14 @@ fn same_as_plain(planned: &Planned, order: &[u8], start: &[f64]) {
 /// that can step, count the same idle calls and leave the same memory.
 fn same_as_row(planned: &Planned, order: &[u8], start: &[f64]) {
     let schedule = &planned.schedule;
-    let processors = schedule.processors();
+    let settings = schedule.settings;
     let mut memory = start.to_vec();
     let mut counts = [0; 64];
     let mut idle = 0;
     let mut call = |named: u32, counts: &mut [u32; 64]| {
         let mut report = [9; 3];
         let answer =
-            library::step(&planned.bytes, processors, named, counts, &mut memory, &mut report);
+            library::step(&planned.bytes, settings, named, counts, &mut memory, &mut report);
         answer == ACCEPTED && report[0] == 1
     };
     for &byte in order {
@@ -133,7 +157,7 @@ fn same_as_row(planned: &Planned, order: &[u8], start: &[f64]) {
         assert!(call(lowest, &mut counts), "the lowest processor that can step does");
     }
     let mut found = start.to_vec();
-    let (_, counted) = library::run(&planned.bytes, processors, order, &mut found);
+    let (_, counted) = library::run(&planned.bytes, settings, order, &mut found);
     if counted != idle || !same_bits(&found, &memory) {
         let difference = first_difference(&found, &memory);
         let details = format!("  order {order:?}: idle {counted}, in its row {idle}\n{difference}");
@@ -141,9 +165,10 @@ fn same_as_row(planned: &Planned, order: &[u8], start: &[f64]) {
     }
 }
 
-/// Wrong tables, numbers of processors and memories change nothing.
+/// Wrong tables, numbers of processors, lengths of a line and memories change
+/// nothing.
 fn refused(tally: &mut Tally, random: &mut Random, planned: &Planned, order: &[u8]) {
-    let right = planned.schedule.processors();
+    let right = planned.schedule.settings;
     let length = planned.schedule.table.elements() as usize;
     let start = memories::any(random, length);
     let broken = damage::field(random, &planned.bytes);
@@ -154,10 +179,12 @@ fn refused(tally: &mut Tally, random: &mut Random, planned: &Planned, order: &[u
     compare(tally, &colliding, right, order, &start);
     let cut = &planned.bytes[..random.below(planned.bytes.len())];
     compare(tally, cut, right, order, &start);
-    let processors = processors::any(random);
-    compare(tally, &planned.bytes, processors, order, &start);
-    let wrong = random.pick(&[0, length - 1, length + 1]);
-    let other = memories::any(random, wrong);
+    let wrong = Settings::new(processors::any(random), line_lengths::any(random));
+    compare(tally, &planned.bytes, wrong, order, &start);
+    let line = line_lengths::bad(random);
+    compare(tally, &planned.bytes, Settings { line, ..right }, order, &start);
+    let other = random.pick(&[0, length - 1, length + 1]);
+    let other = memories::any(random, other);
     compare(tally, &planned.bytes, right, order, &other);
-    compare(tally, &planned.bytes, processors, order, &other);
+    compare(tally, &planned.bytes, wrong, order, &other);
 }

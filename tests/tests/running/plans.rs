@@ -1,9 +1,12 @@
-//! Random tables with a number of processors for which they have a plan.
+//! Random tables with settings for which they have a plan.
 
 use vempaldi_checks::encoder::encode;
+use vempaldi_checks::line_lengths;
+use vempaldi_checks::lined;
 use vempaldi_checks::meeting;
 use vempaldi_checks::processors;
 use vempaldi_checks::random::Random;
+use vempaldi_checks::settings::Settings;
 use vempaldi_checks::stepping::Schedule;
 use vempaldi_checks::table::Table;
 use vempaldi_checks::tables::{self, Shape, SMALL};
@@ -22,30 +25,46 @@ pub struct Planned {
     pub schedule: Schedule,
 }
 
-/// Mostly two processors or more, and mostly with loops over like bounds.
+/// Mostly two processors or more, mostly with loops over like bounds, and with
+/// lines of one iteration and of more.
 pub fn planned(random: &mut Random) -> Planned {
     loop {
-        let table = a_table(random);
-        let most = i64::from(processors::most(&table));
-        if most == 1 && random.chance(3, 4) {
+        let (table, line) = a_table(random);
+        let most = i64::from(processors::most(&table, line));
+        if most == 1 && random.chance(7, 8) {
             continue;
         }
-        let least = if random.chance(1, 4) { most } else { most.min(2) };
+        let least = if random.chance(1, 3) { most } else { most.min(2) };
         let processors = random.between(least, most) as u32;
         let bytes = encode(&table);
-        if let Ok(schedule) = Schedule::new(&bytes, processors) {
+        if let Ok(schedule) = Schedule::new(&bytes, Settings::new(processors, line)) {
             return Planned { bytes, schedule };
         }
     }
 }
 
-fn a_table(random: &mut Random) -> Table {
-    match random.below(11) {
-        0 | 1 => tables::any(random, &SMALL),
-        2 | 3 => tables::aligned(random, &SMALL),
-        4 | 5 => tables::aligned(random, &NEAR),
-        6 | 7 => tables::aligned(random, &CHAINED),
-        8 | 9 => meeting::short_table(random),
-        _ => tables::aligned(random, &WIDE),
+/// A table and a line's length. Lines are short mostly, for most tables are;
+/// those that are wide enough for 64 processors are so with two iterations at
+/// most.
+fn a_table(random: &mut Random) -> (Table, u32) {
+    let line = match random.below(6) {
+        0 => 1,
+        1 => line_lengths::good(random),
+        _ => random.small(2, 9) as u32,
+    };
+    match random.below(13) {
+        0 | 1 => (tables::any(random, &SMALL), line),
+        2 | 3 => (tables::aligned(random, &SMALL), line),
+        4 | 5 => (tables::aligned(random, &NEAR), line),
+        6 | 7 => (tables::aligned(random, &CHAINED), line),
+        8 | 9 => (meeting::short_table(random), line),
+        10 => (tables::aligned(random, &WIDE), random.pick(&[1, 1, 1, 2])),
+        _ => lined_table(random),
     }
+}
+
+/// Lines of any length, and few of them, so that rows are not too long.
+fn lined_table(random: &mut Random) -> (Table, u32) {
+    let settings = Settings::new(random.pick(&[2, 2, 3]), random.between(2, 64) as u32);
+    (lined::made_for(random, settings, 1), settings.line)
 }

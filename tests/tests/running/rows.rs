@@ -1,6 +1,7 @@
 //! Complete rows of steps: every report, every count and the memory after
 //! every call, and at the end the memory of the plain run.
 
+use crate::lines::Lines;
 use crate::plans::{planned, Planned};
 use crate::schedulers::{self, Scheduler};
 use crate::stop::{first_difference, same_bits, stop};
@@ -14,6 +15,7 @@ use vempaldi_checks::stepping::{Counts, Report};
 
 const PLANS: u64 = 6_000;
 const LEAST_OF_EACH: u64 = 10_000;
+const LEAST_LINED: u64 = 1_000;
 
 #[derive(Default)]
 struct Calls {
@@ -23,6 +25,7 @@ struct Calls {
     /// Plans of loops that would be shifted or peeled more if their bounds
     /// were not asked.
     apart: u64,
+    lines: Lines,
     done: u64,
     waiting: u64,
     finished: u64,
@@ -36,6 +39,7 @@ pub fn compare_all() {
         let planned = planned(&mut random);
         let processors = planned.schedule.processors();
         calls.widest += u64::from(processors == 64);
+        calls.lines.add(&planned.schedule);
         let parallel = processors > 1;
         calls.apart += u64::from(parallel && bounds_matter(&planned.schedule.table));
         for scheduler in schedulers::every(&mut random, processors) {
@@ -48,6 +52,8 @@ pub fn compare_all() {
     );
     println!("  {} of {PLANS} plans for 64 processors", calls.widest);
     println!("  {} for two processors and more with loops that bounds keep apart", calls.apart);
+    calls.lines.print();
+    calls.lines.require(LEAST_LINED);
     assert!(calls.widest >= 50, "too few plans for 64 processors");
     assert!(calls.apart >= 500, "too few plans of loops that never meet");
     for count in [calls.rows, calls.done, calls.waiting, calls.finished, calls.refused] {
@@ -75,7 +81,9 @@ fn row(calls: &mut Calls, random: &mut Random, planned: &Planned, scheduler: Sch
     plain_run(&planned.bytes, &mut plain).expect("accepted");
     if !same_bits(&state.found, &plain) {
         let difference = first_difference(&state.found, &plain);
-        stop("row and plain run", &planned.bytes, &format!("  {scheduler:?}\n{difference}"));
+        let settings = planned.schedule.settings;
+        let details = format!("  {settings:?}, {scheduler:?}\n{difference}");
+        stop("row and plain run", &planned.bytes, &details);
     }
     calls.rows += 1;
 }
@@ -102,17 +110,11 @@ pub fn numbers(report: Report) -> [u32; 3] {
 
 fn call(calls: &mut Calls, planned: &Planned, state: &mut State, named: u32) {
     let schedule = &planned.schedule;
-    let processors = schedule.processors();
+    let settings = schedule.settings;
     let mut counts = state.counts;
     let mut report = NO_REPORT;
-    let answer = library::step(
-        &planned.bytes,
-        processors,
-        named,
-        &mut counts,
-        &mut state.found,
-        &mut report,
-    );
+    let answer =
+        library::step(&planned.bytes, settings, named, &mut counts, &mut state.found, &mut report);
     let expected = schedule.checked_step(named, &mut state.counts, &mut state.wanted);
     let wanted = expected.as_ref().map_or(NO_REPORT, |&report| numbers(report));
     let same = agrees(&answer, expected.as_ref().err())
@@ -122,7 +124,7 @@ fn call(calls: &mut Calls, planned: &Planned, state: &mut State, named: u32) {
     if !same {
         let difference = first_difference(&state.found, &state.wanted);
         let details = format!(
-            "  processors {processors}, stepped {named}\n\
+            "  {settings:?}, stepped {named}\n\
              \x20 library  {answer:?}, report {report:?}, counts {counts:?}\n\
              \x20 expected {expected:?}, counts {:?}\n{difference}",
             state.counts

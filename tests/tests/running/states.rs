@@ -8,10 +8,12 @@ use vempaldi_checks::collisions;
 use vempaldi_checks::damage;
 use vempaldi_checks::encoder::encode;
 use vempaldi_checks::library_running as library;
+use vempaldi_checks::line_lengths;
 use vempaldi_checks::memories;
 use vempaldi_checks::outcome::agrees;
 use vempaldi_checks::processors;
 use vempaldi_checks::random::Random;
+use vempaldi_checks::settings::Settings;
 use vempaldi_checks::stepping::{step, Counts};
 use vempaldi_checks::tally::Tally;
 
@@ -21,7 +23,7 @@ const CALLS: u64 = 8;
 /// Everything that one step is given.
 struct Call {
     table: Vec<u8>,
-    processors: u32,
+    settings: Settings,
     processor: u32,
     counts: Counts,
     memory: Vec<f64>,
@@ -38,7 +40,7 @@ pub fn compare_all() {
         }
     }
     tally.print("single steps");
-    tally.require(&[0, 1, 3, 4, 5, 6, 7, 8, 9, 10, 11, 12, 15], 50);
+    tally.require(&[0, 1, 3, 4, 5, 6, 7, 8, 9, 10, 11, 12, 15, 17], 50);
 }
 
 fn any_call(random: &mut Random, planned: &Planned) -> Call {
@@ -46,13 +48,16 @@ fn any_call(random: &mut Random, planned: &Planned) -> Call {
     let length = planned.schedule.table.elements() as usize;
     let mut call = Call {
         table: planned.bytes.clone(),
-        processors,
+        settings: planned.schedule.settings,
         processor: random.below(processors as usize) as u32,
         counts: any_counts(random, planned),
         memory: memories::any(random, length),
     };
     if random.chance(1, 8) {
-        call.processors = processors::any(random);
+        call.settings.processors = processors::any(random);
+    }
+    if random.chance(1, 8) {
+        call.settings.line = line_lengths::any(random);
     }
     if random.chance(1, 8) {
         let below = random.below(processors as usize) as u32;
@@ -121,14 +126,14 @@ fn compare(tally: &mut Tally, call: Call) {
     let mut report = start;
     let answer = library::step(
         &call.table,
-        call.processors,
+        call.settings,
         call.processor,
         &mut counts,
         &mut found,
         &mut report,
     );
     let expected =
-        step(&call.table, call.processors, call.processor, &mut wanted_counts, &mut wanted);
+        step(&call.table, call.settings, call.processor, &mut wanted_counts, &mut wanted);
     let wanted_report = expected.as_ref().map_or(start, |&report| numbers(report));
     let same = agrees(&answer, expected.as_ref().err())
         && report == wanted_report
@@ -137,10 +142,10 @@ fn compare(tally: &mut Tally, call: Call) {
     if !same {
         let difference = first_difference(&found, &wanted);
         let details = format!(
-            "  processors {}, stepped {}, counts {:?}, memory of {}\n\
+            "  {:?}, stepped {}, counts {:?}, memory of {}\n\
              \x20 library  {answer:?}, report {report:?}, counts {counts:?}\n\
              \x20 expected {expected:?}, counts {wanted_counts:?}\n{difference}",
-            call.processors,
+            call.settings,
             call.processor,
             call.counts,
             wanted.len()

@@ -4,12 +4,13 @@ use vempaldi_checks::library;
 use vempaldi_checks::library_planning as planning;
 use vempaldi_checks::library_running as running;
 use vempaldi_checks::outcome::{Answer, ACCEPTED};
+use vempaldi_checks::settings::Settings;
 use vempaldi_checks::stepping::Counts;
 
 /// What the calls of a round are given.
 pub struct Given<'a> {
     pub table: &'a [u8],
-    pub processors: u32,
+    pub settings: Settings,
     pub processor: u32,
     /// The bytes of each output.
     pub room: usize,
@@ -45,19 +46,19 @@ pub const ENTRIES: [Entry; 15] = [
     entry("shifts and peels", |g| output(g, |out| planning::shifts_and_peels(g.table, out))),
     entry("threshold", |g| output(g, |out| planning::threshold(g.table, out))),
     entry("sweeps", |g| output(g, |out| planning::sweeps(g.table, out))),
-    entry("blocks", |g| output(g, |out| planning::blocks(g.table, g.processors, out))),
-    entry("listing", |g| output(g, |out| planning::listing(g.table, g.processors, out))),
+    entry("blocks", |g| output(g, |out| planning::blocks(g.table, g.settings, out))),
+    entry("listing", |g| output(g, |out| planning::listing(g.table, g.settings, out))),
     entry("fused list", |g| {
-        output(g, |out| planning::fused_list(g.table, g.processors, g.processor, out))
+        output(g, |out| planning::fused_list(g.table, g.settings, g.processor, out))
     }),
     entry("peeled list", |g| {
-        output(g, |out| planning::peeled_list(g.table, g.processors, g.processor, out))
+        output(g, |out| planning::peeled_list(g.table, g.settings, g.processor, out))
     }),
     entry("fused ranges", |g| {
-        output(g, |out| planning::fused_ranges(g.table, g.processors, g.processor, out))
+        output(g, |out| planning::fused_ranges(g.table, g.settings, g.processor, out))
     }),
     entry("peeled ranges", |g| {
-        output(g, |out| planning::peeled_ranges(g.table, g.processors, g.processor, out))
+        output(g, |out| planning::peeled_ranges(g.table, g.settings, g.processor, out))
     }),
     entry("plain run", plain_run),
     entry("run", run),
@@ -92,7 +93,7 @@ fn plain_run(g: &Given) -> Came {
 
 fn run(g: &Given) -> Came {
     let mut memory = g.memory.clone();
-    let (answer, idle) = running::run(g.table, g.processors, &g.order, &mut memory);
+    let (answer, idle) = running::run(g.table, g.settings, &g.order, &mut memory);
     Came { answer, sum: sum([idle, bits(&memory)].into_iter()) }
 }
 
@@ -104,7 +105,7 @@ fn steps(g: &Given) -> Came {
     for &named in &g.named {
         let mut report = [9; 3];
         let lent = (&mut counts, &mut memory, &mut report);
-        came.answer = running::step(g.table, g.processors, named, lent.0, lent.1, lent.2);
+        came.answer = running::step(g.table, g.settings, named, lent.0, lent.1, lent.2);
         let numbers = report.iter().chain(&counts).map(|&number| u64::from(number));
         came.sum = sum([came.sum].into_iter().chain(came.answer).chain(numbers));
     }

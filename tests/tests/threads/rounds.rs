@@ -4,9 +4,11 @@ use crate::calls::Given;
 use vempaldi_checks::collisions;
 use vempaldi_checks::damage;
 use vempaldi_checks::encoder::encode;
+use vempaldi_checks::line_lengths;
 use vempaldi_checks::memories;
 use vempaldi_checks::processors;
 use vempaldi_checks::random::Random;
+use vempaldi_checks::settings::Settings;
 use vempaldi_checks::tables::{self, Shape, SMALL};
 
 /// The steps of a round.
@@ -19,7 +21,8 @@ const WIDE: Shape = Shape { arrays: 3, loops: 3, items: 4, length: 150, offset: 
 pub struct Made {
     bytes: Vec<u8>,
     elements: usize,
-    /// The most processors for which there is a plan.
+    /// A line's length, and the most processors for which there is a plan.
+    line: u32,
     most: u32,
 }
 
@@ -31,7 +34,8 @@ pub fn tables(seed: u64, count: usize) -> Vec<Made> {
 fn made(random: &mut Random) -> Made {
     let shape = if random.chance(1, 3) { WIDE } else { SMALL };
     let table = tables::aligned(random, &shape);
-    let (elements, most) = (table.elements() as usize, processors::most(&table));
+    let line = if random.chance(1, 4) { 1 } else { random.small(1, 12) as u32 };
+    let (elements, most) = (table.elements() as usize, processors::most(&table, line));
     let bytes = encode(&table);
     let bytes = match random.below(12) {
         0 => damage::field(random, &bytes),
@@ -40,7 +44,7 @@ fn made(random: &mut Random) -> Made {
         3 => encode(&collisions::table(random)),
         _ => bytes,
     };
-    Made { bytes, elements, most }
+    Made { bytes, elements, line, most }
 }
 
 /// A round for each table of one's own, every fourth with a common one in
@@ -60,7 +64,7 @@ fn given<'a>(random: &mut Random, made: &'a Made) -> Given<'a> {
     let processors = random.between(1, i64::from(made.most)) as usize;
     let mut given = Given {
         table: &made.bytes,
-        processors: processors as u32,
+        settings: Settings::new(processors as u32, made.line),
         processor: random.below(processors) as u32,
         room: ROOM,
         memory: memories::any(random, made.elements),
@@ -69,10 +73,12 @@ fn given<'a>(random: &mut Random, made: &'a Made) -> Given<'a> {
         named: (0..STEPS).map(|_| random.below(processors) as u32).collect(),
     };
     match random.below(20) {
-        0 => given.processors = processors::any(random),
-        1 => given.room = random.below(40),
-        2 => given.memory.truncate(made.elements - 1),
-        3 => given.counts[random.below(64)] = random.between(1, 40) as u32,
+        0 => given.settings.processors = processors::any(random),
+        1 => given.settings.line = line_lengths::any(random),
+        2 => given.settings.line = line_lengths::bad(random),
+        3 => given.room = random.below(40),
+        4 => given.memory.truncate(made.elements - 1),
+        5 => given.counts[random.below(64)] = random.between(1, 40) as u32,
         _ => {}
     }
     given

@@ -4,6 +4,7 @@ use crate::planning::{a_loop, lengths, listings};
 use vempaldi_checks::blocks::plan;
 use vempaldi_checks::measure::{print_growth, Pair};
 use vempaldi_checks::random::Random;
+use vempaldi_checks::settings::Settings;
 use vempaldi_checks::table::Table;
 
 const TABLES: usize = 40;
@@ -33,11 +34,11 @@ fn cost(loops: usize, items: usize, processors: u32) -> Pair {
     let mut tables = Vec::new();
     while tables.len() < TABLES {
         let table = table(&mut random, loops, items);
-        if plan(&table, processors).is_ok() {
+        if plan(&table, Settings::of(processors)).is_ok() {
             tables.push(table);
         }
     }
-    listings(&tables, processors)
+    listings(&tables, Settings::of(processors))
 }
 
 /// Offsets next to 0, so that the shortest loops still have a plan.

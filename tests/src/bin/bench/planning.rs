@@ -1,5 +1,5 @@
 //! Planning for 16 processors: shifts, peels, blocks and ranges, which is the
-//! work of the listing.
+//! work of the listing. Lines have one iteration where nothing else is said.
 
 use std::hint::black_box;
 use vempaldi_checks::blocks::plan;
@@ -10,10 +10,13 @@ use vempaldi_checks::listing::lines;
 use vempaldi_checks::measure::{self, Pair};
 use vempaldi_checks::outputs;
 use vempaldi_checks::random::Random;
+use vempaldi_checks::settings::Settings;
 use vempaldi_checks::table::*;
 use vempaldi_checks::tables;
 
-const PROCESSORS: u32 = 16;
+const SIXTEEN: Settings = Settings { processors: 16, line: 1 };
+/// What a cache line of 64 bytes holds.
+const LINED: Settings = Settings { processors: 16, line: 8 };
 const TABLES: usize = 400;
 const ROUNDS: usize = 20;
 /// Longer than any listing.
@@ -40,26 +43,43 @@ pub fn measure() {
     );
     compare_facts("facts, 400 mixed tables", &mixed);
     compare_facts("facts, full tables", &full);
-    compare_ranges("fused and peeled ranges of all 16 processors, 400 mixed tables", &mixed);
-    compare_ranges("fused and peeled ranges of all 16 processors, full tables", &full);
+    let name = "fused and peeled ranges of all 16 processors, 400 mixed tables";
+    compare_ranges(name, &mixed, SIXTEEN);
+    let name = "fused and peeled ranges of all 16 processors, full tables";
+    compare_ranges(name, &full, SIXTEEN);
+    in_lines(&mixed, &full);
+}
+
+/// The same tables with blocks on lines of eight iterations.
+fn in_lines(mixed: &[Table], full: &[Table]) {
+    let name = "planning 400 mixed tables for 16 processors, lines of 8";
+    measure::print(name, "table", &listings(mixed, LINED));
+    let name = "planning full tables, each array stored once, lines of 8";
+    measure::print(name, "table", &listings(full, LINED));
+    measure::print("plan and blocks alone, 400 mixed tables", "table", &plans(mixed, SIXTEEN));
+    let name = "plan and blocks alone, 400 mixed tables, lines of 8";
+    measure::print(name, "table", &plans(mixed, LINED));
+    let name = "fused and peeled ranges of all 16 processors, 400 mixed tables, lines of 8";
+    compare_ranges(name, mixed, LINED);
 }
 
 fn repeat(count: usize, mut make: impl FnMut() -> Table) -> Vec<Table> {
     (0..count).map(|_| make()).collect()
 }
 
-/// The first table made that has a plan.
+/// The first table made that has a plan, with lines of one iteration and of
+/// eight.
 fn accepted(mut make: impl FnMut() -> Table) -> Table {
     loop {
         let table = make();
-        if plan(&table, PROCESSORS).is_ok() {
+        if [SIXTEEN, LINED].iter().all(|&settings| plan(&table, settings).is_ok()) {
             return table;
         }
     }
 }
 
 fn compare(name: &str, tables: &[Table]) {
-    measure::print(name, "table", &listings(tables, PROCESSORS));
+    measure::print(name, "table", &listings(tables, SIXTEEN));
 }
 
 /// Every table by both, as bytes; the library's side also gets room for its
@@ -88,11 +108,11 @@ fn beside<A, B>(
 }
 
 /// The listings of tables by both.
-pub fn listings(tables: &[Table], processors: u32) -> Pair {
+pub fn listings(tables: &[Table], settings: Settings) -> Pair {
     beside(
         tables,
-        |table, out| library::listing(table, processors, out),
-        |table| lines(table, processors),
+        |table, out| library::listing(table, settings, out),
+        |table| lines(table, settings),
     )
 }
 
@@ -111,19 +131,19 @@ fn compare_facts(name: &str, tables: &[Table]) {
 
 /// What a code generator asks for: both calls for each processor, each of
 /// which reads and plans the table again.
-fn compare_ranges(name: &str, tables: &[Table]) {
+fn compare_ranges(name: &str, tables: &[Table], settings: Settings) {
     let pair = beside(
         tables,
         |table, out| {
-            for processor in 0..PROCESSORS {
-                black_box(library::fused_ranges(table, PROCESSORS, processor, out));
-                black_box(library::peeled_ranges(table, PROCESSORS, processor, out));
+            for processor in 0..settings.processors {
+                black_box(library::fused_ranges(table, settings, processor, out));
+                black_box(library::peeled_ranges(table, settings, processor, out));
             }
         },
         |table| {
-            for processor in 0..PROCESSORS {
-                let _ = black_box(outputs::fused_ranges(table, PROCESSORS, processor, ROOM));
-                let _ = black_box(outputs::peeled_ranges(table, PROCESSORS, processor, ROOM));
+            for processor in 0..settings.processors {
+                let _ = black_box(outputs::fused_ranges(table, settings, processor, ROOM));
+                let _ = black_box(outputs::peeled_ranges(table, settings, processor, ROOM));
             }
         },
     );
@@ -131,11 +151,11 @@ fn compare_ranges(name: &str, tables: &[Table]) {
 }
 
 /// The plan of each table and its blocks, without any text.
-fn plans(tables: &[Table]) -> Pair {
+fn plans(tables: &[Table], settings: Settings) -> Pair {
     beside(
         tables,
-        |table, out| library::blocks(table, PROCESSORS, out),
-        |table| outputs::blocks(table, PROCESSORS, ROOM),
+        |table, out| library::blocks(table, settings, out),
+        |table| outputs::blocks(table, settings, ROOM),
     )
 }
 
@@ -147,12 +167,14 @@ pub fn lengths() {
     let base = repeat(100, || accepted(|| near(&mut random)));
     let longer = [1, 10, 100]
         .map(|factor| -> Vec<Table> { base.iter().map(|table| lengthen(table, factor)).collect() });
-    let listed = longer.each_ref().map(|tables| listings(tables, PROCESSORS));
+    let listed = longer.each_ref().map(|tables| listings(tables, SIXTEEN));
     let name = "planning, 640, 6,400, 64,000 iterations a loop";
     measure::print_growth(name, "table", &listed);
-    let planned = longer.each_ref().map(|tables| plans(tables));
     let name = "plan and blocks alone, 640, 6,400, 64,000 iterations a loop";
-    measure::print_growth(name, "table", &planned);
+    for (settings, lines) in [(SIXTEEN, ""), (LINED, ", lines of 8")] {
+        let planned = longer.each_ref().map(|tables| plans(tables, settings));
+        measure::print_growth(&format!("{name}{lines}"), "table", &planned);
+    }
 }
 
 /// 2 to 16 loops of 1 to 32 items over 16 arrays.

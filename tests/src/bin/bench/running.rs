@@ -9,21 +9,27 @@ use vempaldi_checks::library_running as library;
 use vempaldi_checks::measure::{self, Pair};
 use vempaldi_checks::random::Random;
 use vempaldi_checks::reader::read;
+use vempaldi_checks::settings::Settings;
 use vempaldi_checks::stepping::run;
 use vempaldi_checks::table::Loop;
 use vempaldi_checks::tables;
 
-const PROCESSORS: u32 = 16;
+const SIXTEEN: Settings = Settings { processors: 16, line: 1 };
+/// What a cache line of 64 bytes holds.
+const LINED: Settings = Settings { processors: 16, line: 8 };
 
 pub fn measure() {
     let table = two_loops(50_000);
     measure::print("plain run, 7 items, 100,000 iterations", "iteration", &plain(&table));
-    let pair = caller_order(&table, PROCESSORS);
+    let pair = caller_order(&table, SIXTEEN);
     measure::print("run in a caller's order, 16 processors", "iteration", &pair);
+    let pair = caller_order(&table, LINED);
+    measure::print("run in a caller's order, 16 processors, lines of 8", "iteration", &pair);
     let full = encode(&tables::full(&mut Random::new(1), 4, 4));
-    step("the example, 2 processors", &EXAMPLE, 2);
-    step("two loops of 50,000, 16 processors", &table, PROCESSORS);
-    step("a full table, 16 processors", &full, PROCESSORS);
+    step("the example, 2 processors", &EXAMPLE, Settings::of(2));
+    step("two loops of 50,000, 16 processors", &table, SIXTEEN);
+    step("two loops of 50,000, 16 processors, lines of 8", &table, LINED);
+    step("a full table, 16 processors", &full, SIXTEEN);
 }
 
 /// How the cost of an iteration grows with iterations and with processors.
@@ -32,11 +38,11 @@ pub fn growth() {
     let plain_runs = longer.map(|count| plain(&two_loops(count)));
     let name = "plain run, 1,000, 10,000, 100,000 iterations";
     measure::print_growth(name, "iteration", &plain_runs);
-    let runs = longer.map(|count| caller_order(&two_loops(count), PROCESSORS));
+    let runs = longer.map(|count| caller_order(&two_loops(count), SIXTEEN));
     let name = "run in a caller's order, 1,000, 10,000, 100,000 iterations";
     measure::print_growth(name, "iteration", &runs);
     let table = two_loops(5_000);
-    let runs = [1, 4, 16, 64].map(|processors| caller_order(&table, processors));
+    let runs = [1, 4, 16, 64].map(|count| caller_order(&table, Settings::of(count)));
     let name = "run in a caller's order, 1, 4, 16, 64 processors";
     measure::print_growth(name, "iteration", &runs);
 }
@@ -85,24 +91,24 @@ fn plain(table: &[u8]) -> Pair {
 
 /// Half of the iterations are named by the caller, the rest follow from the
 /// lowest processor on.
-fn caller_order(table: &[u8], processors: u32) -> Pair {
+fn caller_order(table: &[u8], settings: Settings) -> Pair {
     let mut random = Random::new(2);
-    let count = iterations(table);
-    let order: Vec<u8> = (0..count / 2).map(|_| random.below(processors as usize) as u8).collect();
+    let (count, processors) = (iterations(table), settings.processors as usize);
+    let order: Vec<u8> = (0..count / 2).map(|_| random.below(processors) as u8).collect();
     let mut found = memory(length(table));
     let mut wanted = found.clone();
     measure::beside(
         3,
         count,
-        || keep(library::run(black_box(table), processors, &order, &mut found)),
-        || keep(run(black_box(table), processors, &order, &mut wanted)),
+        || keep(library::run(black_box(table), settings, &order, &mut found)),
+        || keep(run(black_box(table), settings, &order, &mut wanted)),
     )
 }
 
 /// The library's step reads and plans its table anew in each call. The second
 /// implementation makes whole lists for a step, which would compare unlike
 /// things; beside it stands its reading and planning alone.
-fn step(name: &str, table: &[u8], processors: u32) {
+fn step(name: &str, table: &[u8], settings: Settings) {
     let mut found = memory(length(table));
     let calls = 100;
     let pair = measure::beside(
@@ -113,13 +119,13 @@ fn step(name: &str, table: &[u8], processors: u32) {
             let mut report = [0; 3];
             for _ in 0..calls {
                 // Where the list of processor 1 is used up, it waits.
-                keep(library::step(table, processors, 1, &mut counts, &mut found, &mut report));
+                keep(library::step(table, settings, 1, &mut counts, &mut found, &mut report));
             }
         },
         || {
             for _ in 0..calls {
                 let table = read(black_box(table)).expect("accepted");
-                keep(plan(&table, processors));
+                keep(plan(&table, settings));
             }
         },
     );
