@@ -40,8 +40,8 @@ pub const JOIN: Help = Help {
 };
 
 pub const RUN: Help = Help {
-    usage: "vempaldi run FILE.. -p N [--line W] [--order ORDER] [--memory MEMORY] [--values] [-o OUT]
-             [--raw]",
+    usage: "vempaldi run FILE.. -p N [--line W] [--order ORDER] [--memory MEMORY]
+             [--values] [-o OUT] [--raw]",
     does: "runs on N processors, beside the plain run, and compares",
     options: "  -p N         how many processors, 1 to 64
   --line W     how many iterations store into one cache line, 1 to 64, and 1 if none is given
