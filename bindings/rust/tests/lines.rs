@@ -71,6 +71,25 @@ fn the_last_block_counts_by_what_the_cut_leaves() {
     assert_eq!(bounds(&table, 2, 2), Ok(vec![(1, 6), (7, 9)]));
 }
 
+/// One loop from 1 to 10, with no dependence: lines alone decide, and no block is empty.
+#[test]
+fn without_a_threshold_there_are_as_many_blocks_as_lines() {
+    let mut b = Builder::new();
+    let a0 = b.array(12);
+    b.open_loop(1, 10, a0, 0);
+    b.constant(7);
+    let table = b.end().expect("a table");
+    assert_eq!(threshold(&table), Ok(0));
+    assert_eq!(bounds(&table, 3, 4), Ok(vec![(1, 4), (5, 8), (9, 10)]));
+    assert_eq!(bounds(&table, 4, 4), Err(11));
+    assert_eq!(bounds(&table, 4, 3), Ok(vec![(1, 3), (4, 6), (7, 9), (10, 10)]));
+    assert_eq!(bounds(&table, 5, 3), Err(11));
+    assert_eq!(bounds(&table, 3, 5), Err(11));
+    assert_eq!(bounds(&table, 6, 2), Err(11));
+    assert_eq!(bounds(&table, 10, 1).map(|blocks| blocks.len()), Ok(10));
+    assert_eq!(bounds(&table, 11, 1), Err(11));
+}
+
 /// Rounded up to whole lines, which are dealt out as iterations were; the last block ends at the greatest last.
 fn dealt(table: &[u8], processors: u32, line: u32) -> Result<Bounds, u64> {
     let loops = facts(table).expect("accepted").loops;
@@ -219,7 +238,16 @@ fn a_run_in_any_order_ends_as_the_plain_run_for_each_line() {
     assert!(runs > 500, "{runs}");
 }
 
-/// The highest processor goes as far as it can, then the next one.
+/// Steps until the processor performs nothing more, and what it performed.
+fn steps_of(table: &[u8], settings: Settings, processor: u32, state: &mut State, memory: &mut [f64]) -> Vec<(u32, u32)> {
+    let mut performed = Vec::new();
+    while let Report::Iteration { loop_number, index, .. } = step(table, settings, processor, state, memory).expect("accepted") {
+        performed.push((loop_number, index));
+    }
+    performed
+}
+
+/// The highest processor goes as far as it can, then the next one, and again past the barrier: each performs its lists and nothing else.
 #[test]
 fn a_row_of_steps_ends_as_the_plain_run_for_each_line() {
     let table = until(30);
@@ -227,12 +255,24 @@ fn a_row_of_steps_ends_as_the_plain_run_for_each_line() {
     plain_run(&table, &mut plain).expect("accepted");
     for (processors, line) in [(2, 4), (4, 7), (5, 6), (8, 4), (10, 3), (1, 64)] {
         let settings = Settings::new(processors).line(line);
-        let (mut state, mut memory, mut performed) = (State::new(), start(&table), 0);
-        for processor in [(0..processors).rev(), (0..processors).rev()].into_iter().flatten() {
-            while let Report::Iteration { .. } = step(&table, settings, processor, &mut state, &mut memory).expect("accepted") {
-                performed += 1;
-            }
+        let (mut state, mut memory) = (State::new(), start(&table));
+        let mut performed = vec![Vec::new(); processors as usize];
+        for processor in (0..processors).rev().chain((0..processors).rev()) {
+            performed[processor as usize].extend(steps_of(&table, settings, processor, &mut state, &mut memory));
         }
-        assert_eq!((performed, bits(&memory)), (60, bits(&plain)), "{settings:?}");
+        for (processor, performed) in (0..).zip(&performed) {
+            let fused = fused_list(&table, settings, processor).expect("accepted").into_iter();
+            let lists = fused.chain(peeled_list(&table, settings, processor).expect("accepted"));
+            assert_eq!(performed, &lists.map(|one| (one.loop_number, one.index)).collect::<Vec<_>>(), "{settings:?}");
+        }
+        assert_eq!((state.counts.iter().sum::<u32>(), bits(&memory)), (60, bits(&plain)), "{settings:?}");
     }
+}
+
+/// In lines of 4 processor 1 has the iterations 9 and 10 of loop 0 and 10 of loop 1 before the barrier, and none past it.
+#[test]
+fn a_run_counts_idle_bytes_by_the_lists_of_its_lines() {
+    let settings = Settings::new(2).line(4);
+    assert_eq!(run(EXAMPLE, settings, &[1; 12], &mut start(EXAMPLE)), Ok(9));
+    assert_eq!(run(EXAMPLE, 2, &[1; 12], &mut start(EXAMPLE)), Ok(3));
 }
