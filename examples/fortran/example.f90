@@ -3,8 +3,8 @@
 !
 !     gfortran vempaldi.f90 example.f90 -Lbuild -lvempaldi -o example && ./example example.table 2
 !
-! Without a number it is two processors. A second number is how many iterations a line has, 1 where there is none. The exit status is 0 where the memories have the same bits, 1 where a call is refused, 2 where
-! the arguments or the file are no good.
+! Without a number it is two processors. A second number is how many iterations a line has, 1 where there is none. The exit status is 0
+! where the memories have the same bits, 1 where a call is refused, 2 where the arguments or the file are no good.
 program example
   use, intrinsic :: iso_c_binding
   use, intrinsic :: iso_fortran_env, only: error_unit
