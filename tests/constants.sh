@@ -1,6 +1,7 @@
 #!/usr/bin/env bash
 # The constants of the C headers, of the Fortran modules and of the Rust binding: each stands in all three under one name with one value, and so do
-# the words of the grounds and the lengths of records' bodies. Names are read off the sources; the values are what compiled programs print.
+# the words of the grounds (a number that is no ground has none) and the lengths of records' bodies. Names are read off the sources; the values are
+# what compiled programs print.
 # Where a language has no such constant, `absent` says why.
 set -eu
 cd "$(dirname "$0")/.."
@@ -46,7 +47,8 @@ program_of_c() {
 static const char *const words[] = VEMPALDI_WORDS;
 static const int lengths[] = VEMPALDI_BODY_LENGTHS;
 int main(void) {
-    for (size_t n = 0; n < sizeof words / sizeof *words; n++) printf("WORD_%zu %s\n", n, words[n]);
+    for (size_t n = 0; n < sizeof words / sizeof *words; n++)
+        if (*words[n]) printf("WORD_%zu %s\n", n, words[n]);
     for (size_t n = 0; n < sizeof lengths / sizeof *lengths; n++) printf("BODY_LENGTH_%zu %d\n", n, lengths[n]);
 C
     for name in $(names_of_c); do echo "    printf(\"$name %lld\\n\", (long long)VEMPALDI_$name);"; done
@@ -81,10 +83,8 @@ program_of_fortran() {
   use, intrinsic :: iso_c_binding, only: c_int64_t
   implicit none
   integer(c_int64_t) :: n
-  n = 0
-  do while (vempaldi_word(n) /= 'unknown')
-    print '(a,i0,1x,a)', 'WORD_', n, vempaldi_word(n)
-    n = n + 1
+  do n = 0, 999
+    if (vempaldi_word(n) /= 'unknown') print '(a,i0,1x,a)', 'WORD_', n, vempaldi_word(n)
   end do
 F
     if grep -q vempaldi_body_lengths bindings/fortran/*.f90; then

@@ -2,7 +2,8 @@
 # tests/examples.sh c|rust|fortran: compiles that example against the library of build/ and runs it on every table of examples/ for several
 # numbers of processors, on tables that are refused, and with arguments that are no good.
 # What it must print is made without it and without the library. The listing is the proved program's (bin/plan), and for the example on two
-# processors the typed one; counts are added up from that listing and from the table's text; the numbers are worked out from the text.
+# processors the typed one; with lines it is worked out by tests/lines.awk. Counts are added up from that listing and from the table's text; the
+# numbers are worked out from the text.
 set -eu
 cd "$(dirname "$0")/.."
 case ${1:-} in
@@ -76,22 +77,47 @@ refusal() {
     8) echo "refused 8 tail at byte $place: bytes follow the end record" ;;
     9) echo "refused 9 serial at loop $place, read $read: two different iterations of one loop meet at an element, one storing" ;;
     10) echo "refused 10 processors: P is outside 1 to 64, or a processor's number is not below P" ;;
-    11) echo "refused 11 short: fewer indices than processors, or a block below the threshold" ;;
+    11) echo "refused 11 short: fewer lines than processors, or a block below the threshold" ;;
+    17) echo "refused 17 line: a line's length is outside 1 to 64" ;;
     esac
 }
 
+# try LISTING P [W]: what the example says where the listing is this one.
+try() {
+    local listing=$1
+    shift
+    case $listing in
+    "refused 10 0") says 1 "" "$(refusal listing 10 processors 0)" "$table" "$@" ;;
+    "refused 11 0") says 1 "" "$(refusal listing 11 short 0)" "$table" "$@" ;;
+    "refused 17 0") says 1 "" "$(refusal listing 17 line 0)" "$table" "$@" ;;
+    *) says 0 "$(expected "$listing" "$1")" "" "$table" "$@" ;;
+    esac
+}
+
+# The numbers of the table, which depend on no plan, and the plan for one processor.
+take_table() {
+    table=$1 text=${1%.table}.txt
+    { read -r last_array; read -r elements iterations; } < <(awk -f tests/text-run.awk "$text")
+    one=$(bin/plan 1 "$table")
+}
+
 try_tables() {
-    local text table processors listing
-    for table in examples/*.table; do
-        text=${table%.table}.txt
-        { read -r last_array; read -r elements iterations; } < <(awk -f tests/text-run.awk "$text")
-        for processors in 0 1 2 3 4 5 6 7 8 13 31 63 64 65 255; do
-            listing=$(bin/plan "$processors" "$table")
-            case $listing in
-            "refused 10 0") says 1 "" "$(refusal listing 10 processors 0)" "$table" "$processors" ;;
-            "refused 11 0") says 1 "" "$(refusal listing 11 short 0)" "$table" "$processors" ;;
-            *) says 0 "$(expected "$listing" "$processors")" "" "$table" "$processors" ;;
-            esac
+    local processors name
+    for name in examples/*.table; do
+        take_table "$name"
+        for processors in 0 1 2 3 4 5 6 7 8 13 31 63 64 65 255; do try "$(bin/plan "$processors" "$table")" "$processors"; done
+    done
+}
+
+# With a second number, lines of so many iterations.
+try_lines() {
+    local processors line name
+    for name in examples/*.table; do
+        take_table "$name"
+        for line in 0 1 2 4 7 8 63 64 65 260 4294967295; do
+            for processors in 0 1 2 3 8 65; do
+                try "$(awk -v processors="$processors" -v line="$line" -f tests/lines.awk <(printf '%s\n' "$one") "$text")" "$processors" "$line"
+            done
         done
     done
 }
@@ -102,6 +128,7 @@ try_typed() {
     typed=$(expected "$(cat tests/example.listing)" 2)
     says 0 "$typed" "" examples/example.table 2
     says 0 "$typed" "" examples/example.table 00000000002
+    says 0 "$typed" "" examples/example.table 2 5
     [ "$language" != fortran ] || says 0 "$typed" "" examples/example.table
 }
 
@@ -156,13 +183,14 @@ try_refused() {
 }
 
 try_words() {
-    local word usage="usage: example FILE P"
-    [ "$language" != fortran ] || usage="usage: example FILE [P]"
+    local word usage="usage: example FILE P [W]"
+    [ "$language" != fortran ] || usage="usage: example FILE [P [W]]"
     for word in two '' -1 +2 ' 2' '2 ' 2x 0x2 2.0 4294967296 18446744073709551618; do
         says 2 "" "example: P is a number from 0 to 4294967295, not '$word'" examples/example.table "$word"
+        says 2 "" "example: W is a number from 0 to 4294967295, not '$word'" examples/example.table 2 "$word"
     done
     says 2 "" "$usage"
-    says 2 "" "$usage" examples/example.table 2 12
+    says 2 "" "$usage" examples/example.table 2 4 8
     [ "$language" = fortran ] || says 2 "" "$usage" examples/example.table
     says 2 "" "example: cannot read 'no-such-file'" no-such-file 2
     says 2 "" "example: cannot read 'examples'" examples 2
@@ -181,6 +209,7 @@ try_bytes() {
 
 compile
 try_tables
+try_lines
 try_typed
 try_refused
 try_words

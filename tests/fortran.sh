@@ -1,6 +1,7 @@
 #!/usr/bin/env bash
-# Every procedure of the Fortran module on every table of examples/, for several numbers of processors, and on refused ones. What
-# tests/fortran/calls.f90 must print is made from the proved program's listing (bin/plan) and from the table's text.
+# Every procedure of the Fortran module on every table of examples/, for several numbers of processors and lengths of lines, and on refused
+# ones. What tests/fortran/calls.f90 must print is made from the proved program's listing (bin/plan) and from the table's text; with lines, from
+# the listing that tests/lines.awk works out.
 set -eu
 cd "$(dirname "$0")/.."
 library=${VEMPALDI_LIB:-build}
@@ -92,7 +93,7 @@ accepted() {
     answers "12 0 0 0" "longer memory"
 }
 
-# A plan that is refused with 10 or 11. The processor behind the last one is refused with 10 first.
+# A plan that is refused with 10, 17 or 11. The processor behind the last one is refused with 10 first.
 refused() {
     local processors=$1 ground=$2 b
     of_table
@@ -133,15 +134,30 @@ no_table() {
     answers "$1" "longer memory"
 }
 
-# same FILE P: the program says what is in $made/expected.
+# same FILE P [W]: the program says what is in $made/expected.
 same() {
     runs=$((runs + 1))
-    "$made/calls" "$1" "$2" > "$made/told" 2>&1 || true
+    "$made/calls" "$@" > "$made/told" 2>&1 || true
     if ! cmp -s "$made/expected" "$made/told"; then
-        echo "the Fortran module on $1, P = $2; < is expected, > what it says:"
+        echo "the Fortran module on $1, P = $2${3:+, W = $3}; < is expected, > what it says:"
         diff "$made/expected" "$made/told" | head -20
         exit 1
     fi
+}
+
+# try P LISTING [W]: what the program says where the listing is this one.
+try() {
+    local processors=$1 listing=$2
+    case $listing in
+    refused*) refused "$processors" "$(echo "$listing" | cut -d' ' -f2)" > "$made/expected" ;;
+    *) accepted "$processors" "$listing" > "$made/expected" ;;
+    esac
+    same "$table" "$processors" ${3+"$3"}
+}
+
+# The listing with lines of W iterations.
+with_lines() {
+    awk -v processors="$1" -v line="$2" -f tests/lines.awk <(printf '%s\n' "$one") "$text"
 }
 
 for table in examples/*.table; do
@@ -149,11 +165,12 @@ for table in examples/*.table; do
     one=$(bin/plan 1 "$table")
     for processors in 0 1 2 3 5 6 8 17 64 65; do
         listing=$(bin/plan "$processors" "$table")
-        case $listing in
-        refused*) refused "$processors" "$(echo "$listing" | cut -d' ' -f2)" > "$made/expected" ;;
-        *) accepted "$processors" "$listing" > "$made/expected" ;;
-        esac
-        same "$table" "$processors"
+        [ "$listing" = "$(with_lines "$processors" 1)" ] || { echo "tests/lines.awk: not bin/plan $processors $table"; exit 1; }
+        try "$processors" "$listing"
+        try "$processors" "$listing" 1
+    done
+    for line in 0 2 4 7 8 63 64 65 260; do
+        for processors in 0 1 2 3 8 65; do try "$processors" "$(with_lines "$processors" "$line")" "$line"; done
     done
 done
 # A0[i] = A0[i] + A0[i+10] + A0[i+9] + A0[i+1], 1 to 10: the reads 2 and 3 meet the destination in another iteration.
@@ -163,4 +180,5 @@ same "$made/serial.table" 1
 head -c 60 examples/example.table > "$made/torn.table"
 no_table "1 60 0 0" > "$made/expected"
 same "$made/torn.table" 1
+same "$made/torn.table" 1 0
 echo "the Fortran module: $runs runs of every procedure, as the proved program and the texts of the tables say"

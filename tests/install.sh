@@ -287,6 +287,9 @@ completion() {
     same falling "$(complete_line vempaldi run --order f)" "what --order is completed to"
     same falling "$(complete_line vempaldi run --order = f)" "what --order= is completed to"
     same @file.table "$(complete_line vempaldi run --memory @fi)" "what --memory @ is completed to"
+    same --line "$(complete_line vempaldi draw --l)" "what draw --l is completed to"
+    same '' "$(complete_line vempaldi check --l)" "what check --l is completed to"
+    same 8 "$(complete_line vempaldi plan --line 8)" "what --line 8 is completed to"
 }
 
 # Every command and option that --help names stands in the man page and is offered by the completion; and nothing is offered that is not there.

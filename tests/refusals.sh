@@ -1,5 +1,5 @@
 #!/usr/bin/env bash
-# Compiles and runs the examples of docs/REFUSALS.md that are in C, those of 13 and 15, as they are printed there, on
+# Compiles and runs the examples of docs/REFUSALS.md that are in C, those of 13, 15 and 17, as they are printed there, on
 # examples/example.table. A comment in each says 'answer is' and four numbers: the call must answer these, and the first of them must be the
 # section's own number.
 set -eu
@@ -8,9 +8,13 @@ library=${VEMPALDI_LIB:-build}
 made=build/refusals
 mkdir -p "$made"
 
-# The indented lines of a section.
+# The indented lines of a section, but for a command and what it says.
 printed() {
-    sed -n "/^## $1 /,/^## /s/^    //p" docs/REFUSALS.md
+    awk -v head="## $1 " '
+        /^## / { here = index($0, head) == 1 }
+        !/^    / { command = 0 }
+        /^    .*bin\/vempaldi / { command = 1 }
+        here && /^    / && !command { print substr($0, 5) }' docs/REFUSALS.md
 }
 
 # The lines in a program that has what they name. An answer that no call has written is none that an example can say.
@@ -45,7 +49,7 @@ wrong() {
     exit 1
 }
 
-for number in 13 15; do
+for number in 13 15 17; do
     lines=$(printed "$number")
     says=$(printf '%s\n' "$lines" | sed -nE 's/.*answer is ([0-9]+(, [0-9]+){3}) \*\/.*/\1/p')
     case $says in
@@ -57,4 +61,4 @@ for number in 13 15; do
     told=$("$made/$number") || wrong "$number" "its program ends with a status other than 0"
     [ "$told" = "$says" ] || wrong "$number" "the answer is $told, not $says"
 done
-echo "docs/REFUSALS.md: the examples of 13 and 15 answer what they say"
+echo "docs/REFUSALS.md: the examples of 13, 15 and 17 answer what they say"

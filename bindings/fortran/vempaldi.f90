@@ -8,27 +8,35 @@
 ! loop that meets the destination in another iteration, counted from 0 among the loop's reads, and 0. For every other ground, and where
 ! accepted, both are 0.
 !
+! What settles a table's lists beside the table itself is `processors`, how many processors there are (1 to 64), and `line`, how many
+! iterations store into one cache line (1 to 64, 1 where it is absent); blocks begin on whole lines. All calls of a row of steps are given the
+! same. `line` stands behind the answer and is best given by its name, as in
+!
+!   call vempaldi_blocks(table, 4, blocks, answer, line=8)
+!
+! A later version may add arguments of that kind behind it.
+!
 ! Numbers that C takes as unsigned are given here as integer(c_int32_t); none that a caller needs is above 1048576.
 module vempaldi
   use, intrinsic :: iso_c_binding
   implicit none
   private
 
-  ! The version of this module; vempaldi_version() is that of the library linked, its three numbers as one: 200 is 0.2.0.
-  integer, parameter, public :: vempaldi_version_major = 0, vempaldi_version_minor = 2, vempaldi_version_patch = 0
+  ! The version of this module; vempaldi_version() is that of the library linked, its three numbers as one: 300 is 0.3.0.
+  integer, parameter, public :: vempaldi_version_major = 0, vempaldi_version_minor = 3, vempaldi_version_patch = 0
 
   ! The first number of an answer.
   integer, parameter, public :: vempaldi_accepted = 0, vempaldi_torn = 1, vempaldi_kind = 2, vempaldi_field = 3, &
     vempaldi_crowd = 4, vempaldi_array = 5, vempaldi_body = 6, vempaldi_edge = 7, vempaldi_tail = 8, vempaldi_serial = 9, &
     vempaldi_processors = 10, vempaldi_short = 11, vempaldi_memory = 12, vempaldi_buffer = 13, vempaldi_unlike = 14, &
-    vempaldi_state = 15
+    vempaldi_state = 15, vempaldi_line = 17
 
   ! The first number of a report. vempaldi_no_report is never written: what is 0 before a call and still 0 after it was refused.
   integer, parameter, public :: vempaldi_no_report = 0, vempaldi_iteration = 1, vempaldi_waiting = 2, vempaldi_finished = 3
 
-  ! No plan has more processors. No byte of a table past the deciding ones changes an answer. The other sizes always suffice; the
-  ! procedures below use them.
-  integer, parameter, public :: vempaldi_most_processors = 64, vempaldi_deciding_bytes = 2077
+  ! No plan has more processors, and no line more iterations. No byte of a table past the deciding ones changes an answer. The other sizes
+  ! always suffice; the procedures below use them.
+  integer, parameter, public :: vempaldi_most_processors = 64, vempaldi_longest_line = 64, vempaldi_deciding_bytes = 2077
   integer, parameter, public :: vempaldi_table_bytes = 2065, vempaldi_facts_bytes = 268, vempaldi_amount_bytes = 128, &
     vempaldi_range_bytes = 128, vempaldi_block_bytes = 512, vempaldi_listing_bytes = 48400
 
@@ -37,8 +45,14 @@ module vempaldi
   public :: vempaldi_fused_list, vempaldi_peeled_list, vempaldi_fused_ranges, vempaldi_peeled_ranges
   public :: vempaldi_plain_run, vempaldi_step, vempaldi_run, vempaldi_word
 
-  character(10), parameter :: words(0:15) = [character(10) :: 'accepted', 'torn', 'kind', 'field', 'crowd', 'array', 'body', &
-    'edge', 'tail', 'serial', 'processors', 'short', 'memory', 'buffer', 'unlike', 'state']
+  ! 16 is no ground: no call gives it.
+  character(10), parameter :: words(0:17) = [character(10) :: 'accepted', 'torn', 'kind', 'field', 'crowd', 'array', 'body', &
+    'edge', 'tail', 'serial', 'processors', 'short', 'memory', 'buffer', 'unlike', 'state', 'unknown', 'line']
+
+  ! The struct of include/vempaldi.h. The procedures below make it from their arguments.
+  type, bind(c) :: c_settings
+    integer(c_int32_t) :: processors, line
+  end type
 
   interface
     function vempaldi_version() result(version) bind(c, name='vempaldi_version')
@@ -91,60 +105,64 @@ module vempaldi
       integer(c_int64_t), intent(out) :: answer(4)
       integer(c_int64_t) :: written
     end function
-    function c_blocks(table, n, processors, out, room, answer) result(written) bind(c, name='vempaldi_blocks')
-      import :: c_int8_t, c_int32_t, c_size_t, c_int64_t
+    function c_blocks(table, n, settings, out, room, answer) result(written) bind(c, name='vempaldi_blocks')
+      import :: c_settings, c_int8_t, c_size_t, c_int64_t
       integer(c_int8_t), intent(in) :: table(*)
       integer(c_int8_t), intent(inout) :: out(*)
-      integer(c_int32_t), value :: processors
+      type(c_settings), value :: settings
       integer(c_size_t), value :: n, room
       integer(c_int64_t), intent(out) :: answer(4)
       integer(c_int64_t) :: written
     end function
-    function c_listing(table, n, processors, out, room, answer) result(written) bind(c, name='vempaldi_listing')
-      import :: c_int8_t, c_int32_t, c_size_t, c_int64_t
+    function c_listing(table, n, settings, out, room, answer) result(written) bind(c, name='vempaldi_listing')
+      import :: c_settings, c_int8_t, c_size_t, c_int64_t
       integer(c_int8_t), intent(in) :: table(*)
       integer(c_int8_t), intent(inout) :: out(*)
-      integer(c_int32_t), value :: processors
+      type(c_settings), value :: settings
       integer(c_size_t), value :: n, room
       integer(c_int64_t), intent(out) :: answer(4)
       integer(c_int64_t) :: written
     end function
-    function c_fused_list(table, n, processors, processor, out, room, answer) result(written) &
+    function c_fused_list(table, n, settings, processor, out, room, answer) result(written) &
         bind(c, name='vempaldi_fused_list')
-      import :: c_int8_t, c_int32_t, c_size_t, c_int64_t
+      import :: c_settings, c_int8_t, c_int32_t, c_size_t, c_int64_t
       integer(c_int8_t), intent(in) :: table(*)
       integer(c_int8_t), intent(inout) :: out(*)
-      integer(c_int32_t), value :: processors, processor
+      type(c_settings), value :: settings
+      integer(c_int32_t), value :: processor
       integer(c_size_t), value :: n, room
       integer(c_int64_t), intent(out) :: answer(4)
       integer(c_int64_t) :: written
     end function
-    function c_peeled_list(table, n, processors, processor, out, room, answer) result(written) &
+    function c_peeled_list(table, n, settings, processor, out, room, answer) result(written) &
         bind(c, name='vempaldi_peeled_list')
-      import :: c_int8_t, c_int32_t, c_size_t, c_int64_t
+      import :: c_settings, c_int8_t, c_int32_t, c_size_t, c_int64_t
       integer(c_int8_t), intent(in) :: table(*)
       integer(c_int8_t), intent(inout) :: out(*)
-      integer(c_int32_t), value :: processors, processor
+      type(c_settings), value :: settings
+      integer(c_int32_t), value :: processor
       integer(c_size_t), value :: n, room
       integer(c_int64_t), intent(out) :: answer(4)
       integer(c_int64_t) :: written
     end function
-    function c_fused_ranges(table, n, processors, processor, out, room, answer) result(written) &
+    function c_fused_ranges(table, n, settings, processor, out, room, answer) result(written) &
         bind(c, name='vempaldi_fused_ranges')
-      import :: c_int8_t, c_int32_t, c_size_t, c_int64_t
+      import :: c_settings, c_int8_t, c_int32_t, c_size_t, c_int64_t
       integer(c_int8_t), intent(in) :: table(*)
       integer(c_int8_t), intent(inout) :: out(*)
-      integer(c_int32_t), value :: processors, processor
+      type(c_settings), value :: settings
+      integer(c_int32_t), value :: processor
       integer(c_size_t), value :: n, room
       integer(c_int64_t), intent(out) :: answer(4)
       integer(c_int64_t) :: written
     end function
-    function c_peeled_ranges(table, n, processors, processor, out, room, answer) result(written) &
+    function c_peeled_ranges(table, n, settings, processor, out, room, answer) result(written) &
         bind(c, name='vempaldi_peeled_ranges')
-      import :: c_int8_t, c_int32_t, c_size_t, c_int64_t
+      import :: c_settings, c_int8_t, c_int32_t, c_size_t, c_int64_t
       integer(c_int8_t), intent(in) :: table(*)
       integer(c_int8_t), intent(inout) :: out(*)
-      integer(c_int32_t), value :: processors, processor
+      type(c_settings), value :: settings
+      integer(c_int32_t), value :: processor
       integer(c_size_t), value :: n, room
       integer(c_int64_t), intent(out) :: answer(4)
       integer(c_int64_t) :: written
@@ -156,19 +174,20 @@ module vempaldi
       integer(c_size_t), value :: n, numbers
       integer(c_int64_t), intent(out) :: answer(4)
     end subroutine
-    subroutine c_step(table, n, processors, processor, counts, memory, numbers, report, answer) bind(c, name='vempaldi_step')
-      import :: c_int8_t, c_int32_t, c_double, c_size_t, c_int64_t, vempaldi_most_processors
+    subroutine c_step(table, n, settings, processor, counts, memory, numbers, report, answer) bind(c, name='vempaldi_step')
+      import :: c_settings, c_int8_t, c_int32_t, c_double, c_size_t, c_int64_t, vempaldi_most_processors
       integer(c_int8_t), intent(in) :: table(*)
-      integer(c_int32_t), value :: processors, processor
+      type(c_settings), value :: settings
+      integer(c_int32_t), value :: processor
       integer(c_int32_t), intent(inout) :: counts(vempaldi_most_processors), report(3)
       real(c_double), intent(inout) :: memory(*)
       integer(c_size_t), value :: n, numbers
       integer(c_int64_t), intent(out) :: answer(4)
     end subroutine
-    function c_run(table, n, processors, order, m, memory, numbers, answer) result(idle) bind(c, name='vempaldi_run')
-      import :: c_int8_t, c_int32_t, c_double, c_size_t, c_int64_t
+    function c_run(table, n, settings, order, m, memory, numbers, answer) result(idle) bind(c, name='vempaldi_run')
+      import :: c_settings, c_int8_t, c_double, c_size_t, c_int64_t
       integer(c_int8_t), intent(in) :: table(*), order(*)
-      integer(c_int32_t), value :: processors
+      type(c_settings), value :: settings
       real(c_double), intent(inout) :: memory(*)
       integer(c_size_t), value :: n, m, numbers
       integer(c_int64_t), intent(out) :: answer(4)
@@ -256,86 +275,96 @@ contains
     after = number(out(5:8))
   end subroutine
 
-  ! blocks(1, b) is the first index of block b - 1, blocks(2, b) its last.
-  subroutine vempaldi_blocks(table, processors, blocks, answer)
+  ! blocks(1, b) is the first index of block b - 1, blocks(2, b) its last. Each block but the last has a whole number of lines.
+  subroutine vempaldi_blocks(table, processors, blocks, answer, line)
     integer(c_int8_t), contiguous, intent(in) :: table(:)
     integer(c_int32_t), intent(in) :: processors
     integer(c_int32_t), allocatable, intent(out) :: blocks(:, :)
     integer(c_int64_t), intent(out) :: answer(4)
+    integer(c_int32_t), intent(in), optional :: line
     integer(c_int8_t) :: out(vempaldi_block_bytes)
     integer(c_int64_t) :: written
     out = 0
-    written = c_blocks(table, size(table, kind=c_size_t), processors, out, size(out, kind=c_size_t), answer)
+    written = c_blocks(table, size(table, kind=c_size_t), settings_of(processors, line), out, size(out, kind=c_size_t), answer)
     blocks = pairs(out(1:written))
   end subroutine
 
   ! ranges(1, k) is the first index that the processor runs of loop k - 1 before the barrier, ranges(2, k) the one past the last; both
   ! are 0 where it runs none.
-  subroutine vempaldi_fused_ranges(table, processors, processor, ranges, answer)
+  subroutine vempaldi_fused_ranges(table, processors, processor, ranges, answer, line)
     integer(c_int8_t), contiguous, intent(in) :: table(:)
     integer(c_int32_t), intent(in) :: processors, processor
     integer(c_int32_t), allocatable, intent(out) :: ranges(:, :)
     integer(c_int64_t), intent(out) :: answer(4)
+    integer(c_int32_t), intent(in), optional :: line
     integer(c_int8_t) :: out(vempaldi_range_bytes)
     integer(c_int64_t) :: written
     out = 0
-    written = c_fused_ranges(table, size(table, kind=c_size_t), processors, processor, out, size(out, kind=c_size_t), answer)
+    written = c_fused_ranges(table, size(table, kind=c_size_t), settings_of(processors, line), processor, out, &
+      size(out, kind=c_size_t), answer)
     ranges = pairs(out(1:written))
   end subroutine
 
   ! The same past the barrier.
-  subroutine vempaldi_peeled_ranges(table, processors, processor, ranges, answer)
+  subroutine vempaldi_peeled_ranges(table, processors, processor, ranges, answer, line)
     integer(c_int8_t), contiguous, intent(in) :: table(:)
     integer(c_int32_t), intent(in) :: processors, processor
     integer(c_int32_t), allocatable, intent(out) :: ranges(:, :)
     integer(c_int64_t), intent(out) :: answer(4)
+    integer(c_int32_t), intent(in), optional :: line
     integer(c_int8_t) :: out(vempaldi_range_bytes)
     integer(c_int64_t) :: written
     out = 0
-    written = c_peeled_ranges(table, size(table, kind=c_size_t), processors, processor, out, size(out, kind=c_size_t), answer)
+    written = c_peeled_ranges(table, size(table, kind=c_size_t), settings_of(processors, line), processor, out, &
+      size(out, kind=c_size_t), answer)
     ranges = pairs(out(1:written))
   end subroutine
 
   ! list(1, n) is the loop of the n-th iteration before the barrier, list(2, n) its index.
-  subroutine vempaldi_fused_list(table, processors, processor, list, answer)
+  subroutine vempaldi_fused_list(table, processors, processor, list, answer, line)
     integer(c_int8_t), contiguous, intent(in) :: table(:)
     integer(c_int32_t), intent(in) :: processors, processor
     integer(c_int32_t), allocatable, intent(out) :: list(:, :)
     integer(c_int64_t), intent(out) :: answer(4)
+    integer(c_int32_t), intent(in), optional :: line
     integer(c_int32_t), allocatable :: ranges(:, :)
     integer(c_int8_t), allocatable :: out(:)
     integer(c_int64_t) :: written
-    call vempaldi_fused_ranges(table, processors, processor, ranges, answer)
+    call vempaldi_fused_ranges(table, processors, processor, ranges, answer, line)
     allocate (out(room_for(ranges)), source=0_c_int8_t)
-    written = c_fused_list(table, size(table, kind=c_size_t), processors, processor, out, size(out, kind=c_size_t), answer)
+    written = c_fused_list(table, size(table, kind=c_size_t), settings_of(processors, line), processor, out, &
+      size(out, kind=c_size_t), answer)
     list = pairs(out(1:written))
   end subroutine
 
   ! The same past the barrier.
-  subroutine vempaldi_peeled_list(table, processors, processor, list, answer)
+  subroutine vempaldi_peeled_list(table, processors, processor, list, answer, line)
     integer(c_int8_t), contiguous, intent(in) :: table(:)
     integer(c_int32_t), intent(in) :: processors, processor
     integer(c_int32_t), allocatable, intent(out) :: list(:, :)
     integer(c_int64_t), intent(out) :: answer(4)
+    integer(c_int32_t), intent(in), optional :: line
     integer(c_int32_t), allocatable :: ranges(:, :)
     integer(c_int8_t), allocatable :: out(:)
     integer(c_int64_t) :: written
-    call vempaldi_peeled_ranges(table, processors, processor, ranges, answer)
+    call vempaldi_peeled_ranges(table, processors, processor, ranges, answer, line)
     allocate (out(room_for(ranges)), source=0_c_int8_t)
-    written = c_peeled_list(table, size(table, kind=c_size_t), processors, processor, out, size(out, kind=c_size_t), answer)
+    written = c_peeled_list(table, size(table, kind=c_size_t), settings_of(processors, line), processor, out, &
+      size(out, kind=c_size_t), answer)
     list = pairs(out(1:written))
   end subroutine
 
   ! The plan as text with line feeds; empty where it is refused.
-  subroutine vempaldi_listing(table, processors, text, answer)
+  subroutine vempaldi_listing(table, processors, text, answer, line)
     integer(c_int8_t), contiguous, intent(in) :: table(:)
     integer(c_int32_t), intent(in) :: processors
     character(:), allocatable, intent(out) :: text
     integer(c_int64_t), intent(out) :: answer(4)
+    integer(c_int32_t), intent(in), optional :: line
     integer(c_int8_t), allocatable :: out(:)
     integer(c_int64_t) :: written, at
     allocate (out(vempaldi_listing_bytes), source=0_c_int8_t)
-    written = c_listing(table, size(table, kind=c_size_t), processors, out, size(out, kind=c_size_t), answer)
+    written = c_listing(table, size(table, kind=c_size_t), settings_of(processors, line), out, size(out, kind=c_size_t), answer)
     allocate (character(written) :: text)
     do at = 1, written
       text(at:at) = achar(out(at))
@@ -351,24 +380,35 @@ contains
 
   ! counts: a number for each processor that there can be, 0 before the first step. report: kind (vempaldi_iteration, _waiting,
   ! _finished), loop, index.
-  subroutine vempaldi_step(table, processors, processor, counts, memory, report, answer)
+  subroutine vempaldi_step(table, processors, processor, counts, memory, report, answer, line)
     integer(c_int8_t), contiguous, intent(in) :: table(:)
     integer(c_int32_t), intent(in) :: processors, processor
     integer(c_int32_t), intent(inout) :: counts(vempaldi_most_processors), report(3)
     real(c_double), contiguous, intent(inout) :: memory(:)
     integer(c_int64_t), intent(out) :: answer(4)
-    call c_step(table, size(table, kind=c_size_t), processors, processor, counts, memory, size(memory, kind=c_size_t), &
-      report, answer)
+    integer(c_int32_t), intent(in), optional :: line
+    call c_step(table, size(table, kind=c_size_t), settings_of(processors, line), processor, counts, memory, &
+      size(memory, kind=c_size_t), report, answer)
   end subroutine
 
-  subroutine vempaldi_run(table, processors, order, memory, idle, answer)
+  subroutine vempaldi_run(table, processors, order, memory, idle, answer, line)
     integer(c_int8_t), contiguous, intent(in) :: table(:), order(:)
     integer(c_int32_t), intent(in) :: processors
     real(c_double), contiguous, intent(inout) :: memory(:)
     integer(c_int64_t), intent(out) :: idle, answer(4)
-    idle = c_run(table, size(table, kind=c_size_t), processors, order, size(order, kind=c_size_t), memory, &
+    integer(c_int32_t), intent(in), optional :: line
+    idle = c_run(table, size(table, kind=c_size_t), settings_of(processors, line), order, size(order, kind=c_size_t), memory, &
       size(memory, kind=c_size_t), answer)
   end subroutine
+
+  ! What C takes as one struct.
+  pure function settings_of(processors, line) result(settings)
+    integer(c_int32_t), intent(in) :: processors
+    integer(c_int32_t), intent(in), optional :: line
+    type(c_settings) :: settings
+    settings = c_settings(processors, 1)
+    if (present(line)) settings%line = line
+  end function
 
   ! A list has the iterations of its ranges, eight bytes each.
   pure function room_for(ranges) result(room)

@@ -3,6 +3,7 @@
 
 mod forms;
 mod labels;
+mod lines;
 mod overview;
 mod panel;
 mod panels;
@@ -31,15 +32,15 @@ const GAP: f64 = 28.0;
 
 pub fn draw(options: &Options) -> Result<Outcome, Failure> {
     let name = options.one_file()?;
-    let processors = options.processors()?;
+    let settings = options.settings()?;
     answers::needs_file(options)?;
     let input = match Input::read(name)? {
         Ok(input) => input,
         Err(error) => return answers::wrong_text(name, &error),
     };
-    match Plan::of(&input.table, processors, &input.names) {
+    match Plan::of(&input.table, settings, &input.names) {
         Ok(plan) => answers::made(options, picture(name, &plan).as_bytes(), &plan.listing),
-        Err(refusal) => answers::refused(options, &input, &refusal, &Asked { processors: Some(processors), numbers: None }),
+        Err(refusal) => answers::refused(options, &input, &refusal, &Asked::plan(settings)),
     }
 }
 
@@ -57,7 +58,13 @@ fn picture(name: &str, plan: &Plan) -> String {
     for view in &views {
         y = GAP + view.draw(&mut picture, &forms, y);
     }
-    let end = foot(&mut picture, y - 8.0, views.iter().any(|view| view.scale.bent));
+    let mut end = foot(&mut picture, y - 8.0);
+    if forms.ticks {
+        end = foot_of_ticks(&mut picture, end, plan.line);
+    }
+    if views.iter().any(|view| view.scale.bent) {
+        end = foot_of_scale(&mut picture, end);
+    }
     picture.finish((LEFT + width + MARGIN, end + MARGIN), &format!("Plan of {title}"), &style())
 }
 
@@ -67,8 +74,9 @@ fn head(picture: &mut Picture, name: &str, plan: &Plan, room: f64) -> String {
     let title = format!("{}: {}", called(name, room), counted(count, "processor"));
     picture.text(MARGIN, 28.0, &TITLE, &title);
     let rule = if count == 1 { "it holds for two processors or more" } else { "no block may be shorter" };
+    let lines = if plan.line == 1 { String::new() } else { format!(" in lines of {}", plan.line) };
     let facts = format!(
-        "indices {} to {}; threshold {} ({rule}); sweeps over arrays {} before fusion, {} after",
+        "indices {} to {}{lines}; threshold {} ({rule}); sweeps over arrays {} before fusion, {} after",
         plan.first(),
         plan.last(),
         plan.threshold,
@@ -89,7 +97,7 @@ fn called(name: &str, room: f64) -> String {
 }
 
 /// What the shapes mean. The result is where it ends.
-fn foot(picture: &mut Picture, top: f64, bent: bool) -> f64 {
+fn foot(picture: &mut Picture, top: f64) -> f64 {
     let mut entry = |column: f64, row: f64, class: &str, said: &str| {
         let (x, y) = (MARGIN + column, top + row);
         picture.rectangle(Frame { x, y, width: 30.0, height: 14.0 }, class);
@@ -100,12 +108,24 @@ fn foot(picture: &mut Picture, top: f64, bent: bool) -> f64 {
     entry(0.0, 22.0, Side::Fused.word(), "with a diamond: a single iteration");
     entry(520.0, 22.0, "later", "the place of what is peeled");
     picture.diamond((MARGIN + 15.0, top + 29.0), DIAMOND, "one-fused");
-    if !bent {
-        return top + 36.0;
+    top + 36.0
+}
+
+/// What the ticks mean, with some of them.
+fn foot_of_ticks(picture: &mut Picture, top: f64, line: u32) -> f64 {
+    for at in 0..4 {
+        let x = MARGIN + 3.0 + 8.0 * f64::from(at);
+        picture.line((x, top + 12.0), (x, top + 17.0), "ruler");
     }
+    let said = format!("ticks: at each a line of {line} indices begins; blocks begin on whole lines");
+    picture.text(MARGIN + 38.0, top + 19.0, &PLAIN, &said);
+    top + 22.0
+}
+
+fn foot_of_scale(picture: &mut Picture, top: f64) -> f64 {
     let said = "Not to scale: what would be narrower than its label is drawn wider than the rest.";
-    picture.text(MARGIN, top + 54.0, &SMALL, said);
-    top + 58.0
+    picture.text(MARGIN, top + 18.0, &SMALL, said);
+    top + 22.0
 }
 
 #[cfg(test)]
@@ -118,7 +138,7 @@ mod tests {
 
     fn drawn(names: Names) -> String {
         let table = [&TABLE[..], &[6]].concat();
-        picture("flow.txt", &Plan::of(&table, 2, &names).expect("a plan"))
+        picture("flow.txt", &Plan::of(&table, 2.into(), &names).expect("a plan"))
     }
 
     #[test]

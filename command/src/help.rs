@@ -19,9 +19,11 @@ pub const CHECK: Help = Help {
 };
 
 pub const PLAN: Help = Help {
-    usage: "vempaldi plan FILE.. -p N [-o DIR] [--json] [--raw]",
+    usage: "vempaldi plan FILE.. -p N [--line W] [-o DIR] [--json] [--raw]",
     does: "the plan for N processors",
     options: "  -p N         how many processors, 1 to 64
+  --line W     how many iterations store into one cache line, 1 to 64, and 1 if none is given;
+               blocks begin on whole lines, which count from the least first index of all loops
   -o DIR       a file in DIR for each table instead of printing: NAME.plan, with --json NAME.json,
                NAME being the file's name without directory and extension (stdin for -). Files of
                these names are removed first; a refused table has no NAME.plan
@@ -38,9 +40,11 @@ pub const JOIN: Help = Help {
 };
 
 pub const RUN: Help = Help {
-    usage: "vempaldi run FILE.. -p N [--order ORDER] [--memory MEMORY] [--values] [-o OUT] [--raw]",
+    usage: "vempaldi run FILE.. -p N [--line W] [--order ORDER] [--memory MEMORY]
+             [--values] [-o OUT] [--raw]",
     does: "runs on N processors, beside the plain run, and compares",
     options: "  -p N         how many processors, 1 to 64
+  --line W     how many iterations store into one cache line, 1 to 64, and 1 if none is given
   --order ORDER, --memory MEMORY   see below
   --values     print the memory after the run
   -o OUT       write the memory after the run, of one FILE: binary64 numbers, little-endian; OUT is
@@ -64,9 +68,11 @@ pub const MAKE: Help = Help {
 };
 
 pub const DRAW: Help = Help {
-    usage: "vempaldi draw FILE -p N [-o OUT] [--raw]",
+    usage: "vempaldi draw FILE -p N [--line W] [-o OUT] [--raw]",
     does: "a picture of the plan in SVG: blocks across, loops down",
     options: "  -p N         how many processors, 1 to 64
+  --line W     how many iterations store into one cache line, 1 to 64, and 1 if none is given;
+               ticks show where longer lines begin, if there is room for them
   -o OUT       where to write it, if not to the standard output; none of the files to read
 ",
     parts: &[],

@@ -32,6 +32,7 @@ mod refusals;
 mod run;
 mod scale;
 mod serial;
+mod short;
 mod spans;
 mod svg;
 mod text;

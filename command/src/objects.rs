@@ -7,17 +7,21 @@ use crate::parse::TextError;
 use crate::records::decode;
 use crate::refusals::{message, text_place, Asked};
 use std::ops::Range;
-use vempaldi::{facts, fused_ranges, peeled_ranges, Amounts, Facts, Refusal};
+use vempaldi::{facts, fused_ranges, peeled_ranges, Amounts, Facts, Refusal, Settings};
 
 /// The object, and whether the table has a plan.
-pub fn object(name: &str, given: &Result<Input, TextError>, processors: u32) -> (Value, bool) {
+pub fn object(name: &str, given: &Result<Input, TextError>, settings: Settings) -> (Value, bool) {
     let planned = match given {
-        Ok(input) => plan(input, processors).map_err(|refusal| ("refusal", refused(input, &refusal, processors))),
+        Ok(input) => plan(input, settings).map_err(|refusal| ("refusal", refused(input, &refusal, settings))),
         Err(error) => Err(("error", wrong(error))),
     };
     let accepted = planned.is_ok();
-    let mut keys =
-        vec![("file", name.to_string().into()), ("processors", processors.into()), ("accepted", Value::Truth(accepted))];
+    let mut keys = vec![
+        ("file", name.to_string().into()),
+        ("processors", settings.processors.into()),
+        ("line", settings.line.into()),
+        ("accepted", Value::Truth(accepted)),
+    ];
     match planned {
         Ok(more) => keys.extend(more),
         Err(why) => keys.push(why),
@@ -25,9 +29,9 @@ pub fn object(name: &str, given: &Result<Input, TextError>, processors: u32) -> 
     (Value::Object(keys), accepted)
 }
 
-fn plan(input: &Input, processors: u32) -> Result<Vec<(&'static str, Value)>, Refusal> {
+fn plan(input: &Input, settings: Settings) -> Result<Vec<(&'static str, Value)>, Refusal> {
     let table = &input.table;
-    let blocks = vempaldi::blocks(table, processors)?;
+    let blocks = vempaldi::blocks(table, settings)?;
     let (facts, sweeps) = (facts(table)?, vempaldi::sweeps(table)?);
     let sweeps = vec![("before", sweeps.before.into()), ("after", sweeps.after.into())];
     Ok(vec![
@@ -36,8 +40,8 @@ fn plan(input: &Input, processors: u32) -> Result<Vec<(&'static str, Value)>, Re
         ("loops", loops(input, &facts, &vempaldi::shifts_and_peels(table)?)),
         ("threshold", vempaldi::threshold(table)?.into()),
         ("blocks", Value::list(blocks, |block| bounds(block.first, block.last))),
-        ("fused", parts(processors, |processor| fused_ranges(table, processors, processor))?),
-        ("peeled", parts(processors, |processor| peeled_ranges(table, processors, processor))?),
+        ("fused", parts(settings, |processor| fused_ranges(table, settings, processor))?),
+        ("peeled", parts(settings, |processor| peeled_ranges(table, settings, processor))?),
         ("sweeps", Value::Object(sweeps)),
     ])
 }
@@ -68,9 +72,9 @@ fn loops(input: &Input, facts: &Facts, amounts: &[Amounts]) -> Value {
 }
 
 /// The ranges that are not empty, by processor and within it by loop, as the listing has them.
-fn parts(processors: u32, ranges: impl Fn(u32) -> Result<Vec<Range<u32>>, Refusal>) -> Result<Value, Refusal> {
+fn parts(settings: Settings, ranges: impl Fn(u32) -> Result<Vec<Range<u32>>, Refusal>) -> Result<Value, Refusal> {
     let mut rows = Vec::new();
-    for processor in 0..processors {
+    for processor in 0..settings.processors {
         for (number, range) in ranges(processor)?.into_iter().enumerate().filter(|(_, range)| !range.is_empty()) {
             rows.push(Value::Object(vec![
                 ("processor", processor.into()),
@@ -83,8 +87,8 @@ fn parts(processors: u32, ranges: impl Fn(u32) -> Result<Vec<Range<u32>>, Refusa
     Ok(Value::List(rows))
 }
 
-fn refused(input: &Input, refusal: &Refusal, processors: u32) -> Value {
-    let asked = Asked { processors: Some(processors), numbers: None };
+fn refused(input: &Input, refusal: &Refusal, settings: Settings) -> Value {
+    let asked = Asked::plan(settings);
     let mut keys = vec![
         ("number", Value::Number(refusal.ground.number())),
         ("word", refusal.ground.word().to_string().into()),

@@ -3,6 +3,7 @@
 use crate::nearest::nearest;
 use crate::outcome::Failure;
 use crate::wording::quoted;
+use vempaldi::{Settings, LONGEST_LINE, MOST_PROCESSORS};
 
 #[derive(Default)]
 pub struct Options {
@@ -11,7 +12,7 @@ pub struct Options {
     given: Vec<(&'static str, String)>,
 }
 
-const WITH_VALUE: [&str; 4] = ["-p", "-o", "--order", "--memory"];
+const WITH_VALUE: [&str; 5] = ["-p", "--line", "-o", "--order", "--memory"];
 const ALONE: [&str; 4] = ["-q", "--values", "--raw", "--json"];
 
 impl Options {
@@ -93,9 +94,18 @@ impl Options {
         self.files.iter().map(String::as_str).chain(given.filter_map(|(_, value)| value.strip_prefix('@')))
     }
 
-    pub fn processors(&self) -> Result<u32, Failure> {
-        let value = self.value("-p").ok_or_else(|| Failure::Usage("-p N is missing".to_string()))?;
-        value.parse().map_err(|_| Failure::Usage(format!("-p {} is not a number of processors, 1 to 64", quoted(value))))
+    /// What settles a plan beside the table: how many processors there are, and how long a line is where that is said.
+    pub fn settings(&self) -> Result<Settings<'static>, Failure> {
+        let count = self.number("-p", "processors", MOST_PROCESSORS)?;
+        let settings = Settings::new(count.ok_or_else(|| Failure::Usage("-p N is missing".to_string()))?);
+        let line = self.number("--line", "iterations", LONGEST_LINE)?;
+        Ok(line.map_or(settings, |line| settings.line(line)))
+    }
+
+    /// An option's value as a number. One that is outside its range is the library's to refuse.
+    fn number(&self, name: &str, of: &str, most: u32) -> Result<Option<u32>, Failure> {
+        let wrong = |value: &str| Failure::Usage(format!("{name} {} is not a number of {of}, 1 to {most}", quoted(value)));
+        self.value(name).map(|value| value.parse().map_err(|_| wrong(value))).transpose()
     }
 
     /// At least one file.

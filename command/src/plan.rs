@@ -10,9 +10,10 @@ use crate::outcome::{Failure, Outcome};
 use crate::outputs::Outputs;
 use crate::parse::TextError;
 use crate::refusals::Asked;
+use vempaldi::Settings;
 
 pub fn plan(options: &Options) -> Result<Outcome, Failure> {
-    let processors = options.processors()?;
+    let settings = options.settings()?;
     let files = options.some_files()?;
     let json = options.has("--json");
     if options.raw() && (json || options.has("-o")) {
@@ -22,21 +23,21 @@ pub fn plan(options: &Options) -> Result<Outcome, Failure> {
     let extension = if json { "json" } else { "plan" };
     let outputs = options.value("-o").map(|directory| Outputs::prepare(directory, files, extension)).transpose()?;
     batch::each_given(options, &WORDS, |name, given| match given {
-        given if json => tell_object(outputs.as_ref(), name, &given, processors),
-        Ok(input) => tell_listing(options, outputs.as_ref(), &input, processors),
+        given if json => tell_object(outputs.as_ref(), name, &given, settings),
+        Ok(input) => tell_listing(options, outputs.as_ref(), &input, settings),
         Err(error) => answers::wrong_text(name, &error),
     })
 }
 
-fn tell_listing(options: &Options, outputs: Option<&Outputs>, input: &Input, processors: u32) -> Result<Outcome, Failure> {
+fn tell_listing(options: &Options, outputs: Option<&Outputs>, input: &Input, settings: Settings) -> Result<Outcome, Failure> {
     let several = options.files.len() > 1;
-    match (vempaldi::listing(&input.table, processors), outputs) {
+    match (vempaldi::listing(&input.table, settings), outputs) {
         (Ok(text), Some(outputs)) => outputs.write(&input.name, text.as_bytes()).map(|()| Outcome::Good),
         (Ok(text), None) => answers::accepted(options, &text, || {
             let head = if several { format!("{}:\n", input.name) } else { String::new() };
             batch::print((head + &text).as_bytes())
         }),
-        (Err(refusal), _) => answers::refused(options, input, &refusal, &Asked { processors: Some(processors), numbers: None }),
+        (Err(refusal), _) => answers::refused(options, input, &refusal, &Asked::plan(settings)),
     }
 }
 
@@ -45,9 +46,9 @@ fn tell_object(
     outputs: Option<&Outputs>,
     name: &str,
     given: &Result<Input, TextError>,
-    processors: u32,
+    settings: Settings,
 ) -> Result<Outcome, Failure> {
-    let (value, accepted) = object(name, given, processors);
+    let (value, accepted) = object(name, given, settings);
     let line = format!("{value}\n");
     match outputs {
         Some(outputs) => outputs.write(name, line.as_bytes())?,

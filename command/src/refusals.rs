@@ -5,15 +5,22 @@ use crate::explain::{explain, record_at, Explanation};
 use crate::input::{first_word, Input};
 use crate::parse::Told;
 use crate::serial::{explain_serial, Serial};
+use crate::short::short;
 use crate::wording::{counted, quoted};
-use vempaldi::{facts, Ground, Refusal};
+use vempaldi::{facts, Ground, Refusal, Settings, LONGEST_LINE, MOST_PROCESSORS};
 
-/// What was asked beside the table, which the words of 10, 11 and 12 are about.
+/// What was asked beside the table, which the words of 10, 11, 12 and 17 are about.
 #[derive(Clone, Copy, Default)]
-pub struct Asked {
-    pub processors: Option<u32>,
+pub struct Asked<'a> {
+    pub settings: Option<Settings<'a>>,
     /// The length of the memory.
     pub numbers: Option<usize>,
+}
+
+impl<'a> Asked<'a> {
+    pub fn plan(settings: Settings<'a>) -> Asked<'a> {
+        Asked { settings: Some(settings), numbers: None }
+    }
 }
 
 /// The whole of it: the file, for a text with line and column, the message, and a line with a mark below where there is one.
@@ -52,10 +59,9 @@ pub fn message(input: &Input, refusal: &Refusal, asked: &Asked) -> String {
         _ => String::new(),
     };
     let words = match ground {
-        Ground::Processors => {
-            asked.processors.map(|count| format!("P is {count}, allowed are 1 to {}", vempaldi::MOST_PROCESSORS))
-        }
-        Ground::Short => asked.processors.and_then(|count| short(&input.table, count)),
+        Ground::Processors => asked.settings.map(|one| format!("P is {}, allowed are 1 to {MOST_PROCESSORS}", one.processors)),
+        Ground::Line => asked.settings.map(|one| format!("W is {}, allowed are 1 to {LONGEST_LINE}", one.line)),
+        Ground::Short => asked.settings.and_then(|settings| short(&input.table, settings)),
         Ground::Memory => asked.numbers.and_then(|numbers| lengths(&input.table, numbers)),
         _ => explanation(input, refusal).map(|explanation| explanation.words),
     };
@@ -67,25 +73,6 @@ pub fn message(input: &Input, refusal: &Refusal, asked: &Asked) -> String {
 /// A refusal that no single table has, in one line: that of joining.
 pub fn line(refusal: &Refusal, words: &str) -> String {
     format!("refused {} {}: {words}", refusal.ground.number(), refusal.ground.word())
-}
-
-/// Why there is no plan for so many processors, and for how many there is one.
-fn short(table: &[u8], processors: u32) -> Option<String> {
-    let loops = facts(table).ok()?.loops;
-    let first = loops.iter().map(|one| one.first).min()?;
-    let last = loops.iter().map(|one| one.last).max()?;
-    let indices = last - first + 1;
-    let why = if indices < processors {
-        format!("{} for {}", counted(indices as usize, "index"), counted(processors as usize, "processor"))
-    } else {
-        let (least, threshold) = (indices / processors, vempaldi::threshold(table).ok()?);
-        format!(
-            "{} in {processors} blocks leave a block of {least}, the threshold is {threshold}",
-            counted(indices as usize, "index")
-        )
-    };
-    let most = (1..=vempaldi::MOST_PROCESSORS).rev().find(|&count| vempaldi::blocks(table, count).is_ok())?;
-    Some(format!("{why}; there is a plan for {} at most", counted(most as usize, "processor")))
 }
 
 fn lengths(table: &[u8], numbers: usize) -> Option<String> {

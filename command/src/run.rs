@@ -10,7 +10,7 @@ use crate::orders::Order;
 use crate::outcome::{Failure, Outcome};
 use crate::refusals::Asked;
 use crate::wording::counted;
-use vempaldi::{facts, Facts, Refusal};
+use vempaldi::{facts, Facts, Refusal, Settings};
 
 const WORDS: Words = Words { good: "agree", bad: "refused or different" };
 
@@ -22,7 +22,7 @@ struct Both {
 
 pub fn run(options: &Options) -> Result<Outcome, Failure> {
     answers::memory_apart(options)?;
-    let processors = options.processors()?;
+    let settings = options.settings()?;
     let order = Order::read(options.value("--order").unwrap_or("turns"))?;
     let memory = Memory::read(options.value("--memory").unwrap_or("index"))?;
     options.some_files()?;
@@ -30,15 +30,15 @@ pub fn run(options: &Options) -> Result<Outcome, Failure> {
         options.one_file()?;
     }
     batch::each(options, &WORDS, |input| {
-        let mut asked = Asked { processors: Some(processors), numbers: None };
+        let mut asked = Asked::plan(settings);
         let facts = match facts(&input.table) {
             Ok(facts) => facts,
             Err(refusal) => return answers::refused(options, input, &refusal, &asked),
         };
         let start = memory.numbers(&facts);
         asked.numbers = Some(start.len());
-        match both(&input.table, processors, &order.bytes(processors, iterations(&facts)), start) {
-            Ok(both) => tell(options, input, &facts, processors, &both),
+        match both(&input.table, settings, &order.bytes(settings.processors, iterations(&facts)), start) {
+            Ok(both) => tell(options, input, &facts, settings, &both),
             Err(refusal) => answers::refused(options, input, &refusal, &asked),
         }
     })
@@ -48,15 +48,15 @@ fn iterations(facts: &Facts) -> usize {
     facts.loops.iter().map(|one| (one.last - one.first + 1) as usize).sum()
 }
 
-fn both(table: &[u8], processors: u32, order: &[u8], start: Vec<f64>) -> Result<Both, Refusal> {
+fn both(table: &[u8], settings: Settings, order: &[u8], start: Vec<f64>) -> Result<Both, Refusal> {
     let mut run = start.clone();
-    let idle = vempaldi::run(table, processors, order, &mut run)?;
+    let idle = vempaldi::run(table, settings, order, &mut run)?;
     let mut plain = start;
     vempaldi::plain_run(table, &mut plain)?;
     Ok(Both { run, plain, idle })
 }
 
-fn tell(options: &Options, input: &Input, facts: &Facts, processors: u32, both: &Both) -> Result<Outcome, Failure> {
+fn tell(options: &Options, input: &Input, facts: &Facts, settings: Settings, both: &Both) -> Result<Outcome, Failure> {
     let (name, names) = (&input.name, &input.names);
     let different: Vec<usize> = (0..both.run.len()).filter(|&at| both.run[at].to_bits() != both.plain[at].to_bits()).collect();
     let verdict = match different.first() {
@@ -72,8 +72,8 @@ fn tell(options: &Options, input: &Input, facts: &Facts, processors: u32, both: 
         batch::print(format!("idle {}\n", both.idle).as_bytes())
     };
     let words = || {
-        let (iterations, processors) = (counted(iterations(facts), "iteration"), counted(processors as usize, "processor"));
-        batch::print(format!("{name}: {iterations} on {processors}, idle {}: {verdict}\n", both.idle).as_bytes())?;
+        let done = format!("{} on {}", counted(iterations(facts), "iteration"), on(settings));
+        batch::print(format!("{name}: {done}, idle {}: {verdict}\n", both.idle).as_bytes())?;
         if options.has("--values") {
             batch::print(values(facts, names, &both.run).as_bytes())?;
         }
@@ -81,6 +81,15 @@ fn tell(options: &Options, input: &Input, facts: &Facts, processors: u32, both: 
     };
     answers::either(options, raw, words)?;
     Ok(if different.is_empty() { Outcome::Good } else { Outcome::Bad })
+}
+
+/// `2 processors`, `2 processors in lines of 8`.
+fn on(settings: Settings) -> String {
+    let processors = counted(settings.processors as usize, "processor");
+    match settings.line {
+        1 => processors,
+        line => format!("{processors} in lines of {line}"),
+    }
 }
 
 fn write_memory(options: &Options, both: &Both) -> Result<(), Failure> {

@@ -63,6 +63,12 @@ impl Picture {
         self.body += &format!("<line class='{class}' {ends}/>\n");
     }
 
+    /// An upright line that stands for an index, which its attributes tell a program.
+    pub fn tick(&mut self, x: f64, (top, bottom): (f64, f64), class: &str, index: u32) {
+        let ends = format!("x1='{x:.1}' y1='{top:.1}' x2='{x:.1}' y2='{bottom:.1}'");
+        self.body += &format!("<line class='{class}' {ends}{}/>\n", attributes(&[("index", index)]));
+    }
+
     pub fn text(&mut self, x: f64, y: f64, font: &Font, said: &str) {
         self.body += &format!("<text class='{}' x='{x:.1}' y='{y:.1}'>{}</text>\n", font.class, escape(said));
     }

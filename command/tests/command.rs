@@ -112,6 +112,81 @@ fn the_ends_of_a_reach_shift_no_loop() {
     assert_eq!((told.status, told.err), (1, format!("examples/boundary.table: refused 11 short: {why}\n")));
 }
 
+/// Ten indices from 1 on are the lines 1 to 4, 5 to 8 and 9 to 10.
+#[test]
+fn blocks_begin_on_whole_lines() {
+    let listing = "loop 0 0 0\nloop 1 1 1\nblock 0 1 8\nblock 1 9 10\nfused 0 0 1 8\nfused 0 1 1 7\n\
+                   fused 1 0 9 10\nfused 1 1 10 10\npeeled 0 1 8 9\nsweeps 6 5\n";
+    for words in [&["--line", "4"][..], &["--line=4"]] {
+        let told = run(&[&["plan", EXAMPLE, "-p2"], words].concat());
+        assert_eq!((told.status, told.out.as_str(), told.err.as_str()), (0, listing, ""));
+    }
+    let blocks = |count: &str, line: &str| {
+        let told = run(&["plan", EXAMPLE, "-p", count, "--line", line]);
+        let own: Vec<&str> = told.out.lines().filter_map(|line| line.strip_prefix("block ")).collect();
+        own.join(", ")
+    };
+    assert_eq!(blocks("3", "4"), "0 1 4, 1 5 8, 2 9 10");
+    assert_eq!(blocks("2", "5"), "0 1 5, 1 6 10");
+    assert_eq!(blocks("1", "64"), "0 1 10");
+    assert_eq!(run(&["plan", EXAMPLE, "-p2", "--line", "1"]).out, run(&["plan", EXAMPLE, "-p2"]).out);
+}
+
+/// By how many lines there are, by the last block where it is cut, and by the length itself.
+#[test]
+fn lines_are_refused_in_words() {
+    for (count, line, said) in [
+        (
+            "4",
+            "4",
+            "11 short: 3 lines of 4 (10 indices) for 4 processors; in such lines there is a plan for 3 processors at most",
+        ),
+        (
+            "2",
+            "64",
+            "11 short: 1 line of 64 (10 indices) for 2 processors; in such lines there is a plan for 1 processor at most",
+        ),
+        (
+            "2",
+            "9",
+            "11 short: 2 lines of 9 (10 indices) in 2 blocks leave a last block of 1, the threshold is 2; \
+             in such lines there is a plan for 1 processor at most",
+        ),
+        (
+            "6",
+            "1",
+            "11 short: 10 indices in 6 blocks leave a block of 1, the threshold is 2; there is a plan for 5 processors at most",
+        ),
+        ("2", "0", "17 line: W is 0, allowed are 1 to 64"),
+        ("6", "65", "17 line: W is 65, allowed are 1 to 64"),
+        ("65", "65", "10 processors: P is 65, allowed are 1 to 64"),
+    ] {
+        for command in ["plan", "run", "draw"] {
+            let told = run(&[command, EXAMPLE, "-p", count, "--line", line]);
+            assert_eq!((told.status, told.out.as_str(), told.err), (1, "", format!("{EXAMPLE}: refused {said}\n")), "{command}");
+        }
+    }
+}
+
+/// Where there is a plan: lines may be too few, or leave a last block that is too short.
+#[test]
+fn run_agrees_with_the_plain_run_for_every_line() {
+    let all = [EXAMPLE, "examples/boundary.table", "examples/jacobi.table", "examples/ll18.table", "examples/river.table"];
+    let mut agree = 0;
+    for line in 1..=64 {
+        let line = line.to_string();
+        for words in [&["--order", "random:3", "-p1"][..], &["--order", "falling", "-p2"], &["--order", "random:9", "-p3"]] {
+            let told = run(&[&["run", "--line", &line, "--memory", "random:5"], words, &all].concat());
+            let (good, short) = (told.out.matches("bit for bit").count(), told.err.matches(": refused 11 short: ").count());
+            assert_eq!(good + short, all.len(), "{line} {words:?}: {}{}", told.out, told.err);
+            agree += good;
+        }
+    }
+    assert!(agree > 64 * 3 * 4, "{agree}");
+    let told = run(&["run", EXAMPLE, "-p2", "--line", "4", "--order", "none"]);
+    assert!(told.out.contains(": 20 iterations on 2 processors in lines of 4, idle 0: agrees"), "{}", told.out);
+}
+
 #[test]
 fn run_agrees_with_the_plain_run_in_every_order() {
     let all = [EXAMPLE, "examples/boundary.table", "examples/jacobi.table", "examples/ll18.table", "examples/river.table"];

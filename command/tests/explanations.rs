@@ -4,6 +4,8 @@
 // Only its way to run the command is needed here.
 #[allow(dead_code)]
 mod common;
+#[path = "common/lines.rs"]
+mod lines;
 
 use common::fed;
 use std::collections::BTreeMap;
@@ -11,7 +13,6 @@ use vempaldi_checks::collisions;
 use vempaldi_checks::damage;
 use vempaldi_checks::encoder::encode;
 use vempaldi_checks::limits;
-use vempaldi_checks::processors;
 use vempaldi_checks::random::Random;
 use vempaldi_checks::tables::{self, Shape, LARGE, MIDDLE, SMALL};
 use vempaldi_command::{dump, explain, explain_serial, make, Explanation, Names};
@@ -425,16 +426,14 @@ fn told(words: &[&str], table: &[u8]) -> String {
     told.err.strip_prefix("-: refused ").expect("a refusal").trim_end().to_string()
 }
 
-/// 10, 11 and 12, whose numbers are those of the call. The most processors are found by the second planner.
+/// 10, 11 and 12, whose numbers are those of the call. The most processors are found with the second planner's threshold.
 #[test]
 fn words_about_a_call_hold_too() {
     let mut random = Random::new(52);
     let (mut few, mut short) = (0, 0);
     for round in 0..60 {
         let table = tables::any(&mut random, &[SMALL, SMALL, MIDDLE][round % 3]);
-        let (bytes, most) = (encode(&table), processors::most(&table));
-        let first = table.loops.iter().map(|one| one.first).min().expect("a loop");
-        let indices = table.loops.iter().map(|one| one.last).max().expect("a loop") - first + 1;
+        let (bytes, most, indices) = (encode(&table), lines::most(&table, 1), lines::indices(&table));
         for count in [0, 65, u32::MAX] {
             let said = told(&["plan", "-", "-p", &count.to_string()], &bytes);
             assert_eq!(said, format!("10 processors: P is {count}, allowed are 1 to 64"));
@@ -462,4 +461,38 @@ fn words_about_a_call_hold_too() {
         assert_eq!(said, format!("12 memory: the memory has 0 numbers, the table {elements} element{many}"));
     }
     assert!(few > 10 && short > 10, "{few} {short}");
+}
+
+/// 11 and 17 where there are lines of several iterations: how many lines and indices there are, the last block after it is cut, and the most
+/// processors that have a plan in these lines.
+#[test]
+fn words_about_lines_hold_too() {
+    let mut random = Random::new(53);
+    let (mut few, mut short) = (0, 0);
+    for round in 0..90 {
+        let table = tables::any(&mut random, &[SMALL, SMALL, MIDDLE][round % 3]);
+        let line = random.small(2, 64) as u32;
+        let (bytes, most, indices) = (encode(&table), lines::most(&table, line), lines::indices(&table));
+        for count in most + 1..=(most + 2).min(64) {
+            let said = told(&["plan", "-", "-p", &count.to_string(), "--line", &line.to_string()], &bytes);
+            let (why, at_most) = said.split_once("; in such lines there is a plan for ").expect("how many");
+            assert_eq!(at_most, format!("{most} processor{} at most", if most == 1 { "" } else { "s" }));
+            let [11, all, each, from, asked, left @ ..] = &numbers(why)[..] else { panic!("{said}") };
+            assert_eq!((*each, *from, *asked), (line.into(), indices.into(), count.into()), "{said}");
+            assert!((*all - 1) * each < *from && *all * each >= *from, "{said}");
+            match left {
+                [] => few += usize::from(all < asked && why.ends_with(&format!("for {asked} processors"))),
+                [least, threshold] => {
+                    assert!(all >= asked && *least == i64::from(lines::last_block(indices, count, line)), "{said}");
+                    short += usize::from(least < threshold);
+                }
+                _ => panic!("{said}"),
+            }
+        }
+        for wrong in [0, 65, u32::MAX] {
+            let said = told(&["plan", "-", "-p1", "--line", &wrong.to_string()], &bytes);
+            assert_eq!(said, format!("17 line: W is {wrong}, allowed are 1 to 64"));
+        }
+    }
+    assert!(few > 20 && short > 20, "{few} {short}");
 }

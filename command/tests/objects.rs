@@ -3,12 +3,13 @@
 mod common;
 #[path = "common/json.rs"]
 mod json;
+#[path = "common/lines.rs"]
+mod lines;
 
 use common::{bytes, fed, out_name, run, EXAMPLE};
 use json::{Json, Schema};
 use vempaldi_checks::damage;
 use vempaldi_checks::encoder::encode;
-use vempaldi_checks::processors;
 use vempaldi_checks::random::Random;
 use vempaldi_checks::tables::{self, LARGE, MIDDLE, SMALL};
 
@@ -60,11 +61,13 @@ fn objects_say_what_the_listing_says() {
     let mut random = Random::new(61);
     for round in 0..90 {
         let table = tables::aligned(&mut random, &[SMALL, MIDDLE, LARGE][round % 3]);
-        let most = processors::most(&table);
+        let line = if round % 2 == 0 { 1 } else { random.between(2, 64) as u32 };
+        let most = lines::most(&table, line);
         let count = random.between(1, i64::from(most)).to_string();
-        let encoded = encode(&table);
-        let object = object(&["-", "-p", &count], &encoded);
-        assert_eq!(listing(&object), fed(&["plan", "--raw", "-", "-p", &count], &encoded).out);
+        let (encoded, line) = (encode(&table), line.to_string());
+        let object = object(&["-", "-p", &count, "--line", &line], &encoded);
+        assert_eq!(listing(&object), fed(&["plan", "--raw", "-", "-p", &count, "--line", &line], &encoded).out);
+        assert_eq!((object.at("processors").number().to_string(), object.at("line").number().to_string()), (count, line));
         let numbers =
             |key: &str, field: &str| -> Vec<i64> { object.at(key).list().iter().map(|row| row.at(field).number()).collect() };
         let lengths: Vec<i64> = table.arrays.iter().map(|&length| length.into()).collect();
@@ -124,6 +127,19 @@ fn a_text_has_names_and_places() {
     // The number of processors has no place in a text.
     let short = object(&["examples/river.txt", "-p", "64"], b"");
     assert_eq!((short.at("refusal").at("number").number(), short.at("refusal").get("line")), (11, None));
+}
+
+/// A line's length is what was asked for, also where it is refused, and 1 where none was; a refused table and a wrong text have it too.
+#[test]
+fn objects_say_how_long_a_line_is() {
+    assert_eq!(object(&[EXAMPLE, "-p2"], b"").at("line").number(), 1);
+    assert_eq!(object(&[EXAMPLE, "-p2", "--line", "5"], b"").at("line").number(), 5);
+    let refused = object(&[EXAMPLE, "-p2", "--line", "4294967295"], b"");
+    let refusal = refused.at("refusal");
+    assert_eq!((refused.at("line").number(), refusal.at("number").number()), (4_294_967_295, 17));
+    assert_eq!((refusal.at("word").text(), refusal.at("place").number(), refusal.get("line")), ("line", 0, None));
+    assert_eq!(object(&["-", "-p2", "--line", "8"], b"\x06").at("line").number(), 8);
+    assert_eq!(object(&["-", "-p2", "--line", "8"], b"loop").at("line").number(), 8);
 }
 
 #[test]
@@ -189,7 +205,7 @@ fn the_schema_is_open_to_keys_that_are_not_yet_known() {
 fn the_schema_is_open_to_grounds_that_are_not_yet_known() {
     let told = run(&["plan", "--json", EXAMPLE, "-p65"]).out;
     for (number, word, fits) in
-        [(16, "later", true), (15, "state", true), (0, "later", false), (16, "", false), (16, "La ter", false)]
+        [(18, "later", true), (15, "state", true), (0, "later", false), (18, "", false), (18, "La ter", false)]
     {
         let other =
             told.replacen("\"number\":10,\"word\":\"processors\"", &format!("\"number\":{number},\"word\":\"{word}\""), 1);
@@ -220,6 +236,8 @@ fn the_schema_refuses_what_is_not_an_object_of_it() {
     let good = run(&["plan", "--json", EXAMPLE, "-p2"]).out;
     for (from, to) in [
         ("\"processors\":2", "\"processors\":65"),
+        ("\"line\":1", "\"line\":0"),
+        ("\"line\":1", "\"line\":65"),
         ("\"length\":12}", "\"length\":0}"),
         ("\"threshold\":2", "\"threshold\":-2"),
         ("\"to\":5}", "\"to\":131072}"),

@@ -66,6 +66,28 @@ fn numbers_of_processors() {
 }
 
 #[test]
+fn lengths_of_lines() {
+    for word in ["abc", "", " 2", "2.0", "-1", "4294967296"] {
+        for command in ["plan", "run", "draw"] {
+            let told = run(&[command, EXAMPLE, "-p2", "--line", word]);
+            let said = format!("vempaldi: --line '{word}' is not a number of iterations, 1 to 64");
+            assert_eq!((told.status, told.out.as_str()), (2, ""));
+            assert!(told.err.starts_with(&said), "{}", told.err);
+        }
+    }
+    for (word, number) in [("0", "17"), ("65", "17"), ("64", "11")] {
+        let told = run(&["plan", EXAMPLE, "-p2", "--line", word]);
+        assert_eq!(told.status, 1);
+        assert!(told.err.starts_with(&format!("{EXAMPLE}: refused {number} ")), "{}", told.err);
+    }
+    for command in ["check", "join", "dump", "make"] {
+        let told = run(&[command, EXAMPLE, "--line", "4"]);
+        assert_eq!(told.status, 2);
+        assert!(told.err.starts_with("vempaldi: --line is not for this command"), "{}", told.err);
+    }
+}
+
+#[test]
 fn an_order_may_name_any_byte_and_nothing_else() {
     let told = run(&["run", EXAMPLE, "-p", "2", "--order", "2,255,0,64"]);
     assert_eq!(told.status, 0);
@@ -151,6 +173,10 @@ fn wrong_words_are_named() {
         (&["check"], "no file", "check "),
         (&["check", "-v", EXAMPLE], "no option '-v'", "check "),
         (&["plan", EXAMPLE, "-p", "2", "--jsno"], "no option '--jsno'; is --json meant?", "plan "),
+        (&["plan", EXAMPLE, "-p", "2", "--lien", "4"], "no option '--lien'; is --line meant?", "plan "),
+        (&["plan", EXAMPLE, "-p2", "--line"], "--line needs a value", "plan "),
+        (&["plan", EXAMPLE, "-p2", "--line=4", "--line=4"], "--line is given twice", "plan "),
+        (&["plan", EXAMPLE, "--line", "4"], "-p N is missing", "plan "),
         (&["check", EXAMPLE, "-p", "2"], "-p is not for this command", "check "),
         (&["plan", EXAMPLE], "-p N is missing", "plan "),
         (&["plan", EXAMPLE, "-p"], "-p needs a value", "plan "),
@@ -218,12 +244,12 @@ fn every_help_fits_a_terminal_of_100_columns() {
 fn every_command_has_a_help_of_its_own() {
     let all = [
         ("check", &["-q", "--raw"][..]),
-        ("plan", &["-p N", "-o DIR", "--json", "--raw"]),
+        ("plan", &["-p N", "--line W", "-o DIR", "--json", "--raw"]),
         ("join", &["-o OUT", "--raw"]),
-        ("run", &["-p N", "-o OUT", "--order", "--memory", "--values", "--raw", "random:SEED"]),
+        ("run", &["-p N", "--line W", "-o OUT", "--order", "--memory", "--values", "--raw", "random:SEED"]),
         ("dump", &["--raw"]),
         ("make", &["-o OUT", "--raw", "array H 100"]),
-        ("draw", &["-p N", "-o OUT", "--raw"]),
+        ("draw", &["-p N", "--line W", "-o OUT", "--raw"]),
     ];
     let whole = run(&["--help"]).out;
     for (command, says) in all {
@@ -233,6 +259,7 @@ fn every_command_has_a_help_of_its_own() {
             assert!(told.out.contains(said) && whole.contains(said), "{command}: {said}");
         }
         assert_eq!(told.out.contains("random:SEED"), command == "run");
+        assert_eq!(told.out.contains("--line"), told.out.contains("-p N"), "{command}");
         assert_eq!(told.out.contains("array H 100"), ["dump", "make"].contains(&command));
         assert!(told.out.contains("Exit status: 0 ") && told.out.contains("refused NUMBER PLACE"), "{command}");
         // Wherever it stands, but not behind `--`, where it is a file.

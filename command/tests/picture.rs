@@ -5,13 +5,16 @@ mod area;
 mod common;
 #[path = "picture/drawn.rs"]
 mod drawn;
+#[path = "common/lines.rs"]
+mod lines;
+#[path = "picture/ticks.rs"]
+mod ticks;
 #[path = "picture/xml.rs"]
 mod xml;
 
 use common::{bytes, fed, out_name, run, EXAMPLE};
 use drawn::Drawn;
 use vempaldi_checks::encoder::encode;
-use vempaldi_checks::processors;
 use vempaldi_checks::random::Random;
 use vempaldi_checks::reader::read;
 use vempaldi_checks::table::Table;
@@ -19,13 +22,20 @@ use vempaldi_checks::tables::{self, LARGE, MIDDLE, SMALL};
 
 /// The picture of a table, after everything that holds of any picture was checked.
 fn checked(table: &Table, count: u32) -> Drawn {
-    let (bytes, count) = (encode(table), count.to_string());
-    let listing = fed(&["plan", "-", "-p", &count], &bytes).out;
-    let told = fed(&["draw", "-", "-p", &count], &bytes);
+    in_lines(table, count, 1)
+}
+
+/// The same in lines of several indices.
+fn in_lines(table: &Table, count: u32, line: u32) -> Drawn {
+    let (bytes, settings) = (encode(table), [format!("-p{count}"), format!("--line={line}")]);
+    let words = |command| [command, "-", settings[0].as_str(), settings[1].as_str()];
+    let listing = fed(&words("plan"), &bytes).out;
+    let told = fed(&words("draw"), &bytes);
     assert_eq!((told.status, told.err.as_str()), (0, ""));
     let drawn = Drawn::new(&told.out);
     let bounds: Vec<(u32, u32)> = table.loops.iter().map(|one| (one.first, one.last)).collect();
     drawn.check(&listing, &bounds);
+    ticks::check(&drawn, &listing, line);
     drawn
 }
 
@@ -38,24 +48,27 @@ fn made(text: &str) -> Table {
 #[test]
 fn any_picture_can_be_read() {
     let mut random = Random::new(33);
-    let mut panels = 0;
+    let (mut panels, mut ticked) = (0, 0);
     for round in 0..240 {
         let shape = [SMALL, MIDDLE, LARGE][round % 3];
         let make = [tables::aligned, tables::any][round / 3 % 2];
         let table = make(&mut random, &shape);
-        let most = processors::most(&table);
+        let line = if round % 2 == 0 { 1 } else { random.between(2, 64) as u32 };
+        let most = lines::most(&table, line);
         let count = if round % 4 == 0 { most } else { random.between(1, i64::from(most)) as u32 };
-        panels += checked(&table, count).root.with("panel").len();
+        let drawn = in_lines(&table, count, line);
+        panels += drawn.root.with("panel").len();
+        ticked += usize::from(!ticks::of(&drawn.root).is_empty());
     }
-    // Many of them are of many processors.
-    assert!(panels > 500, "{panels}");
+    // Many of them are of many processors, and many have ticks.
+    assert!(panels > 500 && ticked > 50, "{panels} {ticked}");
 }
 
 #[test]
 fn the_examples_can_be_read_for_few_and_for_many_processors() {
     for name in ["boundary", "example", "jacobi", "ll18", "river"] {
         let table = read(&bytes(&format!("examples/{name}.table"))).expect("a table");
-        let most = processors::most(&table);
+        let most = lines::most(&table, 1);
         for count in (1..=most).filter(|count| *count <= 17 || count % 8 == 0 || *count == most) {
             let frame = checked(&table, count).frame();
             assert!(frame.width() <= 1_600.0, "{name} {count}: {}", frame.width());
@@ -257,6 +270,58 @@ fn a_name_neither_breaks_the_picture_nor_leaves_it() {
     let drawn = Drawn::new(&run(&["draw", &name, "-p", "2"]).out);
     std::fs::remove_file(&name).expect("removed");
     assert!(drawn.said("title")[0].ends_with("a<b>&'\"c: 2 processors"), "{:?}", drawn.said("title"));
+}
+
+/// 198 indices are 25 lines of 8, of which the first block has seven.
+#[test]
+fn ticks_show_where_lines_begin() {
+    let river = read(&bytes("examples/river.table")).expect("a table");
+    let drawn = in_lines(&river, 4, 8);
+    let indices: Vec<u32> = ticks::of(&drawn.root).iter().map(|(index, _)| *index).collect();
+    assert_eq!(indices, (0..25).map(|line| 1 + 8 * line).collect::<Vec<_>>());
+    // A block's first tick stands where the block begins.
+    let mut columns: Vec<f64> =
+        ["even", "odd"].iter().flat_map(|class| drawn.root.with(class)).map(|one| one.number("x")).collect();
+    columns.sort_by(f64::total_cmp);
+    let at = |index| ticks::of(&drawn.root).iter().find(|tick| tick.0 == index).expect("a tick").1;
+    assert_eq!([1, 57, 105, 153].map(at).to_vec(), columns);
+    let said = "ticks: at each a line of 8 indices begins; blocks begin on whole lines";
+    assert!(drawn.said("plain").contains(&said), "{:?}", drawn.said("plain"));
+    assert!(drawn.said("small")[0].starts_with("indices 1 to 198 in lines of 8; threshold 4 "), "{:?}", drawn.said("small")[0]);
+}
+
+#[test]
+fn lines_of_one_index_have_no_ticks() {
+    let without = run(&["draw", "examples/river.txt", "-p", "4"]).out;
+    assert_eq!(run(&["draw", "examples/river.txt", "-p", "4", "--line", "1"]).out, without);
+    assert!(!without.contains("ticks") && !without.contains("in lines of"));
+}
+
+/// 4,096 indices on an axis of 640: lines of 2 have a third of a point each, and lines of 64 have ten.
+#[test]
+fn narrow_lines_have_no_ticks() {
+    let table = made("array A 4096\nloop 0 4095 -> A[i]: 1\n");
+    for (line, wanted) in [(2, 0), (16, 0), (32, 128), (64, 64)] {
+        let drawn = in_lines(&table, 1, line);
+        assert_eq!(ticks::of(&drawn.root).len(), wanted, "{line}");
+        assert!(drawn.said("small")[0].contains(&format!(" in lines of {line};")));
+    }
+    // 26 lines of 40; the last has 24 indices, and no tick behind it.
+    let cut = made("array A 1024\nloop 0 1023 -> A[i]: 1\n");
+    let indices: Vec<u32> = ticks::of(&in_lines(&cut, 2, 40).root).iter().map(|tick| tick.0).collect();
+    assert_eq!(indices, (0..26).map(|line| 40 * line).collect::<Vec<_>>());
+}
+
+/// Each line has its tick in the panel of its block.
+#[test]
+fn many_panels_have_their_own_ticks() {
+    let drawn = in_lines(&made("array A 8192\nloop 0 8191 -> A[i]: 1\n"), 64, 16);
+    let panels = drawn.root.with("panel");
+    assert_eq!(panels.len(), 8);
+    for (at, panel) in panels.iter().enumerate() {
+        let indices: Vec<u32> = ticks::of(panel).iter().map(|tick| tick.0).collect();
+        assert_eq!(indices, (0..64).map(|line| 1024 * at as u32 + 16 * line).collect::<Vec<_>>());
+    }
 }
 
 #[test]

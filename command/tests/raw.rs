@@ -103,6 +103,42 @@ fn plan_has_the_listings_lines_or_the_refusal() {
     is(&fed(&["plan", "--raw", "-", "-p", "2"], &serial()), 1, "refused 9 0 2\n");
 }
 
+/// In lines of 4 the blocks are 1 to 8 and 9 to 10.
+#[test]
+fn plan_has_the_listing_in_lines() {
+    let in_fours = "loop 0 0 0\nloop 1 1 1\nblock 0 1 8\nblock 1 9 10\nfused 0 0 1 8\nfused 0 1 1 7\n\
+                    fused 1 0 9 10\nfused 1 1 10 10\npeeled 0 1 8 9\nsweeps 6 5\n";
+    is(&run(&["plan", "--raw", EXAMPLE, "-p", "2", "--line", "4"]), 0, in_fours);
+    is(&run(&["plan", "--raw", EXAMPLE, "-p", "2", "--line", "1"]), 0, LISTING);
+    is(&run(&["plan", "--raw", EXAMPLE, "-p", "2", "--line", "5"]), 0, LISTING);
+    let out = Output::new("picture-in-lines");
+    is(&run(&["draw", "--raw", EXAMPLE, "-p", "2", "--line", "4", "-o", &out.0]), 0, in_fours);
+    // Processor 1 has fused 9 and 10 of loop 0 and 10 of loop 1, so nine of twelve calls find it waiting.
+    let order = ["--order", "1,1,1,1,1,1,1,1,1,1,1,1"];
+    is(&run(&[&["run", "--raw", EXAMPLE, "-p2", "--line", "4"], &order[..]].concat()), 0, "idle 9\n");
+}
+
+#[test]
+fn lines_are_refused_by_number() {
+    let out = Output::new("no-picture-in-lines");
+    for command in [&["plan"][..], &["run"], &["draw", "-o", &out.0]] {
+        for (count, line, answer) in [
+            ("2", "0", "refused 17 0\n"),
+            ("2", "65", "refused 17 0\n"),
+            ("2", "4294967295", "refused 17 0\n"),
+            ("6", "0", "refused 17 0\n"),
+            ("0", "0", "refused 10 0\n"),
+            ("4", "4", "refused 11 0\n"),
+            ("2", "9", "refused 11 0\n"),
+        ] {
+            is(&run(&[command, &["--raw", EXAMPLE, "-p", count, "--line", line]].concat()), 1, answer);
+        }
+        is(&fed(&[command, &["--raw", "-", "-p2", "--line=0"]].concat(), &serial()), 1, "refused 9 0 2\n");
+    }
+    is(&run(&["run", "--raw", EXAMPLE, "-p2", "--line=0", "--memory", "@/dev/null"]), 1, "refused 17 0\n");
+    assert!(out.is_absent());
+}
+
 #[test]
 fn run_says_the_idle_count() {
     // Processor 1 has nine fused iterations, and three more calls find it waiting.

@@ -3,6 +3,7 @@
  *
  *     cc example.c $(pkg-config --cflags --libs build/vempaldi.pc) -o example && ./example ../example.table 2
  *
+ * A second number is how many iterations a line has, 1 where there is none.
  * The exit status is 0 where the memories have the same bits, 1 where a call is refused, 2 where the arguments or the file are no good. */
 #include <inttypes.h>
 #include <stdio.h>
@@ -32,13 +33,13 @@ static void stop_if_refused(const char *what, const uint64_t answer[4]) {
     exit(1);
 }
 
-/* The library takes any number and refuses those that are no P; what is no number, or none of 32 bits, is for the caller to find. */
-static uint32_t read_processors(const char *word) {
+/* The library takes any number and refuses those that are no P or W; what is no number, or none of 32 bits, is for the caller to find. */
+static uint32_t read_number(const char *name, const char *word) {
     uint64_t value = 0;
     size_t digits = strspn(word, "0123456789");
     for (size_t i = 0; i < digits && value <= UINT32_MAX; i++) value = 10 * value + (uint64_t)(word[i] - '0');
     if (digits == 0 || word[digits] || value > UINT32_MAX) {
-        fprintf(stderr, "example: P is a number from 0 to 4294967295, not '%s'\n", word);
+        fprintf(stderr, "example: %s is a number from 0 to 4294967295, not '%s'\n", name, word);
         exit(2);
     }
     return (uint32_t)value;
@@ -67,9 +68,9 @@ static double *own_index(void) {
     return memory;
 }
 
-static void print_plan(size_t length, uint32_t processors) {
+static void print_plan(size_t length, struct vempaldi_settings settings) {
     uint64_t answer[4];
-    uint64_t written = vempaldi_listing(table, length, processors, text, sizeof text, answer);
+    uint64_t written = vempaldi_listing(table, length, settings, text, sizeof text, answer);
     stop_if_refused("listing", answer);
     fwrite(text, 1, written, stdout);
     vempaldi_threshold(table, length, text, sizeof text, answer);
@@ -78,14 +79,14 @@ static void print_plan(size_t length, uint32_t processors) {
 }
 
 /* Steps the processors from the highest down until none performs an iteration. The result is how many were performed. */
-static unsigned long step_all(size_t length, uint32_t processors, double *memory) {
+static unsigned long step_all(size_t length, struct vempaldi_settings settings, double *memory) {
     uint32_t counts[VEMPALDI_MOST_PROCESSORS] = {0}, report[3] = {VEMPALDI_NO_REPORT, 0, 0};
     unsigned long performed = 0, before;
     uint64_t answer[4];
     do {
         before = performed;
-        for (uint32_t b = processors; b-- > 0;) {
-            vempaldi_step(table, length, processors, b, counts, memory, fact(2), report, answer);
+        for (uint32_t b = settings.processors; b-- > 0;) {
+            vempaldi_step(table, length, settings, b, counts, memory, fact(2), report, answer);
             stop_if_refused("step", answer);
             if (report[0] == VEMPALDI_ITERATION) performed++;
         }
@@ -102,21 +103,22 @@ static void print_last(const double *memory) {
 }
 
 int main(int count, char **word) {
-    if (count != 3) {
-        fprintf(stderr, "usage: example FILE P\n");
+    if (count != 3 && count != 4) {
+        fprintf(stderr, "usage: example FILE P [W]\n");
         return 2;
     }
-    uint32_t processors = read_processors(word[2]);
+    struct vempaldi_settings settings = vempaldi_for(read_number("P", word[2]));
+    if (count == 4) settings.line = read_number("W", word[3]);
     size_t length = read_table(word[1]);
     uint64_t answer[4];
     vempaldi_facts(table, length, facts, sizeof facts, answer);
     stop_if_refused("facts", answer);
-    print_plan(length, processors);
+    print_plan(length, settings);
 
     double *plain = own_index(), *stepped = own_index();
     vempaldi_plain_run(table, length, plain, fact(2), answer);
     stop_if_refused("plain run", answer);
-    unsigned long performed = step_all(length, processors, stepped);
+    unsigned long performed = step_all(length, settings, stepped);
     int same = memcmp(plain, stepped, fact(2) * sizeof *plain) == 0;
     printf("%lu iterations on %" PRIu32 " elements, %s\n", performed, fact(2),
            same ? "same bits as the plain run" : "NOT the bits of the plain run");

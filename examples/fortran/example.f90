@@ -3,8 +3,8 @@
 !
 !     gfortran vempaldi.f90 example.f90 -Lbuild -lvempaldi -o example && ./example example.table 2
 !
-! Without a number it is two processors. The exit status is 0 where the memories have the same bits, 1 where a call is refused, 2 where
-! the arguments or the file are no good.
+! Without a number it is two processors. A second number is how many iterations a line has, 1 where there is none. The exit status is 0
+! where the memories have the same bits, 1 where a call is refused, 2 where the arguments or the file are no good.
 program example
   use, intrinsic :: iso_c_binding
   use, intrinsic :: iso_fortran_env, only: error_unit
@@ -13,19 +13,21 @@ program example
 
   integer(c_int8_t), allocatable :: table(:)
   integer(c_int32_t), allocatable :: arrays(:, :), loops(:, :)
-  integer(c_int32_t) :: processors, threshold, elements
+  integer(c_int32_t) :: processors, line, threshold, elements
   integer(c_int64_t) :: answer(4)
   character(:), allocatable :: text
 
-  if (command_argument_count() < 1 .or. command_argument_count() > 2) call stop_for_caller('usage: example FILE [P]')
+  if (command_argument_count() < 1 .or. command_argument_count() > 3) call stop_for_caller('usage: example FILE [P [W]]')
   processors = 2
-  if (command_argument_count() == 2) call read_processors(argument(2))
+  line = 1
+  if (command_argument_count() >= 2) processors = number_in('P', argument(2))
+  if (command_argument_count() == 3) line = number_in('W', argument(3))
   call read_table(argument(1))
 
   elements = 0
   call vempaldi_facts(table, arrays, loops, elements, answer)
   call stop_if_refused('facts')
-  call vempaldi_listing(table, processors, text, answer)
+  call vempaldi_listing(table, processors, text, answer, line=line)
   call stop_if_refused('listing')
   write (*, '(a)', advance='no') text
   threshold = 0
@@ -51,9 +53,10 @@ contains
     stop 2, quiet=.true.
   end subroutine
 
-  ! The library takes any number of 32 bits, unsigned, and refuses those that are no P.
-  subroutine read_processors(word)
-    character(*), intent(in) :: word
+  ! The library takes any number of 32 bits, unsigned, and refuses those that are no P or W.
+  function number_in(name, word) result(number)
+    character(*), intent(in) :: name, word
+    integer(c_int32_t) :: number
     integer(c_int64_t), parameter :: most = 4294967295_c_int64_t
     integer(c_int64_t) :: value
     integer :: at
@@ -62,11 +65,11 @@ contains
     do at = 1, len(word)
       if (value <= most) value = 10 * value + (iachar(word(at:at)) - iachar('0'))
     end do
-    if (value > most) call stop_for_caller("example: P is a number from 0 to 4294967295, not '"//word//"'")
+    if (value > most) call stop_for_caller('example: '//name//" is a number from 0 to 4294967295, not '"//word//"'")
     ! The upper half has the bits of the negative numbers here.
-    if (value > huge(processors)) value = value - most - 1
-    processors = int(value, c_int32_t)
-  end subroutine
+    if (value > huge(number)) value = value - most - 1
+    number = int(value, c_int32_t)
+  end function
 
   ! No byte past those that decide changes an answer, so the file may be of any length.
   subroutine read_table(name)
@@ -100,9 +103,9 @@ contains
     integer :: iterations, b
     iterations = 0
     do b = 0, processors - 1
-      call vempaldi_fused_list(table, processors, b, fused, answer)
+      call vempaldi_fused_list(table, processors, b, fused, answer, line=line)
       call stop_if_refused('fused list')
-      call vempaldi_peeled_list(table, processors, b, peeled, answer)
+      call vempaldi_peeled_list(table, processors, b, peeled, answer, line=line)
       call stop_if_refused('peeled list')
       iterations = iterations + size(fused, 2) + size(peeled, 2)
     end do
@@ -122,7 +125,7 @@ contains
     call stop_if_refused('plain run')
     ! The last processor is named once for every iteration that there is. It idles once it has performed its own.
     allocate (order(listed()), source=int(processors - 1, c_int8_t))
-    call vempaldi_run(table, processors, order, other, idle, answer)
+    call vempaldi_run(table, processors, order, other, idle, answer, line=line)
     call stop_if_refused('run')
     print '(a,i0)', 'idle ', idle
     write (*, '(i0,a,i0,a)', advance='no') size(order), ' iterations on ', elements, ' elements, '

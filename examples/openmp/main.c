@@ -59,15 +59,22 @@ static void run_checked(struct plan *plan, const struct rivers *v, ptrdiff_t str
         for (int b = 0; b < plan->processors; b++) fused_part(plan, v, b, strip), peeled_part(plan, v, b);
 }
 
+/* Blocks on lines of so many indices. */
+static struct vempaldi_settings in_lines(int threads, uint32_t line) {
+    struct vempaldi_settings settings = vempaldi_for((uint32_t)threads);
+    settings.line = line;
+    return settings;
+}
+
 /* 1 to 8 threads, or as many as the table allows: the unfused loops, and the fused ones with four strip lengths. The result is how many
  * runs did not leave the plain run's bits. */
-static int check_size(int steps, uint32_t sections, ptrdiff_t width, enum fault fault) {
+static int check_size(int steps, uint32_t sections, ptrdiff_t width, uint32_t line, enum fault fault) {
     static const ptrdiff_t strips[] = {1, 5, 32, WHOLE};
     struct table table;
     struct plan plan;
     int runs = 0, wrong = 0, threads = 1;
     make_table(&table, sections, steps);
-    for (; threads <= 8 && make_plan(&plan, &table, threads); threads++) {
+    for (; threads <= 8 && make_plan(&plan, &table, in_lines(threads, line)); threads++) {
         const size_t count = plan.elements * (size_t)width, bytes = count * sizeof(double);
         double *plain = room(count), *memory = room(count);
         const struct rivers rivers = rivers_in(memory, &plan, width);
@@ -83,19 +90,23 @@ static int check_size(int steps, uint32_t sections, ptrdiff_t width, enum fault 
         }
         free(plain), free(memory);
     }
-    printf("%2d loops, %4u sections, rivers: %td, threads: 1 to %d, runs: %d, wrong: %d\n", STEP_LOOPS * steps, (unsigned)sections, width,
-           threads - 1, runs, wrong);
+    printf("%2d loops, %4u sections, rivers: %td, lines of %u, threads: 1 to %d, runs: %d, wrong: %d\n", STEP_LOOPS * steps,
+           (unsigned)sections, width, (unsigned)line, threads - 1, runs, wrong);
     return wrong;
 }
 
-/* One time step has the threshold 4 and four have 22: 8 blocks need 32 or 176 indices, so with a section less 7 threads are the most. */
+/* One time step has the threshold 4 and four have 22: 8 blocks need 32 or 176 indices, so with a section less 7 threads are the most. In lines
+ * of 8, 31 and 32 indices are 4 lines, so 4 threads are the most; 175 and 176 are 22 lines, of which the last of 7 blocks has 3 and the last of
+ * 8 would have 2, so 7 threads are the most. Lines are tried on one river, of which 8 numbers are a cache line of 64 bytes. */
 static int check(enum fault fault) {
     int wrong = 0;
     for (int steps = 1; steps <= 4; steps += 3)
-        for (ptrdiff_t width = 1; width <= 7; width += 6) {
-            wrong += check_size(steps, steps == 1 ? 33 : 177, width, fault);
-            wrong += check_size(steps, steps == 1 ? 34 : 178, width, fault);
-            wrong += check_size(steps, 1013, width, fault);
+        for (int way = 0; way < 3; way++) {
+            const ptrdiff_t width = way == 1 ? 7 : 1;
+            const uint32_t line = way == 2 ? 8 : 1;
+            wrong += check_size(steps, steps == 1 ? 33 : 177, width, line, fault);
+            wrong += check_size(steps, steps == 1 ? 34 : 178, width, line, fault);
+            wrong += check_size(steps, 1013, width, line, fault);
         }
     printf(wrong ? "NOT the bits of the plain run: %d runs\n" : "all have the bits of the plain run\n", wrong);
     return wrong != 0;
@@ -118,7 +129,7 @@ static int time_plan(const struct table *table, int threads, double *const memor
     static const ptrdiff_t strips[] = {8, 64, 512, WHOLE};
     struct plan plan;
     double best[2];
-    if (!make_plan(&plan, table, threads)) return printf("%7d  %5d  the blocks are too short\n", threads, plan.loops), 0;
+    if (!make_plan(&plan, table, in_lines(threads, 1))) return printf("%7d  %5d  the blocks are too short\n", threads, plan.loops), 0;
     const struct rivers rivers = rivers_in(memory[0], &plan, width), others = rivers_in(memory[1], &plan, width);
     const size_t count = plan.elements * (size_t)width;
     const int rounds = TIMED_STEPS * STEP_LOOPS / plan.loops;

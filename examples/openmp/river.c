@@ -93,20 +93,20 @@ static void take_facts(struct plan *plan, const struct table *t) {
     for (int n = 0; n < 2; n++) plan->sweeps[n] = number(amounts, n);
 }
 
-int make_plan(struct plan *plan, const struct table *t, int processors) {
+int make_plan(struct plan *plan, const struct table *t, struct vempaldi_settings settings) {
     uint8_t blocks[VEMPALDI_BLOCK_BYTES], ranges[VEMPALDI_RANGE_BYTES];
     uint64_t answer[4];
     take_facts(plan, t);
-    plan->processors = processors;
-    vempaldi_blocks(t->bytes, t->length, (uint32_t)processors, blocks, sizeof blocks, answer);
+    plan->processors = (int)settings.processors;
+    vempaldi_blocks(t->bytes, t->length, settings, blocks, sizeof blocks, answer);
     if (answer[0] == VEMPALDI_SHORT) return 0;
     stop_if_refused("blocks", answer);
-    take_ranges(plan->block, blocks, processors, 1);
-    for (int b = 0; b < processors; b++) {
-        vempaldi_fused_ranges(t->bytes, t->length, (uint32_t)processors, (uint32_t)b, ranges, sizeof ranges, answer);
+    take_ranges(plan->block, blocks, plan->processors, 1);
+    for (int b = 0; b < plan->processors; b++) {
+        vempaldi_fused_ranges(t->bytes, t->length, settings, (uint32_t)b, ranges, sizeof ranges, answer);
         stop_if_refused("fused ranges", answer);
         take_ranges(plan->fused[b], ranges, plan->loops, 0);
-        vempaldi_peeled_ranges(t->bytes, t->length, (uint32_t)processors, (uint32_t)b, ranges, sizeof ranges, answer);
+        vempaldi_peeled_ranges(t->bytes, t->length, settings, (uint32_t)b, ranges, sizeof ranges, answer);
         stop_if_refused("peeled ranges", answer);
         take_ranges(plan->peeled[b], ranges, plan->loops, 0);
     }

@@ -41,8 +41,9 @@ void stop_if_refused(const char *what, const uint64_t answer[4]);
 /* The table of `steps` time steps joined, 1 to 4 (a table has at most 16 loops), on `sections` sections: examples/river.txt in bytes. */
 void make_table(struct table *table, uint32_t sections, int steps);
 
-/* The plan for `processors` processors. 0 where the blocks would be too short for the plan (ground 11): then take fewer processors. */
-int make_plan(struct plan *plan, const struct table *table, int processors);
+/* The plan for these processors and lines. 0 where the blocks would be too short for the plan (ground 11): then take fewer processors, or
+ * shorter lines. */
+int make_plan(struct plan *plan, const struct table *table, struct vempaldi_settings settings);
 
 /* The rivers that lie in a memory of plan->elements * width numbers. */
 struct rivers rivers_in(double *memory, const struct plan *plan, ptrdiff_t width);

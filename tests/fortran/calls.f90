@@ -1,5 +1,5 @@
-! Every procedure of the Fortran module on one table: calls FILE P prints the listing from the calls that give numbers, what else they give,
-! and the ground of each call, in lines that tests/fortran.sh knows from elsewhere.
+! Every procedure of the Fortran module on one table: calls FILE P [W] prints the listing from the calls that give numbers, what else they
+! give, and the ground of each call, in lines that tests/fortran.sh knows from elsewhere.
 program calls
   use, intrinsic :: iso_c_binding
   use vempaldi
@@ -7,6 +7,8 @@ program calls
 
   integer(c_int8_t), allocatable :: table(:)
   integer(c_int32_t) :: processors
+  ! Where no W is given it is not allocated, and so absent in every call.
+  integer(c_int32_t), allocatable :: line
   integer(c_int64_t) :: answer(4)
   character(4096) :: word
   integer :: unit, length
@@ -18,6 +20,11 @@ program calls
   read (unit) table
   call get_command_argument(2, word)
   read (word, *) processors
+  if (command_argument_count() == 3) then
+    call get_command_argument(3, word)
+    allocate (line)
+    read (word, *) line
+  end if
 
   print '(a,i0)', 'version ', vempaldi_version()
   call vempaldi_check(table, answer)
@@ -77,7 +84,12 @@ contains
   subroutine tell_blocks()
     integer(c_int32_t), allocatable :: blocks(:, :)
     integer :: b
-    call vempaldi_blocks(table, processors, blocks, answer)
+    if (allocated(line)) then
+      call vempaldi_blocks(table, processors, blocks, answer, line)
+    else
+      ! As callers have it who know of no line.
+      call vempaldi_blocks(table, processors, blocks, answer)
+    end if
     call say('blocks')
     do b = 1, size(blocks, 2)
       print '(a,3(1x,i0))', 'block', b - 1, blocks(:, b)
@@ -89,15 +101,15 @@ contains
     integer(c_int32_t), allocatable :: fused(:, :), peeled(:, :)
     integer(c_int32_t) :: b
     do b = 0, processors
-      call vempaldi_fused_ranges(table, processors, b, fused, answer)
+      call vempaldi_fused_ranges(table, processors, b, fused, answer, line=line)
       call say('fused ranges')
-      call vempaldi_peeled_ranges(table, processors, b, peeled, answer)
+      call vempaldi_peeled_ranges(table, processors, b, peeled, answer, line=line)
       call say('peeled ranges')
       call tell_parts('fused', b, fused)
       call tell_parts('peeled', b, peeled)
-      call vempaldi_fused_list(table, processors, b, fused, answer)
+      call vempaldi_fused_list(table, processors, b, fused, answer, line=line)
       call say('fused list')
-      call vempaldi_peeled_list(table, processors, b, peeled, answer)
+      call vempaldi_peeled_list(table, processors, b, peeled, answer, line=line)
       call say('peeled list')
       call tell_list('fused', b, fused)
       call tell_list('peeled', b, peeled)
@@ -125,7 +137,7 @@ contains
 
   subroutine tell_listing()
     character(:), allocatable :: text
-    call vempaldi_listing(table, processors, text, answer)
+    call vempaldi_listing(table, processors, text, answer, line=line)
     call say('listing')
     print '(a,1x,i0)', 'listing-bytes', len(text)
   end subroutine
@@ -151,7 +163,7 @@ contains
     other = stepped
     call vempaldi_plain_run(table, plain, answer)
     call say('plain run')
-    call vempaldi_run(table, processors, [integer(c_int8_t) :: 0, 0, 127], other, idle, answer)
+    call vempaldi_run(table, processors, [integer(c_int8_t) :: 0, 0, 127], other, idle, answer, line=line)
     call say('run')
     print '(a,1x,i0)', 'idle', idle
     call step_all(stepped)
@@ -177,7 +189,7 @@ contains
       before = seen(vempaldi_iteration)
       do b = 0, processors
         report = vempaldi_no_report
-        call vempaldi_step(table, processors, b, counts, memory, report, answer)
+        call vempaldi_step(table, processors, b, counts, memory, report, answer, line=line)
         seen(report(1)) = seen(report(1)) + 1
       end do
       if (seen(vempaldi_iteration) == before) exit

@@ -1,7 +1,7 @@
 //! Plans the loop table of a file for a number of processors, then steps it in an odd order on a memory in which every element is its own
-//! index within its array, beside the plain run.
+//! index within its array, beside the plain run. W, where it is given, is how many iterations a line has.
 //!
-//!     cargo run --example example -- FILE P
+//!     cargo run --example example -- FILE P [W]
 //!
 //! The exit status is 0 where the memories have the same bits, 1 where a call is refused, 2 where the arguments or the file are no good.
 
@@ -11,7 +11,7 @@ use std::fs::File;
 use std::io::Read;
 use std::ops::Range;
 use std::process::ExitCode;
-use vempaldi::{Facts, Refusal, Report, State};
+use vempaldi::{Facts, Refusal, Report, Settings, State};
 
 /// What a caller of this program did wrong, or what the library refused.
 enum Failure {
@@ -25,11 +25,24 @@ impl From<Refusal> for Failure {
     }
 }
 
-/// The library takes any number and refuses those that are no P; what is no number, or none of 32 bits, is for the caller to find.
-fn read_processors(word: &OsStr) -> Result<u32, Failure> {
+/// The library takes any number and refuses those that are no P or W; what is no number, or none of 32 bits, is for the caller to find.
+fn read_number(name: &str, word: &OsStr) -> Result<u32, Failure> {
     let digits = word.to_str().filter(|word| word.bytes().all(|one| one.is_ascii_digit()));
-    let wrong = || Failure::Caller(format!("example: P is a number from 0 to {}, not '{}'", u32::MAX, word.to_string_lossy()));
+    let wrong =
+        || Failure::Caller(format!("example: {name} is a number from 0 to {}, not '{}'", u32::MAX, word.to_string_lossy()));
     digits.and_then(|digits| digits.parse().ok()).ok_or_else(wrong)
+}
+
+/// The file's name, and the settings that the words behind it say.
+fn read_words(words: &[OsString]) -> Result<(&OsString, Settings<'static>), Failure> {
+    match words {
+        [file, processors] => Ok((file, Settings::new(read_number("P", processors)?))),
+        [file, processors, line] => {
+            let processors = read_number("P", processors)?;
+            Ok((file, Settings::new(processors).line(read_number("W", line)?)))
+        }
+        _ => Err(Failure::Caller("usage: example FILE P [W]".to_string())),
+    }
 }
 
 /// No byte past those that decide changes an answer, so the file may be of any length.
@@ -51,19 +64,19 @@ fn print_ranges(word: &str, processor: u32, ranges: &[Range<u32>]) {
 }
 
 /// The plan by its numbers. `vempaldi::listing` gives the same lines as text.
-fn print_plan(table: &[u8], processors: u32) -> Result<(), Refusal> {
-    let blocks = vempaldi::blocks(table, processors)?;
+fn print_plan(table: &[u8], settings: Settings) -> Result<(), Refusal> {
+    let blocks = vempaldi::blocks(table, settings)?;
     for (k, one) in vempaldi::shifts_and_peels(table)?.iter().enumerate() {
         println!("loop {k} {} {}", one.shift, one.peel);
     }
     for (b, block) in blocks.iter().enumerate() {
         println!("block {b} {} {}", block.first, block.last);
     }
-    for b in 0..processors {
-        print_ranges("fused", b, &vempaldi::fused_ranges(table, processors, b)?);
+    for b in 0..settings.processors {
+        print_ranges("fused", b, &vempaldi::fused_ranges(table, settings, b)?);
     }
-    for b in 0..processors {
-        print_ranges("peeled", b, &vempaldi::peeled_ranges(table, processors, b)?);
+    for b in 0..settings.processors {
+        print_ranges("peeled", b, &vempaldi::peeled_ranges(table, settings, b)?);
     }
     let sweeps = vempaldi::sweeps(table)?;
     println!("sweeps {} {}", sweeps.before, sweeps.after);
@@ -72,13 +85,13 @@ fn print_plan(table: &[u8], processors: u32) -> Result<(), Refusal> {
 }
 
 /// The highest processor goes as far as it can, then the next one, until nobody performs an iteration.
-fn step_all(table: &[u8], processors: u32, memory: &mut [f64]) -> Result<usize, Refusal> {
+fn step_all(table: &[u8], settings: Settings, memory: &mut [f64]) -> Result<usize, Refusal> {
     let mut state = State::new();
     let mut performed = 0;
     loop {
         let before = performed;
-        for processor in (0..processors).rev() {
-            while let Report::Iteration { .. } = vempaldi::step(table, processors, processor, &mut state, memory)? {
+        for processor in (0..settings.processors).rev() {
+            while let Report::Iteration { .. } = vempaldi::step(table, settings, processor, &mut state, memory)? {
                 performed += 1;
             }
         }
@@ -90,15 +103,14 @@ fn step_all(table: &[u8], processors: u32, memory: &mut [f64]) -> Result<usize, 
 
 /// Whether the memories have the same bits.
 fn plan_and_run(words: &[OsString]) -> Result<bool, Failure> {
-    let [file, processors] = words else { return Err(Failure::Caller("usage: example FILE P".to_string())) };
-    let processors = read_processors(processors)?;
+    let (file, settings) = read_words(words)?;
     let table = read_table(file)?;
     let facts = vempaldi::facts(&table)?;
-    print_plan(&table, processors)?;
+    print_plan(&table, settings)?;
 
     let (mut plain, mut stepped) = (own_index(&facts), own_index(&facts));
     vempaldi::plain_run(&table, &mut plain)?;
-    let performed = step_all(&table, processors, &mut stepped)?;
+    let performed = step_all(&table, settings, &mut stepped)?;
     let same = plain.iter().zip(&stepped).all(|(one, other)| one.to_bits() == other.to_bits());
     let says = if same { "same bits as the plain run" } else { "NOT the bits of the plain run" };
     println!("{performed} iterations on {} elements, {says}", facts.elements);

@@ -1,12 +1,14 @@
 //! The exported functions as include/vempaldi.h declares them.
 
+use crate::settings::Settings;
+
 /// Number, place, and the two numbers that a refusal names.
 pub type Answer = [u64; 4];
 
 /// Bytes in, bytes out.
 pub type OfTable = unsafe extern "C" fn(*const u8, usize, *mut u8, usize, *mut Answer) -> u64;
-pub type OfPlan = unsafe extern "C" fn(*const u8, usize, u32, *mut u8, usize, *mut Answer) -> u64;
-pub type OfProcessor = unsafe extern "C" fn(*const u8, usize, u32, u32, *mut u8, usize, *mut Answer) -> u64;
+pub type OfPlan = unsafe extern "C" fn(*const u8, usize, Settings<'_>, *mut u8, usize, *mut Answer) -> u64;
+pub type OfProcessor = unsafe extern "C" fn(*const u8, usize, Settings<'_>, u32, *mut u8, usize, *mut Answer) -> u64;
 
 extern "C" {
     pub fn vempaldi_version() -> u32;
@@ -24,12 +26,12 @@ extern "C" {
     pub fn vempaldi_shifts_and_peels(t: *const u8, n: usize, out: *mut u8, room: usize, answer: *mut Answer) -> u64;
     pub fn vempaldi_threshold(t: *const u8, n: usize, out: *mut u8, room: usize, answer: *mut Answer) -> u64;
     pub fn vempaldi_sweeps(t: *const u8, n: usize, out: *mut u8, room: usize, answer: *mut Answer) -> u64;
-    pub fn vempaldi_blocks(t: *const u8, n: usize, p: u32, out: *mut u8, room: usize, answer: *mut Answer) -> u64;
-    pub fn vempaldi_listing(t: *const u8, n: usize, p: u32, out: *mut u8, room: usize, answer: *mut Answer) -> u64;
+    pub fn vempaldi_blocks(t: *const u8, n: usize, s: Settings<'_>, out: *mut u8, room: usize, answer: *mut Answer) -> u64;
+    pub fn vempaldi_listing(t: *const u8, n: usize, s: Settings<'_>, out: *mut u8, room: usize, answer: *mut Answer) -> u64;
     pub fn vempaldi_fused_list(
         t: *const u8,
         n: usize,
-        p: u32,
+        s: Settings<'_>,
         processor: u32,
         out: *mut u8,
         room: usize,
@@ -38,7 +40,7 @@ extern "C" {
     pub fn vempaldi_peeled_list(
         t: *const u8,
         n: usize,
-        p: u32,
+        s: Settings<'_>,
         processor: u32,
         out: *mut u8,
         room: usize,
@@ -47,7 +49,7 @@ extern "C" {
     pub fn vempaldi_fused_ranges(
         t: *const u8,
         n: usize,
-        p: u32,
+        s: Settings<'_>,
         processor: u32,
         out: *mut u8,
         room: usize,
@@ -56,7 +58,7 @@ extern "C" {
     pub fn vempaldi_peeled_ranges(
         t: *const u8,
         n: usize,
-        p: u32,
+        s: Settings<'_>,
         processor: u32,
         out: *mut u8,
         room: usize,
@@ -66,7 +68,7 @@ extern "C" {
     pub fn vempaldi_step(
         t: *const u8,
         n: usize,
-        p: u32,
+        s: Settings<'_>,
         processor: u32,
         counts: *mut [u32; 64],
         memory: *mut f64,
@@ -77,7 +79,7 @@ extern "C" {
     pub fn vempaldi_run(
         t: *const u8,
         n: usize,
-        p: u32,
+        s: Settings<'_>,
         order: *const u8,
         order_length: usize,
         memory: *mut f64,

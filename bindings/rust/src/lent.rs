@@ -2,6 +2,7 @@
 
 use crate::foreign::{Answer, OfPlan, OfProcessor, OfTable};
 use crate::refusal::Refusal;
+use crate::settings::Settings;
 
 pub fn of_table(entry: OfTable, table: &[u8], room: usize) -> Result<Vec<u32>, Refusal> {
     // SAFETY: the table's pointer and length are those of a live slice; the others are as `call` lends them.
@@ -9,15 +10,21 @@ pub fn of_table(entry: OfTable, table: &[u8], room: usize) -> Result<Vec<u32>, R
     Ok(numbers(&bytes))
 }
 
-pub fn of_plan(entry: OfPlan, table: &[u8], processors: u32, room: usize) -> Result<Vec<u8>, Refusal> {
+pub fn of_plan(entry: OfPlan, table: &[u8], settings: Settings<'_>, room: usize) -> Result<Vec<u8>, Refusal> {
     // SAFETY: as in `of_table`.
-    call(room, |out, room, answer| unsafe { entry(table.as_ptr(), table.len(), processors, out, room, answer) })
+    call(room, |out, room, answer| unsafe { entry(table.as_ptr(), table.len(), settings, out, room, answer) })
 }
 
-pub fn of_processor(entry: OfProcessor, table: &[u8], processors: u32, processor: u32, room: usize) -> Result<Vec<u32>, Refusal> {
+pub fn of_processor(
+    entry: OfProcessor,
+    table: &[u8],
+    settings: Settings<'_>,
+    processor: u32,
+    room: usize,
+) -> Result<Vec<u32>, Refusal> {
     let (start, length) = (table.as_ptr(), table.len());
     // SAFETY: as in `of_table`.
-    let bytes = call(room, |out, room, answer| unsafe { entry(start, length, processors, processor, out, room, answer) })?;
+    let bytes = call(room, |out, room, answer| unsafe { entry(start, length, settings, processor, out, room, answer) })?;
     Ok(numbers(&bytes))
 }
 

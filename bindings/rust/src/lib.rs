@@ -8,7 +8,19 @@
 //!     println!("processor {processor}: indices {} to {}", block.first, block.last);
 //! }
 //! let refusal = vempaldi::blocks(&table, 6).unwrap_err();
-//! assert_eq!(refusal.to_string(), "refused 11 short: fewer indices than processors, or a block below the threshold");
+//! assert_eq!(refusal.to_string(), "refused 11 short: fewer lines than processors, or a block below the threshold");
+//! # Ok::<(), vempaldi::Refusal>(())
+//! ```
+//!
+//! What settles the lists beside the table is a [`Settings`]. A number in its place is a count of processors, as above. With a line's length,
+//! blocks begin on whole lines, so that before the barrier no two processors run iterations of one line:
+//!
+//! ```
+//! use vempaldi::Settings;
+//!
+//! let table = std::fs::read("../../examples/river.table").unwrap();
+//! let blocks = vempaldi::blocks(&table, Settings::new(4).line(8))?;
+//! assert_eq!((blocks[1].first, blocks[1].last), (57, 104)); // 25 lines of 8 from 1 on: the first block has seven, the others have six
 //! # Ok::<(), vempaldi::Refusal>(())
 //! ```
 //!
@@ -46,6 +58,7 @@ mod lent;
 mod planning;
 mod refusal;
 mod running;
+mod settings;
 mod sizes;
 mod version;
 
@@ -57,5 +70,6 @@ pub use planning::{
 };
 pub use refusal::{Ground, Refusal};
 pub use running::{plain_run, run, step, Report, State};
+pub use settings::Settings;
 pub use sizes::*;
 pub use version::{version, VERSION, VERSION_MAJOR, VERSION_MINOR, VERSION_PATCH};

@@ -3,6 +3,7 @@
 use crate::foreign::*;
 use crate::lent::{numbers, of_plan, of_processor, of_table, pairs};
 use crate::refusal::Refusal;
+use crate::settings::Settings;
 use crate::sizes::{AMOUNT_BYTES, BLOCK_BYTES, LISTING_BYTES, RANGE_BYTES, TABLE_BYTES};
 use std::ops::Range;
 
@@ -104,15 +105,15 @@ pub fn sweeps(table: &[u8]) -> Result<Sweeps, Refusal> {
     Ok(Sweeps { before: numbers[0], after: numbers[1] })
 }
 
-/// The blocks of a plan, one for each processor.
-pub fn blocks(table: &[u8], processors: u32) -> Result<Vec<Block>, Refusal> {
-    let numbers = numbers(&of_plan(vempaldi_blocks, table, processors, BLOCK_BYTES)?);
+/// The blocks of a plan, one for each processor. Each but the last has a whole number of lines.
+pub fn blocks<'a>(table: &[u8], settings: impl Into<Settings<'a>>) -> Result<Vec<Block>, Refusal> {
+    let numbers = numbers(&of_plan(vempaldi_blocks, table, settings.into(), BLOCK_BYTES)?);
     Ok(pairs(&numbers).map(|(first, last)| Block { first, last }).collect())
 }
 
 /// The plan as text, line by line.
-pub fn listing(table: &[u8], processors: u32) -> Result<String, Refusal> {
-    let bytes = of_plan(vempaldi_listing, table, processors, LISTING_BYTES)?;
+pub fn listing<'a>(table: &[u8], settings: impl Into<Settings<'a>>) -> Result<String, Refusal> {
+    let bytes = of_plan(vempaldi_listing, table, settings.into(), LISTING_BYTES)?;
     Ok(String::from_utf8_lossy(&bytes).into_owned())
 }
 
@@ -120,40 +121,51 @@ pub fn listing(table: &[u8], processors: u32) -> Result<String, Refusal> {
 /// no others, in rising order of index plus the loop's shift, equal sums in loop order.
 ///
 /// ```
+/// use vempaldi::Settings;
+///
 /// let table = std::fs::read("../../examples/example.table").unwrap();
 /// assert_eq!(vempaldi::fused_ranges(&table, 2, 0)?, [1..6, 1..5]);
 /// assert_eq!(vempaldi::peeled_ranges(&table, 2, 0)?, [0..0, 5..7]);
+/// assert_eq!(vempaldi::fused_ranges(&table, Settings::new(2).line(4), 0)?, [1..9, 1..8]);
 /// # Ok::<(), vempaldi::Refusal>(())
 /// ```
-pub fn fused_ranges(table: &[u8], processors: u32, processor: u32) -> Result<Vec<Range<u32>>, Refusal> {
-    ranges(vempaldi_fused_ranges, table, processors, processor)
+pub fn fused_ranges<'a>(table: &[u8], settings: impl Into<Settings<'a>>, processor: u32) -> Result<Vec<Range<u32>>, Refusal> {
+    ranges(vempaldi_fused_ranges, table, settings.into(), processor)
 }
 
 /// What a processor runs past the barrier, as a range of each loop, `0..0` where it is empty. Its peeled list has them loop by loop.
-pub fn peeled_ranges(table: &[u8], processors: u32, processor: u32) -> Result<Vec<Range<u32>>, Refusal> {
-    ranges(vempaldi_peeled_ranges, table, processors, processor)
+pub fn peeled_ranges<'a>(table: &[u8], settings: impl Into<Settings<'a>>, processor: u32) -> Result<Vec<Range<u32>>, Refusal> {
+    ranges(vempaldi_peeled_ranges, table, settings.into(), processor)
 }
 
 /// What a processor runs before the barrier, in its order.
-pub fn fused_list(table: &[u8], processors: u32, processor: u32) -> Result<Vec<Iteration>, Refusal> {
-    let ranges = fused_ranges(table, processors, processor)?;
-    list(vempaldi_fused_list, table, processors, processor, &ranges)
+pub fn fused_list<'a>(table: &[u8], settings: impl Into<Settings<'a>>, processor: u32) -> Result<Vec<Iteration>, Refusal> {
+    let settings = settings.into();
+    let ranges = fused_ranges(table, settings, processor)?;
+    list(vempaldi_fused_list, table, settings, processor, &ranges)
 }
 
 /// What a processor runs past the barrier, in its order.
-pub fn peeled_list(table: &[u8], processors: u32, processor: u32) -> Result<Vec<Iteration>, Refusal> {
-    let ranges = peeled_ranges(table, processors, processor)?;
-    list(vempaldi_peeled_list, table, processors, processor, &ranges)
+pub fn peeled_list<'a>(table: &[u8], settings: impl Into<Settings<'a>>, processor: u32) -> Result<Vec<Iteration>, Refusal> {
+    let settings = settings.into();
+    let ranges = peeled_ranges(table, settings, processor)?;
+    list(vempaldi_peeled_list, table, settings, processor, &ranges)
 }
 
-fn ranges(entry: OfProcessor, table: &[u8], processors: u32, processor: u32) -> Result<Vec<Range<u32>>, Refusal> {
-    let numbers = of_processor(entry, table, processors, processor, RANGE_BYTES)?;
+fn ranges(entry: OfProcessor, table: &[u8], settings: Settings<'_>, processor: u32) -> Result<Vec<Range<u32>>, Refusal> {
+    let numbers = of_processor(entry, table, settings, processor, RANGE_BYTES)?;
     Ok(pairs(&numbers).map(|(first, past)| first..past).collect())
 }
 
 /// A list has the iterations of its ranges, so a buffer for so many is never too short.
-fn list(entry: OfProcessor, table: &[u8], p: u32, processor: u32, ranges: &[Range<u32>]) -> Result<Vec<Iteration>, Refusal> {
+fn list(
+    entry: OfProcessor,
+    table: &[u8],
+    settings: Settings<'_>,
+    processor: u32,
+    ranges: &[Range<u32>],
+) -> Result<Vec<Iteration>, Refusal> {
     let room = 8 * ranges.iter().map(ExactSizeIterator::len).sum::<usize>();
-    let numbers = of_processor(entry, table, p, processor, room)?;
+    let numbers = of_processor(entry, table, settings, processor, room)?;
     Ok(pairs(&numbers).map(|(loop_number, index)| Iteration { loop_number, index }).collect())
 }

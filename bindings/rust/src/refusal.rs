@@ -22,51 +22,52 @@ pub enum Ground {
     Buffer,
     Unlike,
     State,
+    Line,
     /// A number that this wrapper does not know: the library is of another version.
     Other(u64),
 }
 
-/// Each ground in the order of its number, with its word and its text.
-const GROUNDS: [(Ground, &str, &str); 15] = [
-    (Ground::Torn, "torn", "the bytes end inside a record or before the end record"),
-    (Ground::Kind, "kind", "a kind is unknown or out of its order, or there is no array or loop before the end"),
-    (Ground::Field, "field", "a field is outside its range, or first is above last"),
-    (Ground::Crowd, "crowd", "one array, loop, item or element too many"),
-    (Ground::Array, "array", "there is no array of that number"),
-    (Ground::Body, "body", "too few waiting numbers, a ninth, or not one left"),
-    (Ground::Edge, "edge", "some iteration reaches outside the array"),
-    (Ground::Tail, "tail", "bytes follow the end record"),
-    (Ground::Serial, "serial", "two different iterations of one loop meet at an element, one storing"),
-    (Ground::Processors, "processors", "P is outside 1 to 64, or a processor's number is not below P"),
-    (Ground::Short, "short", "fewer indices than processors, or a block below the threshold"),
-    (Ground::Memory, "memory", "the memory's length is not the table's element total"),
-    (Ground::Buffer, "buffer", "the output does not fit the lent bytes"),
-    (Ground::Unlike, "unlike", "the joined tables differ in arrays"),
-    (Ground::State, "state", "the counts are none that steps from 0 can leave"),
+/// Each ground with its number, its word and its text. No call gives 16.
+const GROUNDS: [(Ground, u64, &str, &str); 16] = [
+    (Ground::Torn, 1, "torn", "the bytes end inside a record or before the end record"),
+    (Ground::Kind, 2, "kind", "a kind is unknown or out of its order, or there is no array or loop before the end"),
+    (Ground::Field, 3, "field", "a field is outside its range, or first is above last"),
+    (Ground::Crowd, 4, "crowd", "one array, loop, item or element too many"),
+    (Ground::Array, 5, "array", "there is no array of that number"),
+    (Ground::Body, 6, "body", "too few waiting numbers, a ninth, or not one left"),
+    (Ground::Edge, 7, "edge", "some iteration reaches outside the array"),
+    (Ground::Tail, 8, "tail", "bytes follow the end record"),
+    (Ground::Serial, 9, "serial", "two different iterations of one loop meet at an element, one storing"),
+    (Ground::Processors, 10, "processors", "P is outside 1 to 64, or a processor's number is not below P"),
+    (Ground::Short, 11, "short", "fewer lines than processors, or a block below the threshold"),
+    (Ground::Memory, 12, "memory", "the memory's length is not the table's element total"),
+    (Ground::Buffer, 13, "buffer", "the output does not fit the lent bytes"),
+    (Ground::Unlike, 14, "unlike", "the joined tables differ in arrays"),
+    (Ground::State, 15, "state", "the counts are none that steps from 0 can leave"),
+    (Ground::Line, 17, "line", "a line's length is outside 1 to 64"),
 ];
 
 impl Ground {
     pub fn of_number(number: u64) -> Ground {
-        let known = number.checked_sub(1).and_then(|at| GROUNDS.get(at as usize));
-        known.map_or(Ground::Other(number), |row| row.0)
+        GROUNDS.iter().find(|row| row.1 == number).map_or(Ground::Other(number), |row| row.0)
     }
 
     pub fn number(self) -> u64 {
         match self {
             Ground::Other(number) => number,
-            known => 1 + GROUNDS.iter().position(|row| row.0 == known).unwrap_or(0) as u64,
+            known => known.row().map_or(0, |row| row.1),
         }
     }
 
     pub fn word(self) -> &'static str {
-        self.row().map_or("unknown", |row| row.1)
+        self.row().map_or("unknown", |row| row.2)
     }
 
     pub fn text(self) -> &'static str {
-        self.row().map_or("a ground that this wrapper does not know", |row| row.2)
+        self.row().map_or("a ground that this wrapper does not know", |row| row.3)
     }
 
-    fn row(self) -> Option<&'static (Ground, &'static str, &'static str)> {
+    fn row(self) -> Option<&'static (Ground, u64, &'static str, &'static str)> {
         GROUNDS.iter().find(|row| row.0 == self)
     }
 

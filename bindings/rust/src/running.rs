@@ -2,6 +2,7 @@
 
 use crate::foreign::*;
 use crate::refusal::Refusal;
+use crate::settings::Settings;
 use crate::sizes::MOST_PROCESSORS;
 
 /// The count of iterations done, for each processor. A row of steps begins with [`State::new`].
@@ -64,7 +65,8 @@ pub fn plain_run(table: &[u8], memory: &mut [f64]) -> Result<(), Refusal> {
     Refusal::of_answer(&answer)
 }
 
-/// One step of one processor.
+/// One step of one processor. All steps of a row are given the same table and settings. Once they have reported every iteration, the memory
+/// is what [`plain_run`] leaves from the same start, whatever processors were named in whatever order.
 ///
 /// ```
 /// use vempaldi::{Report, State};
@@ -77,7 +79,13 @@ pub fn plain_run(table: &[u8], memory: &mut [f64]) -> Result<(), Refusal> {
 /// assert_eq!(state.counts[1], 9);
 /// # Ok::<(), vempaldi::Refusal>(())
 /// ```
-pub fn step(table: &[u8], processors: u32, processor: u32, state: &mut State, memory: &mut [f64]) -> Result<Report, Refusal> {
+pub fn step<'a>(
+    table: &[u8],
+    settings: impl Into<Settings<'a>>,
+    processor: u32,
+    state: &mut State,
+    memory: &mut [f64],
+) -> Result<Report, Refusal> {
     let mut answer = [0; 4];
     let mut report = [0; 3];
     let (numbers, count) = (memory.as_mut_ptr(), memory.len());
@@ -86,7 +94,7 @@ pub fn step(table: &[u8], processors: u32, processor: u32, state: &mut State, me
         vempaldi_step(
             table.as_ptr(),
             table.len(),
-            processors,
+            settings.into(),
             processor,
             &mut state.counts,
             numbers,
@@ -109,12 +117,12 @@ pub fn step(table: &[u8], processors: u32, processor: u32, state: &mut State, me
 /// assert_eq!(fused, plain);
 /// # Ok::<(), vempaldi::Refusal>(())
 /// ```
-pub fn run(table: &[u8], processors: u32, order: &[u8], memory: &mut [f64]) -> Result<u64, Refusal> {
+pub fn run<'a>(table: &[u8], settings: impl Into<Settings<'a>>, order: &[u8], memory: &mut [f64]) -> Result<u64, Refusal> {
     let mut answer = [0; 4];
+    let settings = settings.into();
     let (numbers, count) = (memory.as_mut_ptr(), memory.len());
     // SAFETY: as in `plain_run`.
-    let idle = unsafe {
-        vempaldi_run(table.as_ptr(), table.len(), processors, order.as_ptr(), order.len(), numbers, count, &mut answer)
-    };
+    let idle =
+        unsafe { vempaldi_run(table.as_ptr(), table.len(), settings, order.as_ptr(), order.len(), numbers, count, &mut answer) };
     Refusal::of_answer(&answer).map(|()| idle)
 }

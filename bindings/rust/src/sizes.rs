@@ -3,6 +3,9 @@
 /// The largest number of processors of a plan.
 pub const MOST_PROCESSORS: u32 = 64;
 
+/// The largest number of iterations that a line has.
+pub const LONGEST_LINE: u32 = 64;
+
 /// The longest accepted table, so also the longest joined one.
 pub const TABLE_BYTES: usize = 2_065;
 

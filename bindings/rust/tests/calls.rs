@@ -91,6 +91,7 @@ fn refusals_carry_their_grounds() {
     assert_eq!(ground(fused_list(EXAMPLE, 2, 2)), 10);
     assert_eq!(ground(peeled_list(EXAMPLE, 2, 7)), 10);
     assert_eq!(ground(blocks(EXAMPLE, 6)), 11);
+    assert_eq!(ground(blocks(EXAMPLE, Settings::new(2).line(65))), 17);
     assert_eq!(ground(plain_run(EXAMPLE, &mut [0.0; 35])), 12);
     assert_eq!(ground(join_into(EXAMPLE, EXAMPLE, &mut [0; 105])), 13);
     let mut state = State { counts: [10; 64] };
@@ -104,9 +105,14 @@ fn a_refusal_prints_its_word_and_ground() {
     let text = "refused 1 torn at byte 60: the bytes end inside a record or before the end record";
     assert_eq!(torn.to_string(), text);
     assert_eq!(Ground::of_number(99).number(), 99);
-    for number in 1..=15 {
+    for number in 0..=20 {
         assert_eq!(Ground::of_number(number).number(), number);
     }
+    // 16 is no ground of this version.
+    assert_eq!(Ground::of_number(16), Ground::Other(16));
+    assert_eq!((Ground::of_number(15), Ground::of_number(17)), (Ground::State, Ground::Line));
+    let line = blocks(EXAMPLE, Settings::new(2).line(0)).expect_err("refused");
+    assert_eq!(line.to_string(), "refused 17 line: a line's length is outside 1 to 64");
 }
 
 /// 1 to 10, A0 of 21 elements, A0[i] = A0[i] + A0[i+10] + A0[i+9] + A0[i+1]. In ten iterations the first two reads meet no other

@@ -24,10 +24,14 @@ fn tables() -> Vec<Vec<u8>> {
     tables
 }
 
-/// Every table with every number of processors that is accepted for it.
-fn plans() -> impl Iterator<Item = (Vec<u8>, u32)> {
-    let each = |table: Vec<u8>| (1..=MOST_PROCESSORS).map(move |processors| (table.clone(), processors));
-    tables().into_iter().flat_map(each).filter(|(table, processors)| blocks(table, *processors).is_ok())
+/// Lines of one iteration, of a few and of as many as there can be.
+const LINES: [u32; 4] = [1, 3, 8, LONGEST_LINE];
+
+/// Every table with every number of processors that is accepted for it, with each of these lines.
+fn plans() -> impl Iterator<Item = (Vec<u8>, Settings<'static>)> {
+    let settings = || LINES.into_iter().flat_map(|line| (1..=MOST_PROCESSORS).map(move |count| Settings::new(count).line(line)));
+    let each = move |table: Vec<u8>| settings().map(move |settings| (table.clone(), settings));
+    tables().into_iter().flat_map(each).filter(|(table, settings)| blocks(table, *settings).is_ok())
 }
 
 /// The ranges of a processor in the listing's lines that begin with `word`; loops without a line have none.
@@ -63,13 +67,13 @@ fn the_example_has_the_ranges_of_its_listing() {
 #[test]
 fn ranges_are_the_listings() {
     let mut empty = 0;
-    for (table, processors) in plans() {
-        let (listing, loops) = (listing(&table, processors).expect("accepted"), facts(&table).expect("accepted").loops.len());
-        for processor in 0..processors {
-            let fused = fused_ranges(&table, processors, processor).expect("accepted");
-            assert_eq!(fused, listed(&listing, "fused ", processor, loops), "P = {processors}, processor {processor}");
-            let peeled = peeled_ranges(&table, processors, processor).expect("accepted");
-            assert_eq!(peeled, listed(&listing, "peeled ", processor, loops), "P = {processors}, processor {processor}");
+    for (table, settings) in plans() {
+        let (listing, loops) = (listing(&table, settings).expect("accepted"), facts(&table).expect("accepted").loops.len());
+        for processor in 0..settings.processors {
+            let fused = fused_ranges(&table, settings, processor).expect("accepted");
+            assert_eq!(fused, listed(&listing, "fused ", processor, loops), "{settings:?}, processor {processor}");
+            let peeled = peeled_ranges(&table, settings, processor).expect("accepted");
+            assert_eq!(peeled, listed(&listing, "peeled ", processor, loops), "{settings:?}, processor {processor}");
             empty += fused.iter().filter(|range| range.is_empty()).count();
         }
     }
@@ -79,18 +83,18 @@ fn ranges_are_the_listings() {
 #[test]
 fn lists_have_the_iterations_of_the_ranges_in_their_order() {
     let mut plans_seen = 0;
-    for (table, processors) in plans() {
+    for (table, settings) in plans() {
         let amounts = shifts_and_peels(&table).expect("accepted");
-        for processor in 0..processors {
-            let mut fused = iterations(&fused_ranges(&table, processors, processor).expect("accepted"));
+        for processor in 0..settings.processors {
+            let mut fused = iterations(&fused_ranges(&table, settings, processor).expect("accepted"));
             fused.sort_by_key(|&(k, index)| (index + amounts[k as usize].shift, k));
-            assert_eq!(pairs(fused_list(&table, processors, processor).expect("accepted")), fused);
-            let peeled = iterations(&peeled_ranges(&table, processors, processor).expect("accepted"));
-            assert_eq!(pairs(peeled_list(&table, processors, processor).expect("accepted")), peeled);
+            assert_eq!(pairs(fused_list(&table, settings, processor).expect("accepted")), fused);
+            let peeled = iterations(&peeled_ranges(&table, settings, processor).expect("accepted"));
+            assert_eq!(pairs(peeled_list(&table, settings, processor).expect("accepted")), peeled);
         }
         plans_seen += 1;
     }
-    assert!(plans_seen > 150, "only {plans_seen} plans were accepted");
+    assert!(plans_seen > 400, "only {plans_seen} plans were accepted");
 }
 
 #[test]

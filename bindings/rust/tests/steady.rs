@@ -34,9 +34,20 @@ fn enums_and_what_calls_give_may_grow() {
             seen.push(name);
         }
     }
-    for name in
-        ["Ground", "Report", "Refusal", "Facts", "ArrayFacts", "LoopFacts", "Amounts", "Block", "Iteration", "Sweeps", "State"]
-    {
+    for name in [
+        "Ground",
+        "Report",
+        "Refusal",
+        "Facts",
+        "ArrayFacts",
+        "LoopFacts",
+        "Amounts",
+        "Block",
+        "Iteration",
+        "Sweeps",
+        "State",
+        "Settings",
+    ] {
         assert!(seen.iter().any(|one| one == name), "{name} was not found");
     }
 }

@@ -12,6 +12,8 @@ pub struct Forms {
     pub bounds: &'static str,
     /// Whether fused parts name their processor; it stands at the head of the column too.
     pub full: bool,
+    /// Whether ticks show where lines begin.
+    pub ticks: bool,
 }
 
 impl Forms {
@@ -23,6 +25,7 @@ impl Forms {
             name: if names { "processor " } else { "P" },
             bounds: if bounds { " to " } else { "-" },
             full: parts.all(|(part, room)| labels::room(part, &labels::full(part), Side::Fused) <= room),
+            ticks: views.iter().all(View::has_wide_lines),
         }
     }
 }

@@ -2,6 +2,7 @@
 
 use super::forms::Forms;
 use super::labels::{self, Side, BEFORE, DIAMOND};
+use super::lines;
 use super::panels::Panel;
 use super::plan::{of_processors, Part, Plan};
 use super::style::{PLAIN, SAID, SMALL, STRONG};
@@ -22,6 +23,8 @@ const BAR: f64 = 20.0;
 /// From the top of a panel to its first loop, and from the barrier to the first loop below it.
 const HEADS: f64 = 62.0;
 const BELOW: f64 = 34.0;
+/// From the top of a panel to its ticks, which end above its first loop.
+const TICKS: f64 = 37.0;
 /// The height of a panel whose processors run nothing.
 const WITHOUT_ROWS: f64 = 42.0;
 
@@ -70,6 +73,9 @@ impl<'a> View<'a> {
         picture.open("panel", &[("first", start as u32), ("last", end as u32 - 1)]);
         self.columns(picture, &layout);
         self.heads(picture, forms, top);
+        if forms.ticks {
+            lines::draw(picture, self.plan, &self.panel.processors, &self.scale, top + TICKS);
+        }
         match self.loops.is_empty() {
             true => picture.text(MARGIN, top + 32.0, &SMALL, "no iteration of any loop here"),
             false => self.sides(picture, forms, &layout),
@@ -102,6 +108,11 @@ impl<'a> View<'a> {
                 picture.line((right, layout.top), (right, layout.end), "end");
             }
         }
+    }
+
+    /// Whether there are lines of several indices, each wide enough to be seen.
+    pub fn has_wide_lines(&self) -> bool {
+        lines::are_wide(self.plan, &self.panel.processors, &self.scale)
     }
 
     pub fn spans(&self) -> Vec<(f64, f64)> {

@@ -4,7 +4,7 @@ use crate::infix::assignment;
 use crate::names::Names;
 use crate::records::decode;
 use std::ops::Range;
-use vempaldi::{Amounts, Block, Refusal, Sweeps};
+use vempaldi::{Amounts, Block, Refusal, Settings, Sweeps};
 
 /// What a processor runs of a loop on one side of the barrier, both ends included.
 #[derive(Clone, Copy)]
@@ -36,12 +36,14 @@ pub struct Plan {
     pub peeled: Vec<Part>,
     pub threshold: u32,
     pub sweeps: Sweeps,
+    /// How many indices a line has.
+    pub line: u32,
 }
 
 impl Plan {
-    pub fn of(table: &[u8], processors: u32, names: &Names) -> Result<Plan, Refusal> {
-        let listing = vempaldi::listing(table, processors)?;
-        let (fused, peeled) = ranges(table, processors)?;
+    pub fn of(table: &[u8], settings: Settings, names: &Names) -> Result<Plan, Refusal> {
+        let listing = vempaldi::listing(table, settings)?;
+        let (fused, peeled) = ranges(table, settings)?;
         let amounts = vempaldi::shifts_and_peels(table)?.into_iter();
         let decoded = decode(table).0.loops;
         let loops = decoded.iter().zip(amounts).map(|(one, amounts)| {
@@ -50,11 +52,12 @@ impl Plan {
         });
         Ok(Plan {
             loops: loops.collect(),
-            blocks: vempaldi::blocks(table, processors)?,
+            blocks: vempaldi::blocks(table, settings)?,
             fused,
             peeled,
             threshold: vempaldi::threshold(table)?,
             sweeps: vempaldi::sweeps(table)?,
+            line: settings.line,
             listing,
         })
     }
@@ -74,15 +77,15 @@ pub fn of_processors<'a>(parts: &'a [Part], processors: &'a Range<usize>) -> imp
 }
 
 /// The parts that are not empty, fused and peeled, by processor and then by loop: the one place where they are read.
-fn ranges(table: &[u8], processors: u32) -> Result<(Vec<Part>, Vec<Part>), Refusal> {
-    let fused = parts(processors, |processor| vempaldi::fused_ranges(table, processors, processor))?;
-    let peeled = parts(processors, |processor| vempaldi::peeled_ranges(table, processors, processor))?;
+fn ranges(table: &[u8], settings: Settings) -> Result<(Vec<Part>, Vec<Part>), Refusal> {
+    let fused = parts(settings, |processor| vempaldi::fused_ranges(table, settings, processor))?;
+    let peeled = parts(settings, |processor| vempaldi::peeled_ranges(table, settings, processor))?;
     Ok((fused, peeled))
 }
 
-fn parts(processors: u32, ranges: impl Fn(u32) -> Result<Vec<Range<u32>>, Refusal>) -> Result<Vec<Part>, Refusal> {
+fn parts(settings: Settings, ranges: impl Fn(u32) -> Result<Vec<Range<u32>>, Refusal>) -> Result<Vec<Part>, Refusal> {
     let mut all = Vec::new();
-    for processor in 0..processors {
+    for processor in 0..settings.processors {
         let own = ranges(processor)?.into_iter().enumerate().filter(|(_, range)| !range.is_empty());
         all.extend(own.map(|(number, range)| Part {
             processor: processor as usize,

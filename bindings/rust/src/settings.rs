@@ -1,0 +1,50 @@
+//! What settles a table's lists beside the table itself.
+
+use std::marker::PhantomData;
+
+/// How many processors there are and how long a line is. Every call that plans takes it, or a number alone, which is a count of processors
+/// with lines of one iteration; all calls of a row of steps take the same.
+///
+/// ```
+/// use vempaldi::Settings;
+///
+/// let table = std::fs::read("../../examples/example.table").unwrap();
+/// let bounds = |settings| -> Result<Vec<(u32, u32)>, vempaldi::Refusal> {
+///     Ok(vempaldi::blocks(&table, settings)?.iter().map(|block| (block.first, block.last)).collect())
+/// };
+/// assert_eq!(bounds(Settings::new(2))?, [(1, 5), (6, 10)]);
+/// assert_eq!(bounds(Settings::new(2).line(4))?, [(1, 8), (9, 10)]); // three lines: 1 to 4, 5 to 8, and 9 to 10, which is cut
+/// # Ok::<(), vempaldi::Refusal>(())
+/// ```
+///
+/// A later version may add to it, for example plans that are lent as bytes. So it is made with [`new`](Settings::new) and not as a literal,
+/// and has a lifetime, though nothing is lent by it yet: what callers write today still compiles then.
+#[derive(Clone, Copy, Debug, PartialEq, Eq, Hash)]
+#[non_exhaustive]
+#[repr(C)]
+pub struct Settings<'a> {
+    /// P: 1 to 64, else every call is refused with [`Ground::Processors`](crate::Ground::Processors).
+    pub processors: u32,
+    /// W, how many iterations store into one cache line: 1 to 64, else every call is refused with [`Ground::Line`](crate::Ground::Line).
+    /// Blocks begin on whole lines, which count from the least first of all loops.
+    pub line: u32,
+    lent: PhantomData<&'a [u8]>,
+}
+
+impl Settings<'_> {
+    /// For so many processors, lines of one iteration, and nothing else.
+    pub fn new(processors: u32) -> Self {
+        Settings { processors, line: 1, lent: PhantomData }
+    }
+
+    /// The same with lines of so many iterations.
+    pub fn line(self, line: u32) -> Self {
+        Settings { line, ..self }
+    }
+}
+
+impl From<u32> for Settings<'_> {
+    fn from(processors: u32) -> Self {
+        Settings::new(processors)
+    }
+}
