@@ -108,7 +108,8 @@ enum vempaldi_size {
  * with vempaldi_for and set what else is wanted: a later version may add members, which are 0 or null there and then change nothing. */
 struct vempaldi_settings {
     uint32_t processors; /* P, how many processors there are: 1 to 64, else 10 */
-    uint32_t line;       /* W, how many iterations store into one cache line: 1 to 64, else 17. Blocks begin on whole lines */
+    uint32_t line;       /* W, how many iterations a line has, counted from the least first of all loops: 1 to 64, else 17. Where an
+                          * iteration stores 8 bytes and a cache line has 64, it is 8. Blocks begin on whole lines */
 };
 
 /* For `processors` processors, lines of one iteration, and nothing else. */
