@@ -19,7 +19,7 @@ pub record Calls : Type 0 where
   -- 10 processors: P outside 1 to 64, or a stepped number not below P
   pub processors : refusalFor example 65 ≡ met 10 0
   pub no-such-processor : saidFrom 2 noneDone own ≡ refuses (met 10 0)
-  -- 11 short: T < P, or P ≥ 2 and some block below the threshold
+  -- 11 short: fewer lines than P (here lines have one index), or P ≥ 2 and some block below the threshold
   pub short : refusalFor example 6 ≡ met 11 0
   -- 12 memory: its length isn't the table's element total, 36
   pub no-memory : runRefusal example 2 0 ≡ met 12 0
@@ -46,7 +46,7 @@ pub record Calls : Type 0 where
   -- T is at least P
   pub indices-least : refusalFor (array 65 ++ loop 0 2 0 (ahead 0) ++ one ++ end) 3 ≡ none
   pub indices-below : refusalFor (array 65 ++ loop 0 1 0 (ahead 0) ++ one ++ end) 3 ≡ met 11 0
-  -- after 1 to 9 come 10, 11, 12, 15, 13, as far as the call has them
+  -- after 1 to 9 come 10, 17, 11, 12, 15, 13, as far as the call has them
   pub serial-processors : refusalFor (itself 9) 0 ≡ naming 9 0 0 0
   pub processors-short : refusalFor (tableOf 1 1) 65 ≡ met 10 0
   pub short-memory : runRefusal example 6 0 ≡ met 11 0
