@@ -1,4 +1,4 @@
--- the grounds 10 to 13 and 15, each by itself
+-- the grounds 10 to 13, 15 and 17, each by itself
 pub mod Statements
 -- what each exported function may be refused with
 pub mod Refusing
@@ -8,6 +8,8 @@ pub mod Tests
 pub mod Refused
 -- where a ground holds and none before it, it is given
 pub mod Where
+-- the planner's answer decides every call that plans
+pub mod Planning
 -- a refused table decides every call on it
 pub mod Decided
 -- a refused call leaves all as found

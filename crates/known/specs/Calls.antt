@@ -54,7 +54,7 @@ pub record Calls : Type 0 where
   pub processors-memory : saidFrom 2 (10 ∷ zeros 63) [] ≡ refuses (met 10 0)
   pub memory-state : saidFrom 0 (10 ∷ zeros 63) [] ≡ refuses (met 12 0)
   pub serial-buffer : refusalOf (thresholds (itself 9) 0) ≡ naming 9 0 0 0
-  pub short-buffer : refusalOf (blocksGiven example (settings 6 1) 0) ≡ met 11 0
+  pub short-buffer : refusalOf (blocksGiven example (settings 6) 0) ≡ met 11 0
 
 pub calls : Calls
 unfolding refusalFor plainRefusal runRefusal saidFrom thresholds blocksGiven fitted encoded four joining alike

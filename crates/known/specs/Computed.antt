@@ -38,7 +38,7 @@ refusal s = refusalOf (table s)
 -- that of a plan for P processors, 1 to 11, lines having one index
 unfoldable pub refusalFor : List ℕ → ℕ → Refusal
 unfolding refusal planned fitting dependence required raised walk numbers threshold spanOf lines size start before isShort
-refusalFor s P = refusalOf (planned s (settings P 1))
+refusalFor s P = refusalOf (planned s (settings P))
 
 -- what f says of what is accepted; of a refusal nothing
 abbrev pub told : {T A : Type 0} → (T → List A) → AnswerOf T → List A
@@ -70,18 +70,18 @@ abbrev blockSize : Planned → ℕ → ℕ
 blockSize q b = q .plan .edge (suc b) - q .plan .edge b
 
 abbrev pub sizesIn : List ℕ → List ℕ
-sizesIn s = told (λ q. blockSize q 0 ∷ blockSize q 1 ∷ blockSize q 2 ∷ []) (planned s (settings 3 1))
+sizesIn s = told (λ q. blockSize q 0 ∷ blockSize q 1 ∷ blockSize q 2 ∷ []) (planned s (settings 3))
 
 -- processor b's lists, for P processors
 unfoldable pub fusedIn : List ℕ → ℕ → ℕ → List Iteration
 unfolding refusalFor fusedPart loopAt sumAt sumBound bySums
-fusedIn s P b = told (λ q. fusedList (q .table) (q .plan) b) (planned s (settings P 1))
+fusedIn s P b = told (λ q. fusedList (q .table) (q .plan) b) (planned s (settings P))
 
 unfoldable pub peeledIn : List ℕ → ℕ → ℕ → List Iteration
 unfolding refusalFor peeledPart loopOver byLoops
-peeledIn s P b = told (λ q. peeledList (q .table) (q .plan) b) (planned s (settings P 1))
+peeledIn s P b = told (λ q. peeledList (q .table) (q .plan) b) (planned s (settings P))
 
 -- its listing, or the line of its refusal
 unfoldable pub listed : List ℕ → ℕ → List ℕ
 unfolding fusedIn peeledIn text textOf some countFrom listing refusalLine line decimal digits
-listed s P = text s (settings P 1)
+listed s P = text s (settings P)

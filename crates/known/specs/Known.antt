@@ -21,8 +21,8 @@ pub record Known : Type 0 where
       ∷ []
   -- the example: threshold 2; P = 5 accepted, P = 6 refused 11
   pub example-threshold : thresholdIn example ≡ 2 ∷ []
-  pub example-five : refusalOf (planned example (settings 5 1)) ≡ none
-  pub example-six : refusalOf (planned example (settings 6 1)) ≡ met 11 0
+  pub example-five : refusalOf (planned example (settings 5)) ≡ none
+  pub example-six : refusalOf (planned example (settings 6)) ≡ met 11 0
   -- with every element its own index first, A2[1] = 3, A2[5] = 12, A2[10] = 21
   pub element-1 : element 1 ≡ whole 3
   pub element-5 : element 5 ≡ whole 12
@@ -47,8 +47,8 @@ pub record Known : Type 0 where
   pub three-blocks : sizesIn single ≡ 4 ∷ 3 ∷ 3 ∷ []
   -- T = 10, threshold 0: P = 10 accepted, 11 refused
   pub single-threshold : thresholdIn single ≡ 0 ∷ []
-  pub single-ten : refusalOf (planned single (settings 10 1)) ≡ none
-  pub single-eleven : refusalOf (planned single (settings 11 1)) ≡ met 11 0
+  pub single-ten : refusalOf (planned single (settings 10)) ≡ none
+  pub single-eleven : refusalOf (planned single (settings 11)) ≡ met 11 0
   -- 0 divided by 0 stores 7FF8000000000000
   pub zero-by-zero : plainMemory zeroByZero (whole 1 ∷ []) ≡ nan ∷ []
   pub nan-bits : toBits binary64 nan ≡ 0x7FF8000000000000

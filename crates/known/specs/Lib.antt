@@ -30,6 +30,8 @@ pub mod Lines
 pub mod Runs
 -- the numbers in lent bytes
 pub mod Outputs
+-- calls on lines of several indices
+pub mod LineCalls
 -- two tables joined
 pub mod Joins
 -- the listing's

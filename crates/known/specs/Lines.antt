@@ -10,7 +10,7 @@ use Rattle.refusals.specs.Answers.{accepted, refusalOf}
 use Rattle.numbers.specs.Numbers.{four, encoded}
 use Rattle.outputs.specs.Given.{fitted}
 use Rattle.lists.specs.Fusion.{fusedList, peeledList}
-use Rattle.plans.specs.Plans.{settings, planned, plannedFor}
+use Rattle.plans.specs.Plans.{settings, onLines, planned, plannedFor}
 use Rattle.entries.specs.Entries.{blocksGiven, listGiven, rangesGiven, fusedRangesGiven, peeledRangesGiven}
 use Rattle.text.specs.Ascii.{ascii}
 use Rattle.printing.specs.Printing.{text}
@@ -21,37 +21,37 @@ use Rattle.known.specs.Computed.{told, refusalFor, fusedIn, peeledIn, li
 -- a plan's refusal, for P processors and lines of W, and where a processor is named
 unfoldable pub refusalOn : List ℕ → ℕ → ℕ → Refusal
 unfolding refusalFor
-refusalOn s P W = refusalOf (planned s (settings P W))
+refusalOn s P W = refusalOf (planned s (onLines W (settings P)))
 
 unfoldable pub namedOn : List ℕ → ℕ → ℕ → ℕ → Refusal
 unfolding refusalFor plannedFor
-namedOn s P W b = refusalOf (plannedFor s (settings P W) b)
+namedOn s P W b = refusalOf (plannedFor s (onLines W (settings P)) b)
 
 -- processor b's lists
 unfoldable pub fusedOn : List ℕ → ℕ → ℕ → ℕ → List Iteration
 unfolding fusedIn
-fusedOn s P W b = told (λ q. fusedList (q .table) (q .plan) b) (planned s (settings P W))
+fusedOn s P W b = told (λ q. fusedList (q .table) (q .plan) b) (planned s (onLines W (settings P)))
 
 unfoldable pub peeledOn : List ℕ → ℕ → ℕ → ℕ → List Iteration
 unfolding peeledIn
-peeledOn s P W b = told (λ q. peeledList (q .table) (q .plan) b) (planned s (settings P W))
+peeledOn s P W b = told (λ q. peeledList (q .table) (q .plan) b) (planned s (onLines W (settings P)))
 
 pub record Lines : Type 0 where
   -- the example, T = 10 from index 1 on. Three lines of 4: two blocks have 2 lines and 1, the last cut at index 10; three have one each
-  pub four-two : blocksGiven example (settings 2 4) 16 ≡ accepted (number 1 ++ number 8 ++ number 9 ++ number 10)
-  pub four-three : blocksGiven example (settings 3 4) 24
+  pub four-two : blocksGiven example (onLines 4 (settings 2)) 16 ≡ accepted (number 1 ++ number 8 ++ number 9 ++ number 10)
+  pub four-three : blocksGiven example (onLines 4 (settings 3)) 24
       ≡ accepted (number 1 ++ number 4 ++ number 5 ++ number 8 ++ number 9 ++ number 10)
   -- four lines of 3: the first block has 2 of them
-  pub three-two : blocksGiven example (settings 2 3) 16 ≡ accepted (number 1 ++ number 6 ++ number 7 ++ number 10)
-  pub three-three : blocksGiven single (settings 3 3) 24
+  pub three-two : blocksGiven example (onLines 3 (settings 2)) 16 ≡ accepted (number 1 ++ number 6 ++ number 7 ++ number 10)
+  pub three-three : blocksGiven single (onLines 3 (settings 3)) 24
       ≡ accepted (number 1 ++ number 6 ++ number 7 ++ number 9 ++ number 10 ++ number 10)
   -- lines of 1, and lines that come out even, give the blocks of before
-  pub one-two : blocksGiven example (settings 2 1) 16 ≡ accepted (number 1 ++ number 5 ++ number 6 ++ number 10)
-  pub five-two : blocksGiven example (settings 2 5) 16 ≡ accepted (number 1 ++ number 5 ++ number 6 ++ number 10)
+  pub one-two : blocksGiven example (onLines 1 (settings 2)) 16 ≡ accepted (number 1 ++ number 5 ++ number 6 ++ number 10)
+  pub five-two : blocksGiven example (onLines 5 (settings 2)) 16 ≡ accepted (number 1 ++ number 5 ++ number 6 ++ number 10)
   -- a line that is longer than all indices is one block
-  pub sixty-four : blocksGiven example (settings 1 64) 8 ≡ accepted (number 1 ++ number 10)
+  pub sixty-four : blocksGiven example (onLines 64 (settings 1)) 8 ≡ accepted (number 1 ++ number 10)
   -- lines count from the least first: from 7 to 16, and not from a multiple of 4
-  pub from-first : blocksGiven (array 20 ++ loop 7 16 0 (ahead 0) ++ one ++ end) (settings 2 4) 16
+  pub from-first : blocksGiven (array 20 ++ loop 7 16 0 (ahead 0) ++ one ++ end) (onLines 4 (settings 2)) 16
       ≡ accepted (number 7 ++ number 14 ++ number 15 ++ number 16)
   -- 11 by lines: T = 10 has five lines of 2, enough for five processors and not for six, though there are ten indices
   pub lines-five : refusalOn single 5 2 ≡ none
@@ -78,13 +78,13 @@ pub record Lines : Type 0 where
   pub line-short : refusalOn example 11 0 ≡ met 17 0
   pub named-line : namedOn example 2 65 1 ≡ met 17 0
   -- the example's lists on two processors, lines of 4
-  pub fused-ranges-first : fusedRangesGiven example (settings 2 4) 0 16 ≡ accepted (number 1 ++ number 9 ++ number 1 ++ number 8)
-  pub fused-ranges-last : fusedRangesGiven example (settings 2 4) 1 16 ≡ accepted (number 9 ++ number 11 ++ number 10 ++ number 11)
-  pub peeled-ranges-first : peeledRangesGiven example (settings 2 4) 0 16 ≡ accepted (number 0 ++ number 0 ++ number 8 ++ number 10)
+  pub fused-ranges-first : fusedRangesGiven example (onLines 4 (settings 2)) 0 16 ≡ accepted (number 1 ++ number 9 ++ number 1 ++ number 8)
+  pub fused-ranges-last : fusedRangesGiven example (onLines 4 (settings 2)) 1 16 ≡ accepted (number 9 ++ number 11 ++ number 10 ++ number 11)
+  pub peeled-ranges-first : peeledRangesGiven example (onLines 4 (settings 2)) 0 16 ≡ accepted (number 0 ++ number 0 ++ number 8 ++ number 10)
   pub fused-last : fusedOn example 2 4 1 ≡ iteration 0 9 ∷ iteration 0 10 ∷ iteration 1 10 ∷ []
   pub peeled-first : peeledOn example 2 4 0 ≡ iteration 1 8 ∷ iteration 1 9 ∷ []
   -- and its listing
-  pub listing : text example (settings 2 4)
+  pub listing : text example (onLines 4 (settings 2))
       ≡ ascii "loop 0 0 0\n"
       ++ ascii "loop 1 1 1\n"
       ++ ascii "block 0 1 8\n"

@@ -54,12 +54,12 @@ plainRefusal s n = refusalOf (plainAnswer s n)
 
 unfoldable pub runRefusal : List ℕ → ℕ → ℕ → Refusal
 unfolding refusalFor remembered
-runRefusal s P n = refusalOf (runAnswer s (settings P 1) n)
+runRefusal s P n = refusalOf (runAnswer s (settings P) n)
 
 -- what a step of processor b says, from these counts
 unfoldable pub saidFrom : ℕ → List ℕ → List Float → Said Iteration
 unfolding element refusalFor fusedIn peeledIn plannedFor step steppedBy stepped turn next wrongState wrongCount closed
-saidFrom b counts m = step example (settings 2 1) b counts m .said
+saidFrom b counts m = step example (settings 2) b counts m .said
 
 -- a row of steps of all kinds: the last processor's until it waits, a number not below P, the first one's fused list, the last one finished,
 -- the first one's peeled list, and that one finished
@@ -74,25 +74,25 @@ performsAll (x ∷ xs) = performs x ∷ performsAll xs
 -- what each step of a row says, and what the row leaves
 unfoldable pub reported : List ℕ → List (Said Iteration)
 unfolding saidFrom reports
-reported bs = reports (step example (settings 2 1)) bs noneDone own
+reported bs = reports (step example (settings 2)) bs noneDone own
 
 unfoldable pub countsLeft : List ℕ → List ℕ
 unfolding saidFrom countsAfter
-countsLeft bs = countsAfter (step example (settings 2 1)) bs noneDone own
+countsLeft bs = countsAfter (step example (settings 2)) bs noneDone own
 
 unfoldable pub elementLeft : List ℕ → ℕ → Float
 unfolding saidFrom memoryAfter
-elementLeft bs i = elementOf (memoryAfter (step example (settings 2 1)) bs noneDone own) i
+elementLeft bs i = elementOf (memoryAfter (step example (settings 2)) bs noneDone own) i
 
 -- a run in a caller's order: its row, how many calls are idle, and what it leaves
 unfoldable pub rowIn : List ℕ → List ℕ
 unfolding countsLeft elementLeft canStep closing rowOf
-rowIn order = told (runRow example (settings 2 1) order own) (planned example (settings 2 1))
+rowIn order = told (runRow example (settings 2) order own) (planned example (settings 2))
 
 unfoldable pub idleIn : List ℕ → ℕ
 unfolding reported rowIn idle runIdle
-idleIn order = runIdle example (settings 2 1) order own
+idleIn order = runIdle example (settings 2) order own
 
 unfoldable pub elementIn : List ℕ → ℕ → Float
 unfolding idleIn runMemory
-elementIn order i = elementOf (runMemory example (settings 2 1) order own) i
+elementIn order i = elementOf (runMemory example (settings 2) order own) i

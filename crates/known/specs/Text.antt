@@ -18,7 +18,7 @@ unfolding listed
 loop-for-place = refl
 
 -- the example
-pub example-text : text example (settings 2 1)
+pub example-text : text example (settings 2)
     ≡ ascii "loop 0 0 0\n"
     ++ ascii "loop 1 1 1\n"
     ++ ascii "block 0 1 5\n"

@@ -21,8 +21,13 @@ use Rattle.plans.specs.declared.Settings.{Settings as Struct}
 abbrev pub Settings : Type 0
 Settings = Struct
 
-abbrev pub settings : ℕ → ℕ → Settings
-settings P W = record { processors = P; line = W }
+-- for P processors, lines of one index, and nothing else
+abbrev pub settings : ℕ → Settings
+settings P = record { processors = P; line = 1 }
+
+-- with lines of W
+abbrev pub onLines : ℕ → Settings → Settings
+onLines W w = record { processors = w .processors; line = W }
 
 -- a table with its plan: shifts, peels, blocks and the count of processors, and so the lists of each phase (lists' Fusion)
 pub record Planned : Type 0 where

@@ -69,7 +69,7 @@ fn print_text(s: &[u8], w: Settings, out: &mut [u8]) -> Outcome
 
 // What the program prints for a number of processors: lines have one index.
 pub fn print_plan(s: &[u8], processors: u32, out: &mut [u8]) -> Outcome
-    ensures { λ r. ⌜ Prints (text (now (s .entry)) (settings processors 1)) (now (out .entry)) (now (out .exit)) r ⌝ }
+    ensures { λ r. ⌜ Prints (text (now (s .entry)) (settings processors)) (now (out .entry)) (now (out .exit)) r ⌝ }
 {
     print_text(
         s,

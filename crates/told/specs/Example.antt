@@ -38,7 +38,7 @@ module _ (a b c d : ℕ) where
   finished-written = refl
 
   -- the example's first step of processor 0, from bytes: loop 0, iteration 1
-  pub first-written : reported (reportAt example (settings 2 1) 0 noneDone own) (a ∷ b ∷ c ∷ []) ≡ 1 ∷ 0 ∷ 1 ∷ []
+  pub first-written : reported (reportAt example (settings 2) 0 noneDone own) (a ∷ b ∷ c ∷ []) ≡ 1 ∷ 0 ∷ 1 ∷ []
   unfolding reported saidFrom
   first-written = refl
 
