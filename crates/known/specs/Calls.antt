@@ -1,4 +1,5 @@
--- The grounds that a call can meet beside a table's, 10 to 15: the examples of docs/REFUSALS.md, the other cases, and which is told of several.
+-- The grounds that a call can meet beside a table's, 10 to 15: the examples of docs/REFUSALS.md but those on lines (Lines, LineCalls), the other cases,
+-- and which is told of several.
 use mathlib.Core.Path.{_≡_, refl}
 use mathlib.Core.List.{[], _∷_, _++_}
 use Rattle.refusals.specs.Refusals.{none, met, naming}

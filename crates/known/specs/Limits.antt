@@ -1,4 +1,4 @@
--- Each limit of a table exactly, and one past it: how many there can be, and the fields' ranges. (P, and T below P: Calls.)
+-- Each limit of a table exactly, and one past it: how many there can be, and the fields' ranges. (P, and fewer lines than P: Calls; W: Lines.)
 use mathlib.Core.Path.{_≡_, refl}
 use mathlib.Core.List.{_++_}
 use Rattle.refusals.specs.Refusals.{none, met}

@@ -1,4 +1,4 @@
--- What is printed of a table for a number of processors: its plan's listing, or a refusal. A call gives the refusal and prints nothing; the
+-- What is printed of a table for what settles its lists: its plan's listing, or a refusal. A call gives the refusal and prints nothing; the
 -- program `plan` prints the single line of it.
 use Prim.Native.Nat.{ℕ, _≤_}
 use mathlib.Core.List.{List}
