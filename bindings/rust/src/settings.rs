@@ -16,7 +16,7 @@
 /// ```
 ///
 /// A later version may add to it: numbers, and bytes, which a method then copies into an array of a fixed size, so that nothing is lent by it.
-/// It is made with [`new`](Settings::new) and not as a literal, so what callers write today still compiles then and changes nothing.
+/// It is made with [`new`](Settings::new) and not as a literal, so what callers write today still compiles then and gives the same.
 #[derive(Clone, Copy, Debug, PartialEq, Eq, Hash)]
 #[non_exhaustive]
 #[repr(C)]
