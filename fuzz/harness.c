@@ -33,14 +33,15 @@ static void another_byte(struct call *call, uint8_t *table, struct cursor *bytes
     check(call);
 }
 
-/* A line's length: one iteration, few, since most tables are short, any in range, or one out of it. A large input has one in range. */
+/* A line's length: one iteration, few, since most tables are short, any in range, one at an end of a range, or one out of it. A large input
+ * has one in range. */
 static uint32_t any_line(struct cursor *bytes) {
-    static const uint32_t ends[] = {0, 63, 64, 65};
+    static const uint32_t ends[] = {0, 1, 2, 63, 64, 65, 1u << 31, UINT32_MAX};
     uint32_t way = take(bytes, 1);
     if (bytes->large || way >= 224) return 1 + way % 64;
     if (way < 96) return 1;
     if (way < 192) return 2 + way % 6;
-    return way < 208 ? ends[way % 4] : wide(bytes, 1 + way % 8);
+    return way < 208 ? ends[way % 8] : wide(bytes, 1 + way % 8);
 }
 
 int LLVMFuzzerTestOneInput(const uint8_t *data, size_t size) {
@@ -55,7 +56,7 @@ int LLVMFuzzerTestOneInput(const uint8_t *data, size_t size) {
     memcpy(table, made, size_made);
     if (bytes.large) p = 1 + p % 3;
     else if (seldom(&bytes, size_made > 1000 ? 2 : 16)) p = p % 2 ? 64 : 48 + p % 16;
-    else p = p < 224 ? p % 9 : p < 240 ? p - 160 : wide(&bytes, 1 + p % 8);
+    else p = p < 224 ? p % 9 : p < 239 ? p - 160 : p < 240 ? UINT32_MAX : wide(&bytes, 1 + p % 8);
     begin_call(&call, length ? table : NULL, length, (struct vempaldi_settings){p, any_line(&bytes)});
     count_pairs(&call);
     count_blocks(&call);

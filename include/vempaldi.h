@@ -105,7 +105,8 @@ enum vempaldi_size {
 };
 
 /* What settles a table's lists beside the table itself. Every call that plans takes it, and all calls of a row of steps take the same. Make it
- * with vempaldi_for and set what else is wanted: a later version may add members, which are 0 or null there and then change nothing. */
+ * with vempaldi_for and set what else is wanted: a later version may add members (numbers, and arrays of a fixed size with a count of what is
+ * used of them, no pointers), which are 0 there and then change nothing. */
 struct vempaldi_settings {
     uint32_t processors; /* P, how many processors there are: 1 to 64, else 10 */
     uint32_t line;       /* W, how many iterations a line has, counted from the least first of all loops: 1 to 64, else 17. Where an

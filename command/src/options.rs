@@ -95,7 +95,7 @@ impl Options {
     }
 
     /// What settles a plan beside the table: how many processors there are, and how long a line is where that is said.
-    pub fn settings(&self) -> Result<Settings<'static>, Failure> {
+    pub fn settings(&self) -> Result<Settings, Failure> {
         let count = self.number("-p", "processors", MOST_PROCESSORS)?;
         let settings = Settings::new(count.ok_or_else(|| Failure::Usage("-p N is missing".to_string()))?);
         let line = self.number("--line", "iterations", LONGEST_LINE)?;

@@ -11,14 +11,14 @@ use vempaldi::{facts, Ground, Refusal, Settings, LONGEST_LINE, MOST_PROCESSORS};
 
 /// What was asked beside the table, which the words of 10, 11, 12 and 17 are about.
 #[derive(Clone, Copy, Default)]
-pub struct Asked<'a> {
-    pub settings: Option<Settings<'a>>,
+pub struct Asked {
+    pub settings: Option<Settings>,
     /// The length of the memory.
     pub numbers: Option<usize>,
 }
 
-impl<'a> Asked<'a> {
-    pub fn plan(settings: Settings<'a>) -> Asked<'a> {
+impl Asked {
+    pub fn plan(settings: Settings) -> Asked {
         Asked { settings: Some(settings), numbers: None }
     }
 }

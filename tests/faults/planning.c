@@ -68,6 +68,7 @@ uint64_t vempaldi_blocks(const uint8_t *table, size_t table_length, struct vempa
     table_length = length_in("blocks", table_length), settings = settings_in("blocks", settings);
     if (fault("blocks-processors-16-bits")) settings.processors &= 0xffff;
     if (fault("blocks-line-0") && settings.line == 0) settings.line = 1;
+    if (fault("blocks-line-highest") && settings.line == UINT32_MAX) settings.line = 1;
     if (fault("blocks-line-64-refused") && settings.line == 64) settings.line = 65;
     uint64_t written = real_vempaldi_blocks(table, table_length, settings, out, out_length, answer);
     written = misalign(table, table_length, settings, out, out_length, answer, written);

@@ -34,7 +34,7 @@ fn read_number(name: &str, word: &OsStr) -> Result<u32, Failure> {
 }
 
 /// The file's name, and the settings that the words behind it say.
-fn read_words(words: &[OsString]) -> Result<(&OsString, Settings<'static>), Failure> {
+fn read_words(words: &[OsString]) -> Result<(&OsString, Settings), Failure> {
     match words {
         [file, processors] => Ok((file, Settings::new(read_number("P", processors)?))),
         [file, processors, line] => {

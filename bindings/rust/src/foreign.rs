@@ -7,8 +7,8 @@ pub type Answer = [u64; 4];
 
 /// Bytes in, bytes out.
 pub type OfTable = unsafe extern "C" fn(*const u8, usize, *mut u8, usize, *mut Answer) -> u64;
-pub type OfPlan = unsafe extern "C" fn(*const u8, usize, Settings<'_>, *mut u8, usize, *mut Answer) -> u64;
-pub type OfProcessor = unsafe extern "C" fn(*const u8, usize, Settings<'_>, u32, *mut u8, usize, *mut Answer) -> u64;
+pub type OfPlan = unsafe extern "C" fn(*const u8, usize, Settings, *mut u8, usize, *mut Answer) -> u64;
+pub type OfProcessor = unsafe extern "C" fn(*const u8, usize, Settings, u32, *mut u8, usize, *mut Answer) -> u64;
 
 extern "C" {
     pub fn vempaldi_version() -> u32;
@@ -26,12 +26,12 @@ extern "C" {
     pub fn vempaldi_shifts_and_peels(t: *const u8, n: usize, out: *mut u8, room: usize, answer: *mut Answer) -> u64;
     pub fn vempaldi_threshold(t: *const u8, n: usize, out: *mut u8, room: usize, answer: *mut Answer) -> u64;
     pub fn vempaldi_sweeps(t: *const u8, n: usize, out: *mut u8, room: usize, answer: *mut Answer) -> u64;
-    pub fn vempaldi_blocks(t: *const u8, n: usize, s: Settings<'_>, out: *mut u8, room: usize, answer: *mut Answer) -> u64;
-    pub fn vempaldi_listing(t: *const u8, n: usize, s: Settings<'_>, out: *mut u8, room: usize, answer: *mut Answer) -> u64;
+    pub fn vempaldi_blocks(t: *const u8, n: usize, s: Settings, out: *mut u8, room: usize, answer: *mut Answer) -> u64;
+    pub fn vempaldi_listing(t: *const u8, n: usize, s: Settings, out: *mut u8, room: usize, answer: *mut Answer) -> u64;
     pub fn vempaldi_fused_list(
         t: *const u8,
         n: usize,
-        s: Settings<'_>,
+        s: Settings,
         processor: u32,
         out: *mut u8,
         room: usize,
@@ -40,7 +40,7 @@ extern "C" {
     pub fn vempaldi_peeled_list(
         t: *const u8,
         n: usize,
-        s: Settings<'_>,
+        s: Settings,
         processor: u32,
         out: *mut u8,
         room: usize,
@@ -49,7 +49,7 @@ extern "C" {
     pub fn vempaldi_fused_ranges(
         t: *const u8,
         n: usize,
-        s: Settings<'_>,
+        s: Settings,
         processor: u32,
         out: *mut u8,
         room: usize,
@@ -58,7 +58,7 @@ extern "C" {
     pub fn vempaldi_peeled_ranges(
         t: *const u8,
         n: usize,
-        s: Settings<'_>,
+        s: Settings,
         processor: u32,
         out: *mut u8,
         room: usize,
@@ -68,7 +68,7 @@ extern "C" {
     pub fn vempaldi_step(
         t: *const u8,
         n: usize,
-        s: Settings<'_>,
+        s: Settings,
         processor: u32,
         counts: *mut [u32; 64],
         memory: *mut f64,
@@ -79,7 +79,7 @@ extern "C" {
     pub fn vempaldi_run(
         t: *const u8,
         n: usize,
-        s: Settings<'_>,
+        s: Settings,
         order: *const u8,
         order_length: usize,
         memory: *mut f64,

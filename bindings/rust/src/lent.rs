@@ -10,7 +10,7 @@ pub fn of_table(entry: OfTable, table: &[u8], room: usize) -> Result<Vec<u32>, R
     Ok(numbers(&bytes))
 }
 
-pub fn of_plan(entry: OfPlan, table: &[u8], settings: Settings<'_>, room: usize) -> Result<Vec<u8>, Refusal> {
+pub fn of_plan(entry: OfPlan, table: &[u8], settings: Settings, room: usize) -> Result<Vec<u8>, Refusal> {
     // SAFETY: as in `of_table`.
     call(room, |out, room, answer| unsafe { entry(table.as_ptr(), table.len(), settings, out, room, answer) })
 }
@@ -18,7 +18,7 @@ pub fn of_plan(entry: OfPlan, table: &[u8], settings: Settings<'_>, room: usize)
 pub fn of_processor(
     entry: OfProcessor,
     table: &[u8],
-    settings: Settings<'_>,
+    settings: Settings,
     processor: u32,
     room: usize,
 ) -> Result<Vec<u32>, Refusal> {

@@ -106,13 +106,13 @@ pub fn sweeps(table: &[u8]) -> Result<Sweeps, Refusal> {
 }
 
 /// The blocks of a plan, one for each processor. Each but the last has a whole number of lines.
-pub fn blocks<'a>(table: &[u8], settings: impl Into<Settings<'a>>) -> Result<Vec<Block>, Refusal> {
+pub fn blocks(table: &[u8], settings: impl Into<Settings>) -> Result<Vec<Block>, Refusal> {
     let numbers = numbers(&of_plan(vempaldi_blocks, table, settings.into(), BLOCK_BYTES)?);
     Ok(pairs(&numbers).map(|(first, last)| Block { first, last }).collect())
 }
 
 /// The plan as text, line by line.
-pub fn listing<'a>(table: &[u8], settings: impl Into<Settings<'a>>) -> Result<String, Refusal> {
+pub fn listing(table: &[u8], settings: impl Into<Settings>) -> Result<String, Refusal> {
     let bytes = of_plan(vempaldi_listing, table, settings.into(), LISTING_BYTES)?;
     Ok(String::from_utf8_lossy(&bytes).into_owned())
 }
@@ -129,30 +129,30 @@ pub fn listing<'a>(table: &[u8], settings: impl Into<Settings<'a>>) -> Result<St
 /// assert_eq!(vempaldi::fused_ranges(&table, Settings::new(2).line(4), 0)?, [1..9, 1..8]);
 /// # Ok::<(), vempaldi::Refusal>(())
 /// ```
-pub fn fused_ranges<'a>(table: &[u8], settings: impl Into<Settings<'a>>, processor: u32) -> Result<Vec<Range<u32>>, Refusal> {
+pub fn fused_ranges(table: &[u8], settings: impl Into<Settings>, processor: u32) -> Result<Vec<Range<u32>>, Refusal> {
     ranges(vempaldi_fused_ranges, table, settings.into(), processor)
 }
 
 /// What a processor runs past the barrier, as a range of each loop, `0..0` where it is empty. Its peeled list has them loop by loop.
-pub fn peeled_ranges<'a>(table: &[u8], settings: impl Into<Settings<'a>>, processor: u32) -> Result<Vec<Range<u32>>, Refusal> {
+pub fn peeled_ranges(table: &[u8], settings: impl Into<Settings>, processor: u32) -> Result<Vec<Range<u32>>, Refusal> {
     ranges(vempaldi_peeled_ranges, table, settings.into(), processor)
 }
 
 /// What a processor runs before the barrier, in its order.
-pub fn fused_list<'a>(table: &[u8], settings: impl Into<Settings<'a>>, processor: u32) -> Result<Vec<Iteration>, Refusal> {
+pub fn fused_list(table: &[u8], settings: impl Into<Settings>, processor: u32) -> Result<Vec<Iteration>, Refusal> {
     let settings = settings.into();
     let ranges = fused_ranges(table, settings, processor)?;
     list(vempaldi_fused_list, table, settings, processor, &ranges)
 }
 
 /// What a processor runs past the barrier, in its order.
-pub fn peeled_list<'a>(table: &[u8], settings: impl Into<Settings<'a>>, processor: u32) -> Result<Vec<Iteration>, Refusal> {
+pub fn peeled_list(table: &[u8], settings: impl Into<Settings>, processor: u32) -> Result<Vec<Iteration>, Refusal> {
     let settings = settings.into();
     let ranges = peeled_ranges(table, settings, processor)?;
     list(vempaldi_peeled_list, table, settings, processor, &ranges)
 }
 
-fn ranges(entry: OfProcessor, table: &[u8], settings: Settings<'_>, processor: u32) -> Result<Vec<Range<u32>>, Refusal> {
+fn ranges(entry: OfProcessor, table: &[u8], settings: Settings, processor: u32) -> Result<Vec<Range<u32>>, Refusal> {
     let numbers = of_processor(entry, table, settings, processor, RANGE_BYTES)?;
     Ok(pairs(&numbers).map(|(first, past)| first..past).collect())
 }
@@ -161,7 +161,7 @@ fn ranges(entry: OfProcessor, table: &[u8], settings: Settings<'_>, processor: u
 fn list(
     entry: OfProcessor,
     table: &[u8],
-    settings: Settings<'_>,
+    settings: Settings,
     processor: u32,
     ranges: &[Range<u32>],
 ) -> Result<Vec<Iteration>, Refusal> {

@@ -79,9 +79,9 @@ pub fn plain_run(table: &[u8], memory: &mut [f64]) -> Result<(), Refusal> {
 /// assert_eq!(state.counts[1], 9);
 /// # Ok::<(), vempaldi::Refusal>(())
 /// ```
-pub fn step<'a>(
+pub fn step(
     table: &[u8],
-    settings: impl Into<Settings<'a>>,
+    settings: impl Into<Settings>,
     processor: u32,
     state: &mut State,
     memory: &mut [f64],
@@ -117,7 +117,7 @@ pub fn step<'a>(
 /// assert_eq!(fused, plain);
 /// # Ok::<(), vempaldi::Refusal>(())
 /// ```
-pub fn run<'a>(table: &[u8], settings: impl Into<Settings<'a>>, order: &[u8], memory: &mut [f64]) -> Result<u64, Refusal> {
+pub fn run(table: &[u8], settings: impl Into<Settings>, order: &[u8], memory: &mut [f64]) -> Result<u64, Refusal> {
     let mut answer = [0; 4];
     let settings = settings.into();
     let (numbers, count) = (memory.as_mut_ptr(), memory.len());

@@ -1,7 +1,5 @@
 //! What settles a table's lists beside the table itself.
 
-use std::marker::PhantomData;
-
 /// How many processors there are and how long a line is. Every call that plans takes it, or a number alone, which is a count of processors
 /// with lines of one iteration; all calls of a row of steps take the same.
 ///
@@ -17,24 +15,23 @@ use std::marker::PhantomData;
 /// # Ok::<(), vempaldi::Refusal>(())
 /// ```
 ///
-/// A later version may add to it, for example plans that are lent as bytes. So it is made with [`new`](Settings::new) and not as a literal,
-/// and has a lifetime, though nothing is lent by it yet: what callers write today still compiles then.
+/// A later version may add to it: numbers, and bytes, which a method then copies into an array of a fixed size, so that nothing is lent by it.
+/// It is made with [`new`](Settings::new) and not as a literal, so what callers write today still compiles then and gives the same.
 #[derive(Clone, Copy, Debug, PartialEq, Eq, Hash)]
 #[non_exhaustive]
 #[repr(C)]
-pub struct Settings<'a> {
+pub struct Settings {
     /// P: 1 to 64, else every call is refused with [`Ground::Processors`](crate::Ground::Processors).
     pub processors: u32,
     /// W, how many iterations store into one cache line: 1 to 64, else every call is refused with [`Ground::Line`](crate::Ground::Line).
     /// Blocks begin on whole lines, which count from the least first of all loops.
     pub line: u32,
-    lent: PhantomData<&'a [u8]>,
 }
 
-impl Settings<'_> {
+impl Settings {
     /// For so many processors, lines of one iteration, and nothing else.
     pub fn new(processors: u32) -> Self {
-        Settings { processors, line: 1, lent: PhantomData }
+        Settings { processors, line: 1 }
     }
 
     /// The same with lines of so many iterations.
@@ -43,7 +40,7 @@ impl Settings<'_> {
     }
 }
 
-impl From<u32> for Settings<'_> {
+impl From<u32> for Settings {
     fn from(processors: u32) -> Self {
         Settings::new(processors)
     }

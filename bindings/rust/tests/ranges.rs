@@ -28,7 +28,7 @@ fn tables() -> Vec<Vec<u8>> {
 const LINES: [u32; 4] = [1, 3, 8, LONGEST_LINE];
 
 /// Every table with every number of processors that is accepted for it, with each of these lines.
-fn plans() -> impl Iterator<Item = (Vec<u8>, Settings<'static>)> {
+fn plans() -> impl Iterator<Item = (Vec<u8>, Settings)> {
     let settings = || LINES.into_iter().flat_map(|line| (1..=MOST_PROCESSORS).map(move |count| Settings::new(count).line(line)));
     let each = move |table: Vec<u8>| settings().map(move |settings| (table.clone(), settings));
     tables().into_iter().flat_map(each).filter(|(table, settings)| blocks(table, *settings).is_ok())
