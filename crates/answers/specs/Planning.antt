@@ -8,6 +8,7 @@ use lib.ListN.{length}
 use lib.Ieee.{Float}
 use borrow.Author.Tests.{eq-eqb}
 use Rattle.refusals.specs.declared.Refusal.{Refusal}
+use Rattle.refusals.specs.Refusals.{met}
 use Rattle.refusals.specs.Answers.{accepted, refused}
 use Rattle.numbers.specs.Numbers.{encoded}
 use Rattle.outputs.specs.Given.{fitted}
@@ -17,9 +18,11 @@ use Rattle.plans.specs.Plans.{Settings, Planned, planned, plannedFor}
 use Rattle.entries.specs.Entries.{blocksOf, listedOf, rangesOf, blocksGiven, listGiven, rangesGiven}
 use Rattle.iterations.specs.Memory.{remembered}
 use Rattle.turns.specs.Turn.{refuses, stays, stepped}
-use Rattle.turns.specs.Row.{noneDone, reports, memoryAfter, idle}
+use Rattle.turns.specs.Row.{noneDone, reports, memoryAfter, idle, listed, rowOf}
 use Rattle.stepping.specs.Step.{workOf, elements, steppedBy, step}
-use Rattle.stepping.specs.Run.{runAnswer, runRow, runMemory, runIdle}
+use Rattle.stepping.specs.Run.{runAnswer, runMemory, runIdle}
+use Rattle.answers.specs.Statements.{OtherLength}
+use Rattle.answers.specs.Where.{twelve-where}
 
 module _ (s : List ℕ) (w : Settings) where
   -- WHERE THE PLANNER REFUSES
@@ -51,16 +54,22 @@ module _ (s : List ℕ) (w : Settings) where
     unfolding blocksGiven
     blocks-planned room = rw e
 
+    pub run-other-length : (n : ℕ) → OtherLength n (elements q) → runAnswer s w n ≡ refused (met 12 0)
+    run-other-length n h = twelve-where (planned s w) q e elements n h
+
     module _ (order : List ℕ) (m : List Float) (fits : length m ≡ elements q) where
       pub run-planned : runAnswer s w (length m) ≡ accepted q
       unfolding remembered
       run-planned = rw (e, eq-eqb (length m) (elements q) fits)
 
-      pub run-memory-planned : runMemory s w order m ≡ memoryAfter (step s w) (runRow s w order m q) noneDone m
+      -- its calls are those of the row that takes the order, byte by byte, and then the lowest-numbered processor that can step
+      pub run-memory-planned : runMemory s w order m
+          ≡ memoryAfter (step s w) (rowOf (step s w) (q .plan .processors) (listed (workOf q)) order m) noneDone m
       unfolding runMemory
       run-memory-planned = rw run-planned
 
-      pub run-idle-planned : runIdle s w order m ≡ idle (reports (step s w) (runRow s w order m q) noneDone m)
+      pub run-idle-planned : runIdle s w order m
+          ≡ idle (reports (step s w) (rowOf (step s w) (q .plan .processors) (listed (workOf q)) order m) noneDone m)
       unfolding runIdle
       run-idle-planned = rw run-planned
 
@@ -77,3 +86,8 @@ module _ (s : List ℕ) (w : Settings) where
         → step s w b counts m ≡ stepped (iteration 0 0) (workOf q) (run (q .table)) b counts m
     unfolding step steppedBy remembered
     step-planned counts m fits = rw (e, eq-eqb (length m) (elements q) fits)
+
+    pub step-other-length : (counts : List ℕ) (m : List Float) → OtherLength (length m) (elements q)
+        → step s w b counts m ≡ stays counts m (refuses (met 12 0))
+    unfolding step steppedBy
+    step-other-length counts m h = rw (twelve-where (plannedFor s w b) q e elements (length m) h)

@@ -140,53 +140,53 @@ module _ (T W P : ℕ) where
       go (no l) (no m) = omega arith
 
 -- GROUND 11: given, it holds; not given, it does not hold
-module _ (T W P w : ℕ) where
-  pub short-given : isShort T W P w ≡ true → (lines T W < P) ⊎ ((2 ≤ P) × (b : ℕ) × (b < P) × (width T W P b < w))
+module _ (T W P threshold : ℕ) where
+  pub short-given : isShort T W P threshold ≡ true → (lines T W < P) ⊎ ((2 ≤ P) × (b : ℕ) × (b < P) × (width T W P b < threshold))
   unfolding isShort
-  short-given = go (ltb (lines T W) P) (leb 2 P) (some P (λ b. ltb (width T W P b) w)) refl refl refl
+  short-given = go (ltb (lines T W) P) (leb 2 P) (some P (λ b. ltb (width T W P b) threshold)) refl refl refl
     where
-      go : (x y z : Bool) → ltb (lines T W) P ≡ x → leb 2 P ≡ y → some P (λ b. ltb (width T W P b) w) ≡ z → (x || y && z) ≡ true
-          → (lines T W < P) ⊎ ((2 ≤ P) × (b : ℕ) × (b < P) × (width T W P b < w))
+      go : (x y z : Bool) → ltb (lines T W) P ≡ x → leb 2 P ≡ y → some P (λ b. ltb (width T W P b) threshold) ≡ z → (x || y && z) ≡ true
+          → (lines T W < P) ⊎ ((2 ≤ P) × (b : ℕ) × (b < P) × (width T W P b < threshold))
       go true y z e f g q = inl (ltb-true (lines T W) P e)
       go false true true e f g q =
-          let (b, l, h) = some-which P (λ b. ltb (width T W P b) w) g in
-          inr (leb-true 2 P f, b, l, ltb-true (width T W P b) w h)
+          let (b, l, h) = some-which P (λ b. ltb (width T W P b) threshold) g in
+          inr (leb-true 2 P f, b, l, ltb-true (width T W P b) threshold h)
       go false true false e f g q = absurd (false≢true q)
       go false false z e f g q = absurd (false≢true q)
 
-  pub short-not : isShort T W P w ≡ false → (P ≤ lines T W) × (2 ≤ P → (b : ℕ) → b < P → w ≤ width T W P b)
+  pub short-not : isShort T W P threshold ≡ false → (P ≤ lines T W) × (2 ≤ P → (b : ℕ) → b < P → threshold ≤ width T W P b)
   unfolding isShort
-  short-not = go (ltb (lines T W) P) (leb 2 P) (some P (λ b. ltb (width T W P b) w)) refl refl refl
+  short-not = go (ltb (lines T W) P) (leb 2 P) (some P (λ b. ltb (width T W P b) threshold)) refl refl refl
     where
-      go : (x y z : Bool) → ltb (lines T W) P ≡ x → leb 2 P ≡ y → some P (λ b. ltb (width T W P b) w) ≡ z → (x || y && z) ≡ false
-          → (P ≤ lines T W) × (2 ≤ P → (b : ℕ) → b < P → w ≤ width T W P b)
+      go : (x y z : Bool) → ltb (lines T W) P ≡ x → leb 2 P ≡ y → some P (λ b. ltb (width T W P b) threshold) ≡ z → (x || y && z) ≡ false
+          → (P ≤ lines T W) × (2 ≤ P → (b : ℕ) → b < P → threshold ≤ width T W P b)
       go true y z e f g q = absurd (false≢true (sym q))
       go false true true e f g q = absurd (false≢true (sym q))
       go false true false e f g q =
-          (ltb-false (lines T W) P e, λ l b i. ltb-false (width T W P b) w (some-each P b (λ b. ltb (width T W P b) w) g i))
+          (ltb-false (lines T W) P e, λ l b i. ltb-false (width T W P b) threshold (some-each P b (λ b. ltb (width T W P b) threshold) g i))
       go false false z e f g q = (ltb-false (lines T W) P e, λ l. absurd (omega (arith, leb-false 2 P f)))
 
   -- the last block alone decides
-  pub short-at : 0 < W → isShort T W P w ≡ (ltb (lines T W) P || leb 2 P && ltb (T - before T W P (P - 1)) w)
+  pub short-at : 0 < W → isShort T W P threshold ≡ (ltb (lines T W) P || leb 2 P && ltb (T - before T W P (P - 1)) threshold)
   unfolding isShort
   short-at wide = go (ltb (lines T W) P) (leb 2 P) refl refl
     where
-      least : 2 ≤ P → P ≤ lines T W → some P (λ b. ltb (width T W P b) w) ≡ ltb (T - before T W P (P - 1)) w
-      least two enough = at (ltb (T - before T W P (P - 1)) w) refl
+      least : 2 ≤ P → P ≤ lines T W → some P (λ b. ltb (width T W P b) threshold) ≡ ltb (T - before T W P (P - 1)) threshold
+      least two enough = at (ltb (T - before T W P (P - 1)) threshold) refl
         where
           e : suc (P - 1) ≡ P
           e = omega arith
 
-          at : (t : Bool) → ltb (T - before T W P (P - 1)) w ≡ t → some P (λ b. ltb (width T W P b) w) ≡ t
+          at : (t : Bool) → ltb (T - before T W P (P - 1)) threshold ≡ t → some P (λ b. ltb (width T W P b) threshold) ≡ t
           at true q =
-              some-here P (P - 1) (λ b. ltb (width T W P b) w) (omega arith)
-              (lt-ltb (width T W P (P - 1)) w (omega (arith, ltb-true (T - before T W P (P - 1)) w q, ap (before T W P) e ∙ before-last T W P wide (omega arith))))
+              some-here P (P - 1) (λ b. ltb (width T W P b) threshold) (omega arith)
+              (lt-ltb (width T W P (P - 1)) threshold (omega (arith, ltb-true (T - before T W P (P - 1)) threshold q, ap (before T W P) e ∙ before-last T W P wide (omega arith))))
           at false q =
-              some-none P (λ b. ltb (width T W P b) w)
-              (λ b l. le-ltb (width T W P b) w (omega (arith, ltb-false (T - before T W P (P - 1)) w q, width-least T W P wide (omega arith) enough b l)))
+              some-none P (λ b. ltb (width T W P b) threshold)
+              (λ b l. le-ltb (width T W P b) threshold (omega (arith, ltb-false (T - before T W P (P - 1)) threshold q, width-least T W P wide (omega arith) enough b l)))
 
       go : (x y : Bool) → ltb (lines T W) P ≡ x → leb 2 P ≡ y
-          → (x || y && some P (λ b. ltb (width T W P b) w)) ≡ (x || y && ltb (T - before T W P (P - 1)) w)
+          → (x || y && some P (λ b. ltb (width T W P b) threshold)) ≡ (x || y && ltb (T - before T W P (P - 1)) threshold)
       go true y e f = refl
       go false true e f = least (leb-true 2 P f) (ltb-false (lines T W) P e)
       go false false e f = refl
@@ -201,11 +201,11 @@ module _ (T P : ℕ) (pos : 0 < P) where
   unfolding before
   before-one b l = omega (arith, ap (λ (n : ℕ). 1 * start n P b) (lines-one T) ∙ one-mul (start T P b), start-up T P b P l, start-last T P pos)
 
-  pub short-one : (w : ℕ) → isShort T 1 P w ≡ (ltb T P || leb 2 P && some P (λ b. ltb (size T P b) w))
+  pub short-one : (threshold : ℕ) → isShort T 1 P threshold ≡ (ltb T P || leb 2 P && some P (λ b. ltb (size T P b) threshold))
   unfolding isShort
-  short-one w =
+  short-one threshold =
       rw (
         lines-one T,
-        some-same P (λ b. ltb (width T 1 P b) w) (λ b. ltb (size T P b) w)
-            (λ b l. ap (λ (x : ℕ). ltb x w) (omega (arith, before-one b (omega arith), before-one (suc b) l, start-next T P b))),
+        some-same P (λ b. ltb (width T 1 P b) threshold) (λ b. ltb (size T P b) threshold)
+            (λ b l. ap (λ (x : ℕ). ltb x threshold) (omega (arith, before-one b (omega arith), before-one (suc b) l, start-next T P b))),
       )

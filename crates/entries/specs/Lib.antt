@@ -4,3 +4,5 @@ pub mod Entries
 pub mod EntryLaws
 -- what the code below the entries asks and gives
 pub mod Code
+-- which number is which
+pub mod Places

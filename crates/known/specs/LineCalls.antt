@@ -12,7 +12,7 @@ use Rattle.refusals.specs.Answers.{accepted, refused, refusalOf}
 use Rattle.numbers.specs.Numbers.{four, encoded}
 use Rattle.outputs.specs.Given.{fitted, countOf}
 use Rattle.plans.specs.Plans.{Settings, settings, onLines, plannedFor}
-use Rattle.entries.specs.Entries.{blocksGiven, listGiven, rangesGiven, fusedGiven, peeledGiven, fusedRangesGiven}
+use Rattle.entries.specs.Entries.{blocksGiven, listGiven, rangesGiven, fusedGiven, peeledGiven, fusedRangesGiven, peeledRangesGiven}
 use Rattle.printing.specs.Printing.{listingGiven}
 use Rattle.turns.specs.Turn.{Said, performs, refuses, waits}
 use Rattle.turns.specs.Row.{noneDone}
@@ -64,9 +64,13 @@ pub record LineCalls : Type 0 where
   pub fused-line : fusedGiven example tooLong 0 0 ≡ refused (met 17 0)
   pub peeled-line : peeledGiven example tooLong 0 0 ≡ refused (met 17 0)
   pub ranges-line : fusedRangesGiven example tooLong 0 0 ≡ refused (met 17 0)
+  pub peeled-ranges-line : peeledRangesGiven example tooLong 0 0 ≡ refused (met 17 0)
   pub listing-line : listingGiven example tooLong 0 ≡ refused (met 17 0)
   pub run-line : refusalOf (runAnswer example tooLong 0) ≡ met 17 0
   pub step-line : saidOn tooLong 0 (times 64 (1 ∷ [])) [] ≡ refuses (met 17 0)
+  -- and where W is right, 12 of a run and of a step
+  pub run-memory : refusalOf (runAnswer example fours 35) ≡ met 12 0
+  pub step-memory : saidOn fours 0 noneDone [] ≡ refuses (met 12 0)
   pub step-number : saidOn tooLong 2 (times 64 (1 ∷ [])) [] ≡ refuses (met 10 0)
   -- as the struct of C is where it was not made with its function: a line of 0
   pub blocks-zero : blocksGiven example (onLines 0 (settings 2)) 16 ≡ refused (met 17 0)
@@ -89,9 +93,12 @@ line-calls = record {
   fused-line = refl;
   peeled-line = refl;
   ranges-line = refl;
+  peeled-ranges-line = refl;
   listing-line = refl;
   run-line = refl;
   step-line = refl;
+  run-memory = refl;
+  step-memory = refl;
   step-number = refl;
   blocks-zero = refl;
 }

@@ -30,7 +30,7 @@ use Rattle.blocks.specs.Blocks.{isShort}
 use Rattle.plans.specs.declared.Plan.{Plan}
 use Rattle.plans.specs.Plans.{Settings, Planned, thresholdOf, planOf, shortFor, badLine, fits, fitting}
 use Rattle.tables.specs.Nine.{valid}
-use Rattle.plans.specs.Accepted.{in-range, threshold-small, span-small}
+use Rattle.plans.specs.Accepted.{not-outside, threshold-small, span-small}
 use Rattle.plans.specs.Code.{Plans, refusing}
 
 -- THE SPAN, over the loops of a store
@@ -65,7 +65,7 @@ module _ (w : Settings) (c : List ℕ) (h : Held c) (v : Valid (tableIn c)) (a :
   -- what asking for 11 needs
   pub short-asks : badLine w ≡ false → (x : Span) → x ≡ tableSpan (tableIn c) → (0 < w .line) × (x .count + w .line < 2 ^ 32)
   short-asks fine x e =
-      let (some, few) = in-range 64 (w .line) fine in
+      let (some, few) = not-outside 64 (w .line) fine in
       (some, omega (arith, ap (λ (q : Span). q .count) e, span-small (tableIn c) v))
 
   module _ (x : Span) (u : ℕ) (b : Bool) (span-is : x ≡ tableSpan (tableIn c)) (found : u ≡ threshold (a .shifts) (a .peels)) (asked : b ≡ isShort (x .count) (w .line) (w .processors) u) where
@@ -93,8 +93,8 @@ module _ (w : Settings) (c : List ℕ) (h : Held c) (v : Valid (tableIn c)) (a :
         kept = record {
           shifts-long = ap length shifts-are ∙ numbers-length backward (graph (tableIn c));
           peels-long = ap length peels-are ∙ numbers-length forward (graph (tableIn c));
-          some-line = in-range 64 (w .line) fine .0;
-          short-line = in-range 64 (w .line) fine .1;
+          some-line = not-outside 64 (w .line) fine .0;
+          short-line = not-outside 64 (w .line) fine .1;
         };
       };
     }

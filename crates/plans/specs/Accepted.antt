@@ -55,8 +55,8 @@ pub record AcceptedPlan (s : List ℕ) (w : Settings) (q : Planned) : Type 0 whe
   pub fit : Fit (q .table) (q .plan)
 
 -- not outside
-pub in-range : (most n : ℕ) → outside most n ≡ false → (0 < n) × (n ≤ most)
-in-range most n e =
+pub not-outside : (most n : ℕ) → outside most n ≡ false → (0 < n) × (n ≤ most)
+not-outside most n e =
     let (z, l) = neither (eqb n 0) (ltb most n) e in
     let some = eqb-false n 0 z in
     (omega (arith, some), ltb-false most n l)
@@ -97,11 +97,11 @@ module _ (t : Table) (v : Valid t) where
     plan-rises pos m e b l =
         let T = tableSpan t .count in
         let P = w .processors in
-        omega (arith, before-rises T (w .line) P (in-range 64 (w .line) m .0) pos (short-not T (w .line) P (thresholdOf t) e .0) b l)
+        omega (arith, before-rises T (w .line) P (not-outside 64 (w .line) m .0) pos (short-not T (w .line) P (thresholdOf t) e .0) b l)
 
     pub plan-fits : Sound t → badProcessors w ≡ false → badLine w ≡ false → shortFor t w ≡ false → Fit t (planOf t w)
     plan-fits sound b f e =
-        let (pos, few) = in-range 64 (w .processors) b in
+        let (pos, few) = not-outside 64 (w .processors) b in
         record {
           valid = v;
           sound = sound;

@@ -17,7 +17,7 @@ use Rattle.blocks.specs.LineLaws.{before-first, before-up, before-last, before-
 use Rattle.lists.specs.Fusion.{fusedList}
 use Rattle.lists.specs.FusionLaws.{fused-list}
 use Rattle.plans.specs.Plans.{Settings, Planned, planOf, thresholdOf, planned}
-use Rattle.plans.specs.Accepted.{AcceptedPlan, in-range, planned-accepts}
+use Rattle.plans.specs.Accepted.{AcceptedPlan, not-outside, planned-accepts}
 use Rattle.plans.specs.OnLines.{OnLines}
 
 module _ (s : List ℕ) (w : Settings) (q : Planned) (planned-is : planned s w ≡ accepted q) where
@@ -28,10 +28,10 @@ module _ (s : List ℕ) (w : Settings) (q : Planned) (planned-is : planned s w �
   law = planned-accepts s w q planned-is
 
   wide : 0 < w .line
-  wide = in-range 64 (w .line) (law .not-seventeen) .0
+  wide = not-outside 64 (w .line) (law .not-seventeen) .0
 
   pos : 0 < w .processors
-  pos = in-range 64 (w .processors) (law .not-ten) .0
+  pos = not-outside 64 (w .processors) (law .not-ten) .0
 
   enough : w .processors ≤ lines (tableSpan t .count) (w .line)
   enough = short-not (tableSpan t .count) (w .line) (w .processors) (thresholdOf t) (law .not-eleven) .0
