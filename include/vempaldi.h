@@ -28,9 +28,9 @@ extern "C" {
 /* The version of this header; vempaldi_version() is that of the library linked. While the first number is 0, a new second number may
  * change what callers see (CHANGELOG.md says what). */
 #define VEMPALDI_VERSION_MAJOR 0
-#define VEMPALDI_VERSION_MINOR 3
+#define VEMPALDI_VERSION_MINOR 4
 #define VEMPALDI_VERSION_PATCH 0
-#define VEMPALDI_VERSION 300 /* the three numbers as one: MAJOR * 10000 + MINOR * 100 + PATCH */
+#define VEMPALDI_VERSION 400 /* the three numbers as one: MAJOR * 10000 + MINOR * 100 + PATCH */
 
 /* The grounds of refusal. An answer is four numbers: answer[0] the ground's number, answer[1] its place, answer[2] and answer[3] what the
  * refusal names. An accepted call answers 0, 0, 0, 0.
@@ -53,16 +53,20 @@ extern "C" {
  *   15     state       a count above its lists, a peeled step before the barrier, or a count above 0
  *                      for a processor not below P                                                   0        0, 0
  *   17     line        a line's length W is outside 1 to 64                                          0        0, 0
+ *   19     plan        a plan by hand has not 8 bytes for each loop, or a number above 10,000        0        0, 0
+ *   20     unmet       a plan by hand does not meet some dependence                                  earlier  later, 0
  *
- * No call gives 16.
+ * No call gives 16 or 18.
  * 'byte' is the place of the record's kind byte, counted from 0 (the table's length if that byte is absent); for 8 it is the first
  * byte too many. (*) In joining, 4 for more than 16 loops in all has place 0; 4 of one of its tables has that table's byte.
  * 'loop' is the lowest loop of which two iterations meet, and 'read' is the lowest of its reads that meets the destination in another
  * iteration, numbered from 0 among that loop's reads in byte order. So the answer to a table is always the same. Once a loop may have
  * several statements, 9 will name a pair of references in answer[2] and answer[3]; a loop with one statement will then have its
  * destination, 0, and this read's number and one.
- * Where several grounds hold, the first record decides, then the order 8, 9, 10, 17, 11, 12, 15, 13; in joining left's 1 to 9, then right's,
- * then 14, 4 (more than 16 loops in all), 13. */
+ * 'earlier' and 'later' are a pair of loops with a dependence from the one to the other that the plan does not meet: the lowest earlier
+ * loop of such pairs, and with it the lowest later one.
+ * Where several grounds hold, the first record decides, then the order 8, 9, 19, 20, 10, 17, 11, 12, 15, 13; in joining left's 1 to 9, then
+ * right's, then 14, 4 (more than 16 loops in all), 13. */
 enum vempaldi_ground {
     VEMPALDI_ACCEPTED = 0,
     VEMPALDI_TORN = 1,
@@ -80,13 +84,15 @@ enum vempaldi_ground {
     VEMPALDI_BUFFER = 13,
     VEMPALDI_UNLIKE = 14,
     VEMPALDI_STATE = 15,
-    VEMPALDI_LINE = 17
+    VEMPALDI_LINE = 17,
+    VEMPALDI_PLAN = 19,
+    VEMPALDI_UNMET = 20
 };
 
-/* The words of the grounds, by number; there is none for 16. */
+/* The words of the grounds, by number; there is none for 16 and 18. */
 #define VEMPALDI_WORDS                                                                                                                   \
     { "accepted", "torn", "kind", "field", "crowd", "array", "body", "edge", "tail", "serial", "processors", "short", "memory", "buffer", \
-      "unlike", "state", "", "line" }
+      "unlike", "state", "", "line", "", "plan", "unmet" }
 
 /* How many bytes follow a record's kind byte, by kind: array, loop, read, constant, operation, end. There is no kind 0. */
 #define VEMPALDI_BODY_LENGTHS { 0, 4, 11, 3, 4, 1, 0 }
@@ -95,10 +101,11 @@ enum vempaldi_ground {
 enum vempaldi_size {
     VEMPALDI_MOST_PROCESSORS = 64,
     VEMPALDI_LONGEST_LINE = 64,
+    VEMPALDI_MOST_AMOUNT = 10000,   /* no shift and no peel of a plan by hand is above it */
     VEMPALDI_TABLE_BYTES = 2065,    /* the longest accepted table, so also of a joined one */
     VEMPALDI_DECIDING_BYTES = 2077, /* no byte past these changes an answer: reading so many of a file is enough */
     VEMPALDI_FACTS_BYTES = 268,     /* facts of 16 arrays and 16 loops */
-    VEMPALDI_AMOUNT_BYTES = 128,    /* shifts and peels of 16 loops */
+    VEMPALDI_AMOUNT_BYTES = 128,    /* shifts and peels of 16 loops, so also of a plan by hand */
     VEMPALDI_RANGE_BYTES = 128,     /* a processor's ranges in 16 loops */
     VEMPALDI_BLOCK_BYTES = 512,     /* first and last index of 64 blocks */
     VEMPALDI_LISTING_BYTES = 48400  /* no listing has more */
@@ -111,11 +118,25 @@ struct vempaldi_settings {
     uint32_t processors; /* P, how many processors there are: 1 to 64, else 10 */
     uint32_t line;       /* W, how many iterations a line has, counted from the least first of all loops: 1 to 64, else 17. Where an
                           * iteration stores 8 bytes and a cache line has 64, it is 8. Blocks begin on whole lines */
+    uint32_t by_hand;     /* 0: shifts and peels are those of vempaldi_shifts_and_peels. Any other number: those in `plan` */
+    uint32_t plan_length; /* how many bytes the plan by hand has: 8 for each loop of the table, else 19 */
+    uint8_t plan[VEMPALDI_AMOUNT_BYTES]; /* for each loop in table order its shift and its peel, as vempaldi_shifts_and_peels writes them.
+                          * Bytes past plan_length are not looked at; without by_hand neither is looked at */
 };
 
 /* For `processors` processors, lines of one iteration, and nothing else. */
 static inline struct vempaldi_settings vempaldi_for(uint32_t processors) {
-    struct vempaldi_settings settings = { processors, 1 };
+    struct vempaldi_settings settings = { processors, 1, 0, 0, { 0 } };
+    return settings;
+}
+
+/* The same settings with a plan by hand, of `length` bytes, which are copied. A plan with more bytes than 16 loops need is 19 by its length. */
+static inline struct vempaldi_settings vempaldi_with_plan(struct vempaldi_settings settings, const uint8_t *plan, size_t length) {
+    size_t i;
+    settings.by_hand = 1;
+    settings.plan_length = length < UINT32_MAX ? (uint32_t)length : UINT32_MAX;
+    for (i = 0; i < VEMPALDI_AMOUNT_BYTES; i++)
+        settings.plan[i] = i < length ? plan[i] : 0;
     return settings;
 }
 
@@ -157,43 +178,50 @@ uint64_t vempaldi_shifts_and_peels(const uint8_t *table, size_t table_length,
  * Writes one number, 4 bytes. Refuses with 1 to 9, 13. */
 uint64_t vempaldi_threshold(const uint8_t *table, size_t table_length, uint8_t *out, size_t out_length, uint64_t answer[4]);
 
+/* Whether a plan is accepted: the one by hand that the settings have, or else that of the table's own shifts and peels.
+ * Writes the answer alone. The result is the plan's threshold, the largest sum of its shift and peel of one loop; 0 where it is refused.
+ * A plan by hand is accepted where it has a shift and a peel of at most 10,000 for each loop (else 19), where it meets every dependence
+ * (else 20): the later loop's shift is at least the earlier's plus the backward amount, and its peel at least the earlier's plus the
+ * forward amount; and where 10, 17 and 11, the last by its own threshold, don't refuse it. Refuses with 1 to 9, 19, 20, 10, 17, 11. */
+uint64_t vempaldi_check_plan(const uint8_t *table, size_t table_length, struct vempaldi_settings settings, uint64_t answer[4]);
+
 /* Sweeps over the arrays: loop by loop, and with all loops made into one.
  * Writes two numbers, before and after fusion, 8 bytes. Refuses with 1 to 9, 13. */
 uint64_t vempaldi_sweeps(const uint8_t *table, size_t table_length, uint8_t *out, size_t out_length, uint64_t answer[4]);
 
 /* The blocks of a plan.
  * Writes for each block its first and its last index: 8 bytes a block. Each but the last has a whole number of lines. Refuses with 1 to 9,
- * 10, 17, 11, 13. */
+ * 19, 20, 10, 17, 11, 13. */
 uint64_t vempaldi_blocks(const uint8_t *table, size_t table_length, struct vempaldi_settings settings,
                          uint8_t *out, size_t out_length, uint64_t answer[4]);
 
 /* What one processor runs before the barrier, in its order.
  * Writes for each iteration its loop and its index: 8 bytes an iteration. A list has at most (count of loops) times (indices of the
- * processor's block) iterations. Refuses with 1 to 9, 10 (of P, then of `processor`), 17, 11, 13. */
+ * processor's block) iterations. Refuses with 1 to 9, 19, 20, 10 (of P, then of `processor`), 17, 11, 13. */
 uint64_t vempaldi_fused_list(const uint8_t *table, size_t table_length, struct vempaldi_settings settings, uint32_t processor,
                              uint8_t *out, size_t out_length, uint64_t answer[4]);
 
 /* What one processor runs past the barrier, in its order.
- * Writes for each iteration its loop and its index: 8 bytes an iteration. A list has at most (count of loops) times (threshold)
- * iterations, and the last processor's has none. Refuses with 1 to 9, 10 (of P, then of `processor`), 17, 11, 13. */
+ * Writes for each iteration its loop and its index: 8 bytes an iteration. A list has at most (count of loops) times (the
+ * plan's threshold) iterations, and the last processor's has none. Refuses with 1 to 9, 19, 20, 10 (of P, then of `processor`), 17, 11, 13. */
 uint64_t vempaldi_peeled_list(const uint8_t *table, size_t table_length, struct vempaldi_settings settings, uint32_t processor,
                               uint8_t *out, size_t out_length, uint64_t answer[4]);
 
 /* What one processor runs before the barrier, as a range of each loop.
  * Writes for each loop, in table order, the first index of its range and the index past the last one, 0 and 0 where the range is empty:
  * 8 bytes a loop. The processor's fused list has these iterations and no others, in rising order of index plus the loop's shift, equal sums
- * in loop order. Refuses with 1 to 9, 10 (of P, then of `processor`), 17, 11, 13. */
+ * in loop order. Refuses with 1 to 9, 19, 20, 10 (of P, then of `processor`), 17, 11, 13. */
 uint64_t vempaldi_fused_ranges(const uint8_t *table, size_t table_length, struct vempaldi_settings settings, uint32_t processor,
                                uint8_t *out, size_t out_length, uint64_t answer[4]);
 
 /* What one processor runs past the barrier, as a range of each loop.
  * Writes what vempaldi_fused_ranges writes, of the peeled list, which has its iterations loop by loop in rising order. All ranges of the
- * last processor are empty. Refuses with 1 to 9, 10 (of P, then of `processor`), 17, 11, 13. */
+ * last processor are empty. Refuses with 1 to 9, 19, 20, 10 (of P, then of `processor`), 17, 11, 13. */
 uint64_t vempaldi_peeled_ranges(const uint8_t *table, size_t table_length, struct vempaldi_settings settings, uint32_t processor,
                                 uint8_t *out, size_t out_length, uint64_t answer[4]);
 
 /* The plan as text: lines `loop` k shift peel, `block` b first last, `fused` b k from to, `peeled` b k from to, `sweeps` before after.
- * Writes the text, each line with its line feed and no zero byte behind. Refuses with 1 to 9, 10, 17, 11, 13. (No call writes the
+ * Writes the text, each line with its line feed and no zero byte behind. Refuses with 1 to 9, 19, 20, 10, 17, 11, 13. (No call writes the
  * line `refused` number place, which the program `plan` prints.) */
 uint64_t vempaldi_listing(const uint8_t *table, size_t table_length, struct vempaldi_settings settings,
                           uint8_t *out, size_t out_length, uint64_t answer[4]);
@@ -207,7 +235,7 @@ void vempaldi_plain_run(const uint8_t *table, size_t table_length, double *memor
  * left them, and the same settings. Once every iteration has been reported, in whatever order the processors were named, the memory is
  * bit for bit what vempaldi_plain_run leaves from the same start, for every P and W that is accepted.
  * An iteration writes the memory (one element), this processor's count (one more) and the report. Waiting and finished write the
- * report alone: its kind, 0, 0. Refuses with 1 to 9, 10 (of P, then of `processor`), 17, 11, 12, 15.
+ * report alone: its kind, 0, 0. Refuses with 1 to 9, 19, 20, 10 (of P, then of `processor`), 17, 11, 12, 15.
  * Two threads must not step the same memory at the same time. */
 void vempaldi_step(const uint8_t *table, size_t table_length, struct vempaldi_settings settings, uint32_t processor,
                    uint32_t counts[64], double *memory, size_t memory_length, uint32_t report[3], uint64_t answer[4]);
@@ -215,7 +243,7 @@ void vempaldi_step(const uint8_t *table, size_t table_length, struct vempaldi_se
 /* A whole run: one step for each byte of `order`, which names a processor; then the lowest-numbered processor that can step does,
  * until all are finished.
  * Writes the memory. The result is the idle count: how many bytes named a processor that waited or was finished, or a number not
- * below P; 0 where refused. Refuses with 1 to 9, 10, 17, 11, 12. */
+ * below P; 0 where refused. Refuses with 1 to 9, 19, 20, 10, 17, 11, 12. */
 uint64_t vempaldi_run(const uint8_t *table, size_t table_length, struct vempaldi_settings settings,
                       const uint8_t *order, size_t order_length, double *memory, size_t memory_length, uint64_t answer[4]);
 
