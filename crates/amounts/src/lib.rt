@@ -43,7 +43,7 @@ struct Totals {
 
 // Whether some iterations of the loops of x and y, within their bounds, are at elements of one number. That the array is one is asked
 // elsewhere.
-fn meet(store: &Store, x: Reference, y: Reference) -> bool
+pub fn meet(store: &Store, x: Reference, y: Reference) -> bool
     requires { ⌜ Held (now store) × ReferenceFits (tableIn (now store)) x × ReferenceFits (tableIn (now store)) y ⌝ }
     ensures { λ r. ⌜ r ≡ meetIn (tableIn (now (store .entry))) x y ⌝ }
 {
@@ -60,7 +60,7 @@ fn meet(store: &Store, x: Reference, y: Reference) -> bool
 }
 
 // The reference in row r of loop k.
-fn reference_at(store: &Store, k: usize, r: usize, stores: bool) -> Reference
+pub fn reference_at(store: &Store, k: usize, r: usize, stores: bool) -> Reference
     requires { ⌜ r < 528 ⌝ }
     ensures { λ x. ⌜ x ≡ refIn (now (store .entry)) k r stores ⌝ }
 {

@@ -14,6 +14,10 @@ pub mod ChainLaws
 pub mod Legal
 -- legal numbers are above every chain
 pub mod LegalLaws
+-- dependences that given shifts and peels do not meet, and the first pair of loops with one
+pub mod Unmet
+-- that it is the first; where there is none, the numbers are legal
+pub mod UnmetLaws
 -- the largest of several numbers
 pub mod Maximum
 -- laws of it

@@ -46,7 +46,7 @@ fn two_at(s: &[u8], at: usize) -> u32
     one_at(s, at) + 256 * one_at(s, at + 1)
 }
 
-fn four_at(s: &[u8], at: usize) -> u32
+pub fn four_at(s: &[u8], at: usize) -> u32
     requires { ⌜ at + 3 < length (now s) ⌝ }
     ensures { λ r. ⌜ r ≡ four (now (s .entry)) at ⌝ }
 {

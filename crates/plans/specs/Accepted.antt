@@ -2,16 +2,18 @@
 use Prim.Native.Nat.{ℕ, suc, _+_, _≤_, _<_}
 use native.Mathlib.Omega.{arith}
 use mathlib.Core.Path.{_≡_, refl, sym, ap, subst, _∙_}
-use mathlib.Core.Bool.{Bool, false, or-false, or-true}
+use mathlib.Core.Bool.{Bool, true, false, or-false, or-true}
 use mathlib.Core.List.{List}
 use lib.Dec.{eqb, ltb, leb}
+use lib.ListN.{getD}
 use borrow.Author.Tests.{eqb-false, ltb-false, leb-false, lt-leb, le-leb}
 use Rattle.model.specs.Table.{Table, count, first, last}
 use Rattle.model.specs.References.{allRefs}
 use Rattle.model.specs.Sound.{Sound}
+use Rattle.refusals.specs.declared.Refusal.{Refusal}
 use Rattle.refusals.specs.Refusals.{met}
 use Rattle.refusals.specs.Answers.{accepted, refused, _if_else_}
-use Rattle.refusals.specs.AnswerLaws.{if-accepted, after-accepted}
+use Rattle.refusals.specs.AnswerLaws.{not-both, if-accepted, after-accepted}
 use Rattle.reader.specs.Reading.{Answer}
 use Rattle.serial.specs.Serial.{table}
 use Rattle.grounds.specs.Accepted.{Valid}
@@ -19,10 +21,13 @@ use Rattle.grounds.specs.AcceptedLaws.{valid-last}
 use Rattle.tables.specs.Nine.{valid, accepted-sound}
 use Rattle.chains.specs.Graph.{Dependence}
 use Rattle.chains.specs.TableGraph.{graph}
-use Rattle.chains.specs.Walk.{shifts, peels}
+use Rattle.chains.specs.Dependence.{backward, forward}
+use Rattle.chains.specs.Legal.{LegalPlan}
+use Rattle.chains.specs.WalkLaws.{numbers-length}
+use Rattle.chains.specs.Threshold.{threshold}
 use Rattle.chains.specs.Tables.{allRefs-refs, allRefs-below, refs-number, plan-legal}
 use Rattle.chains.specs.Bounds.{InRange, shifts-bound, peels-bound, plan-threshold-bound}
-use Rattle.chains.specs.ThresholdLaws.{threshold-upper}
+use Rattle.chains.specs.ThresholdLaws.{threshold-upper, threshold-bound}
 use Rattle.blocks.specs.Span.{tableSpan}
 use Rattle.blocks.specs.SpanLaws.{span-most}
 use Rattle.blocks.specs.SumLaws.{neither}
@@ -30,7 +35,11 @@ use Rattle.blocks.specs.LineLaws.{before-most, before-rises, short-not}
 use Rattle.lists.specs.Fusion.{Fusion}
 use Rattle.lists.specs.FusionLaws.{Wide, fusion-wide}
 use Rattle.rows.specs.Legal.{Legal}
-use Rattle.plans.specs.Plans.{Settings, Planned, shiftOf, peelOf, thresholdOf, planOf, shortFor, badProcessors, badNumber, badLine, outside, fits, fitting, planned, plannedFor}
+use Rattle.amounts.specs.declared.Amounts.{Amounts}
+use Rattle.legality.specs.ByHand.{byHand}
+use Rattle.legality.specs.ByHandLaws.{hand-accepts, hand-some}
+use Rattle.legality.specs.Code.{Within}
+use Rattle.plans.specs.Plans.{Settings, Planned, shiftOf, peelOf, thresholdOf, own, planOf, shortFor, badProcessors, badNumber, badLine, outside, amountsFor, fits, fitting, planned, plannedFor}
 
 -- the table meets none of the grounds 1 to 9; every dependence is kept; the blocks are no smaller than any loop's shift and peel together, and
 -- none is empty; and the bounds that the code's sums need
@@ -44,14 +53,22 @@ pub record Fit (t : Table) (c : Fusion) : Type 0 where
   pub small-peel : (k : ℕ) → c .peel k ≤ 10000
   pub small-edge : (b : ℕ) → b ≤ c .processors → c .edge b ≤ 65791
 
--- THE LAW of an accepted plan: its table was read through 9; none of 10, 17 and 11 holds; the plan is the one of the largest chains; and it fits,
--- which is all that is asked of a plan above this crate
+-- what is known of the shifts and peels of a plan, the table's own or those by hand: every dependence is met, and no number is above 10,000
+pub record Chosen (t : Table) (a : Amounts) : Type 0 where
+  pub legal : LegalPlan (graph t) (a .shifts) (a .peels)
+  pub within : Within (a .shifts) (a .peels)
+
+-- THE LAW of an accepted plan: its table was read through 9; none of 19, 20, 10, 17 and 11 holds; the plan is the one of the shifts and peels that are
+-- meant; and it fits, which is all that is asked of a plan above this crate
 pub record AcceptedPlan (s : List ℕ) (w : Settings) (q : Planned) : Type 0 where
   pub read : table s ≡ accepted (q .table)
+  pub amounts : Amounts
+  pub amounts-are : amountsFor w (q .table) ≡ accepted amounts
   pub not-ten : badProcessors w ≡ false
   pub not-seventeen : badLine w ≡ false
-  pub not-eleven : shortFor (q .table) w ≡ false
-  pub plan-is : q .plan ≡ planOf (q .table) w
+  pub not-eleven : shortFor (q .table) amounts w ≡ false
+  pub plan-is : q .plan ≡ planOf (q .table) amounts w
+  pub chosen : Chosen (q .table) amounts
   pub fit : Fit (q .table) (q .plan)
 
 -- not outside
@@ -60,6 +77,15 @@ not-outside most n e =
     let (z, l) = neither (eqb n 0) (ltb most n) e in
     let some = eqb-false n 0 z in
     (omega (arith, some), ltb-false most n l)
+
+-- no refusal of a plan by hand has the ground 0
+pub amounts-some : (w : Settings) (t : Table) (r : Refusal) → amountsFor w t ≡ refused r → r .ground ≡ 0 → ⊥
+unfolding amountsFor
+amounts-some w t r e = go (eqb (w .given) 0) e
+  where
+    go : (b : Bool) → (accepted (own t) if b else byHand t (w .size) (w .plan)) ≡ refused r → r .ground ≡ 0 → ⊥
+    go true e = absurd (not-both (sym e))
+    go false e = hand-some t (w .size) (w .plan) r e
 
 -- OUR SHIFTS AND PEELS
 module _ (t : Table) (v : Valid t) where
@@ -75,31 +101,62 @@ module _ (t : Table) (v : Valid t) where
   pub threshold-small : thresholdOf t ≤ 15300
   threshold-small = plan-threshold-bound (graph t) (allRefs-below t (v .few-loops)) near
 
+  -- they are such shifts and peels
+  pub own-chosen : Chosen t (own t)
+  own-chosen = record {
+    legal = plan-legal t (v .few-loops);
+    within = record {
+      shifts-long = numbers-length backward (graph t);
+      peels-long = numbers-length forward (graph t);
+      shifts-small = λ k. omega (arith, shift-small k);
+      peels-small = λ k. omega (arith, peel-small k);
+    };
+  }
+
+  -- and so are those by hand that are accepted
+  pub amounts-chosen : (w : Settings) (a : Amounts) → amountsFor w t ≡ accepted a → Chosen t a
+  unfolding amountsFor
+  amounts-chosen w a e = go (eqb (w .given) 0) e
+    where
+      go : (b : Bool) → (accepted (own t) if b else byHand t (w .size) (w .plan)) ≡ accepted a → Chosen t a
+      go true e = let same : own t ≡ a = cc in subst (Chosen t) same own-chosen
+      go false e = let h = hand-accepts t (v .few-loops) (w .size) (w .plan) a e in record { legal = h .legal; within = h .within }
+
   -- an accepted table's span ends early
   pub span-small : tableSpan t .first + tableSpan t .count ≤ 65791
   span-small = span-most (count t) (first t) (last t) 65790 (v .some-loops) (v .each 0 (v .some-loops) .rising) (valid-last t v)
 
-  module _ (w : Settings) where
-    plan-keeps : Legal (Dependence (graph t)) t (planOf t w)
+  module _ (w : Settings) (a : Amounts) (good : Chosen t a) where
+    plan-keeps : Legal (Dependence (graph t)) t (planOf t a w)
     plan-keeps =
-        let (shift, peel) = plan-legal t (v .few-loops) in
+        let (shift, peel) = good .legal in
         record {
-          shifted = λ j k r q d. omega (arith, shift r q (d .counts), ap (shiftOf t) (refs-number t j r (d .left)), ap (shiftOf t) (refs-number t k q (d .right)));
-          peeled = λ j k r q d. omega (arith, peel r q (d .counts), ap (peelOf t) (refs-number t j r (d .left)), ap (peelOf t) (refs-number t k q (d .right)));
+          shifted = λ j k r q d.
+              omega (arith, shift r q (d .counts), ap (λ (n : ℕ). getD (a .shifts) n 0) (refs-number t j r (d .left)), ap (λ (n : ℕ). getD (a .shifts) n 0) (refs-number t k q (d .right)));
+          peeled = λ j k r q d.
+              omega (arith, peel r q (d .counts), ap (λ (n : ℕ). getD (a .peels) n 0) (refs-number t j r (d .left)), ap (λ (n : ℕ). getD (a .peels) n 0) (refs-number t k q (d .right)));
         }
 
-    plan-wide : 0 < w .processors → shortFor t w ≡ false → Wide t (planOf t w)
-    plan-wide pos e =
-        fusion-wide t (w .processors) (w .line) (shiftOf t) (peelOf t) (thresholdOf t)
-        (λ k l. threshold-upper (shifts (graph t)) (peels (graph t)) k (omega (arith, v .few-loops))) pos e
+    abbrev u : ℕ
+    u = threshold (a .shifts) (a .peels)
 
-    plan-rises : 0 < w .processors → badLine w ≡ false → shortFor t w ≡ false → (b : ℕ) → b < w .processors → planOf t w .edge b < planOf t w .edge (suc b)
+    -- their threshold
+    pub chosen-threshold : threshold (a .shifts) (a .peels) ≤ 20000
+    chosen-threshold =
+        threshold-bound (a .shifts) (a .peels) 20000 (λ k l. omega (arith, good .within .shifts-small k, good .within .peels-small k))
+
+    plan-wide : 0 < w .processors → shortFor t a w ≡ false → Wide t (planOf t a w)
+    plan-wide pos e =
+        fusion-wide t (w .processors) (w .line) (λ k. getD (a .shifts) k 0) (λ k. getD (a .peels) k 0) u
+        (λ k l. threshold-upper (a .shifts) (a .peels) k (omega (arith, v .few-loops))) pos e
+
+    plan-rises : 0 < w .processors → badLine w ≡ false → shortFor t a w ≡ false → (b : ℕ) → b < w .processors → planOf t a w .edge b < planOf t a w .edge (suc b)
     plan-rises pos m e b l =
         let T = tableSpan t .count in
         let P = w .processors in
-        omega (arith, before-rises T (w .line) P (not-outside 64 (w .line) m .0) pos (short-not T (w .line) P (thresholdOf t) e .0) b l)
+        omega (arith, before-rises T (w .line) P (not-outside 64 (w .line) m .0) pos (short-not T (w .line) P u e .0) b l)
 
-    pub plan-fits : Sound t → badProcessors w ≡ false → badLine w ≡ false → shortFor t w ≡ false → Fit t (planOf t w)
+    pub plan-fits : Sound t → badProcessors w ≡ false → badLine w ≡ false → shortFor t a w ≡ false → Fit t (planOf t a w)
     plan-fits sound b f e =
         let (pos, few) = not-outside 64 (w .processors) b in
         record {
@@ -109,36 +166,48 @@ module _ (t : Table) (v : Valid t) where
           wide = plan-wide pos e;
           rising = plan-rises pos f e;
           few = few;
-          small-peel = λ k. omega (arith, peel-small k);
+          small-peel = good .within .peels-small;
           small-edge = λ b l. omega (arith, before-most (tableSpan t .count) (w .line) (w .processors) b, span-small);
         }
 
 -- ACCEPTED
-fitting-accepted : (wrong : Bool) (w : Settings) (a : Answer) (q : Planned) → fitting wrong w a ≡ accepted q
-    → (a ≡ accepted (q .table)) × (q .plan ≡ planOf (q .table) w) × (wrong ≡ false) × (badLine w ≡ false) × (shortFor (q .table) w ≡ false)
+-- what `fitting` accepts, with the shifts and peels a
+pub record Accepts (wrong : Bool) (w : Settings) (s : Answer) (q : Planned) : Type 0 where
+  pub read : s ≡ accepted (q .table)
+  pub amounts : Amounts
+  pub amounts-are : amountsFor w (q .table) ≡ accepted amounts
+  pub right : wrong ≡ false
+  pub whole : badLine w ≡ false
+  pub not-short : shortFor (q .table) amounts w ≡ false
+  pub plan-is : q .plan ≡ planOf (q .table) amounts w
+
+fitting-accepted : (wrong : Bool) (w : Settings) (s : Answer) (q : Planned) → fitting wrong w s ≡ accepted q → Accepts wrong w s q
 unfolding fitting
-fitting-accepted wrong w a q e =
-    let (t, f, g) = after-accepted a _ q e in
-    let (b, h) = if-accepted (met 10 0) wrong (refused (met 17 0) if badLine w else fits w t) q g in
-    let (m, i) = if-accepted (met 17 0) (badLine w) (fits w t) q h in
-    let (short, k) = if-accepted (met 11 0) (shortFor t w) (accepted (record { table = t; plan = planOf t w })) q i in
-    let z : record { table = t; plan = planOf t w } ≡ q = cc in
-    subst
-    (λ (x : Planned).
-    (a ≡ accepted (x .table)) × (x .plan ≡ planOf (x .table) w) × (wrong ≡ false) × (badLine w ≡ false) × (shortFor (x .table) w ≡ false))
-    z (f, refl, b, m, short)
+fitting-accepted wrong w s q e =
+    let (t, f, g) = after-accepted s _ q e in
+    let (a, d, h) = after-accepted (amountsFor w t) _ q g in
+    let (b, i) = if-accepted (met 10 0) wrong (refused (met 17 0) if badLine w else fits w t a) q h in
+    let (m, j) = if-accepted (met 17 0) (badLine w) (fits w t a) q i in
+    let (short, k) = if-accepted (met 11 0) (shortFor t a w) (accepted (record { table = t; plan = planOf t a w })) q j in
+    let z : record { table = t; plan = planOf t a w } ≡ q = cc in
+    subst (Accepts wrong w s) z (record { read = f; amounts = a; amounts-are = d; right = b; whole = m; not-short = short; plan-is = refl })
 
 pub planned-accepts : (s : List ℕ) (w : Settings) (q : Planned) → planned s w ≡ accepted q → AcceptedPlan s w q
 unfolding planned
 planned-accepts s w q e =
-    let (r, f, b, m, short) = fitting-accepted (badProcessors w) w (table s) q e in
+    let h = fitting-accepted (badProcessors w) w (table s) q e in
+    let v = valid s (q .table) (h .read) in
+    let good = amounts-chosen (q .table) v w (h .amounts) (h .amounts-are) in
     record {
-      read = r;
-      not-ten = b;
-      not-seventeen = m;
-      not-eleven = short;
-      plan-is = f;
-      fit = rw f (plan-fits (q .table) (valid s (q .table) r) w (accepted-sound s (q .table) r) b m short);
+      read = h .read;
+      amounts = h .amounts;
+      amounts-are = h .amounts-are;
+      not-ten = h .right;
+      not-seventeen = h .whole;
+      not-eleven = h .not-short;
+      plan-is = h .plan-is;
+      chosen = good;
+      fit = rw (h .plan-is) (plan-fits (q .table) v w (h .amounts) good (accepted-sound s (q .table) (h .read)) (h .right) (h .whole) (h .not-short));
     }
 
 -- it is for as many processors as were asked for
@@ -159,13 +228,14 @@ pub named-past : (s : List ℕ) (w : Settings) (b : ℕ) (q : Planned) → plann
 unfolding plannedFor fitting
 named-past s w b q e l =
     let past : w .processors ≤ b = omega (arith, counted s w q e) in
-    rw (planned-accepts s w q e .read, le-leb (w .processors) b past, or-true (badProcessors w))
+    let law = planned-accepts s w q e in
+    rw (law .read, law .amounts-are, le-leb (w .processors) b past, or-true (badProcessors w))
 
 pub named-accepts : (s : List ℕ) (w : Settings) (b : ℕ) (q : Planned) → plannedFor s w b ≡ accepted q → (planned s w ≡ accepted q) × (b < q .plan .processors)
 unfolding plannedFor
 named-accepts s w b q e =
-    let (r, f, z, m, short) = fitting-accepted (badNumber w b) w (table s) q e in
-    let (x, y) = neither (badProcessors w) (leb (w .processors) b) z in
+    let h = fitting-accepted (badNumber w b) w (table s) q e in
+    let (x, y) = neither (badProcessors w) (leb (w .processors) b) (h .right) in
     let l : b < w .processors = leb-false (w .processors) b y in
     let is = sym (named-same s w b l) ∙ e in
     (is, omega (arith, counted s w q is))

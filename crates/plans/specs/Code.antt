@@ -9,13 +9,20 @@ use Rattle.reader.specs.Store.{tableIn}
 use Rattle.reader.specs.Held.{Held}
 use Rattle.blocks.specs.declared.Axis.{Axis}
 use Rattle.lists.specs.Fusion.{fusionIn}
+use Rattle.model.specs.Table.{Table}
+use Rattle.amounts.specs.declared.Amounts.{Amounts}
+use Rattle.legality.specs.declared.Hand.{Hand}
 use Rattle.plans.specs.declared.Plan.{Plan}
-use Rattle.plans.specs.Plans.{Settings, Planned, planned, plannedFor}
+use Rattle.plans.specs.Plans.{Settings, Planned, amountsFor, planned, plannedFor}
 use Rattle.plans.specs.Accepted.{Fit, planned-accepts, named-accepts}
 
 -- the table in the store c, with the plan that code keeps in a
 abbrev pub plannedIn : Axis → List ℕ → Planned
 plannedIn a c = record { table = tableIn c; plan = fusionIn a }
+
+-- where a plan by hand is given, the numbers a are its, and they are accepted
+abbrev pub Offered : Settings → Table → Amounts → Type 0
+Offered w t a = (w .given ≡ 0 → ⊥) → amountsFor w t ≡ accepted a
 
 -- what code keeps of a plan along one index: both columns are sixteen long, and a line has 1 to 64 indices
 pub record Kept (a : Axis) : Type 0 where
@@ -34,6 +41,11 @@ pub record Made (a : AnswerOf Planned) (r : Plan) (c : List ℕ) : Type 0 where
 pub record Plans (a : AnswerOf Planned) (r : Plan) (c : List ℕ) : Type 0 where
   pub tells : r .refusal ≡ refusalOf a
   pub made : r .refusal .ground ≡ 0 → Made a r c
+
+-- what is told of the plan by hand: a refusal of it, or its numbers, where one is given
+pub record Gives (w : Settings) (t : Table) (r : Hand) : Type 0 where
+  pub told : r .refusal ≡ refusalOf (amountsFor w t)
+  pub made : r .refusal .ground ≡ 0 → Offered w t (r .amounts)
 
 -- a refusal has no plan
 abbrev pub refusing : Refusal → Plan

@@ -1,30 +1,35 @@
 -- DEMAND 2, from a table's bytes. Where they are accepted, each loop's shift and peel are the largest totals over all chains of dependences that
--- end at it, and the threshold is the largest sum of the two of one loop; where they are planned for, the plan has these shifts and peels, and
--- each iteration stands in one list, once.
-use Prim.Native.Nat.{ℕ, zero, suc, _+_, _≤_, _<_}
+-- end at it, and the threshold is the largest sum of the two of one loop; where they are planned for, the plan has these shifts and peels, or
+-- those given by hand, of which none is smaller; and each iteration stands in one list, once.
+use Prim.Native.Nat.{ℕ, zero, suc, _+_, _*_, _≤_, _<_}
 use native.Mathlib.Omega.{arith}
 use native.Mathlib.Decide.{decLt}
-use mathlib.Core.Path.{_≡_, sym, _∙_}
+use mathlib.Core.Path.{_≡_, sym, ap, _∙_}
 use mathlib.Core.Logic.{_⊎_, inl, inr, ⊎-elim}
 use mathlib.Core.List.{List}
 use mathlib.Core.List.{List·Memᴰ as Mem}
 use lib.ListN.{getD}
 use Rattle.model.specs.declared.Iteration.{Iteration}
 use Rattle.model.specs.Table.{Table, count, Inside}
-use Rattle.refusals.specs.Answers.{accepted}
+use borrow.Author.Tests.{eq-eqb, ne-eqb}
+use Rattle.refusals.specs.Answers.{AnswerOf, accepted}
 use Rattle.serial.specs.Serial.{table}
 use Rattle.chains.specs.Dependence.{backward, forward}
 use Rattle.chains.specs.TableGraph.{graph}
 use Rattle.chains.specs.Chains.{Chain, Largest}
 use Rattle.chains.specs.ChainLaws.{last-dependence}
-use Rattle.chains.specs.Tables.{shift-largest, peel-largest, allRefs-refs, plan-least}
+use Rattle.chains.specs.Tables.{shift-largest, peel-largest, allRefs-refs, plan-least as legal-least}
 use Rattle.chains.specs.Legal.{LegalPlan}
 use Rattle.chains.specs.Walk.{shifts, peels}
 use Rattle.chains.specs.ThresholdLaws.{threshold-attained, threshold-upper}
-use Rattle.lists.specs.Fusion.{work, fusedList, peeledList}
+use Rattle.lists.specs.Fusion.{Fusion, work, fusedList, peeledList}
 use Rattle.lists.specs.FusionLaws.{Once, once, owner, phase}
 use Rattle.lists.specs.EachOnce.{EachOnce}
-use Rattle.plans.specs.Plans.{Settings, Planned, shiftOf, peelOf, thresholdOf, planned}
+use Rattle.amounts.specs.declared.Amounts.{Amounts}
+use Rattle.legality.specs.Written.{numberAt}
+use Rattle.legality.specs.WrittenLaws.{filled-here}
+use Rattle.legality.specs.ByHandLaws.{HandFits, hand-accepts}
+use Rattle.plans.specs.Plans.{Settings, Planned, shiftOf, peelOf, thresholdOf, own, planOf, amountsFor, planned}
 use Rattle.tables.specs.Nine.{valid}
 use Rattle.plans.specs.Accepted.{AcceptedPlan, planned-accepts}
 
@@ -41,7 +46,7 @@ module _ (s : List ℕ) (t : Table) (read : table s ≡ accepted t) where
 
   -- no shifts and peels that meet every dependence are smaller
   pub none-smaller : (a p : List ℕ) → LegalPlan (graph t) a p → (k : ℕ) → (shiftOf t k ≤ getD a k 0) × (peelOf t k ≤ getD p k 0)
-  none-smaller = plan-least t few
+  none-smaller = legal-least t few
 
   -- past the last loop no chain ends
   none-past : (k : ℕ) → count t ≤ k → Chain (graph t) k → ⊥
@@ -75,12 +80,48 @@ module _ (s : List ℕ) (w : Settings) (q : Planned) (planned-is : planned s w �
   abbrev law : AcceptedPlan s w q
   law = planned-accepts s w q planned-is
 
-  -- the plan has the largest totals
-  pub plan-shifts : (k : ℕ) → Largest backward (graph (q .table)) k (q .plan .shift k)
-  plan-shifts k = rw (law .plan-is) (shifts-largest s (q .table) (law .read) k)
+  -- without a plan by hand, the plan has the largest totals
+  pub plan-own : w .given ≡ 0 → law .amounts ≡ own (q .table)
+  unfolding amountsFor
+  plan-own e = let z = eq-eqb (w .given) 0 e in let h : _≡_ {A = AnswerOf Amounts} (accepted (own (q .table))) (accepted (law .amounts)) = rw z at (law .amounts-are) in sym cc
 
-  pub plan-peels : (k : ℕ) → Largest forward (graph (q .table)) k (q .plan .peel k)
-  plan-peels k = rw (law .plan-is) (peels-largest s (q .table) (law .read) k)
+  own-plan : w .given ≡ 0 → q .plan ≡ planOf (q .table) (own (q .table)) w
+  own-plan e = law .plan-is ∙ ap (λ (a : Amounts). planOf (q .table) a w) (plan-own e)
+
+  pub plan-shifts : w .given ≡ 0 → (k : ℕ) → Largest backward (graph (q .table)) k (q .plan .shift k)
+  plan-shifts e k = rw (own-plan e) (shifts-largest s (q .table) (law .read) k)
+
+  pub plan-peels : w .given ≡ 0 → (k : ℕ) → Largest forward (graph (q .table)) k (q .plan .peel k)
+  plan-peels e k = rw (own-plan e) (peels-largest s (q .table) (law .read) k)
+
+  -- with one, it has the numbers that its bytes say
+  pub plan-by-hand : (w .given ≡ 0 → ⊥) → HandFits (q .table) (w .size) (w .plan) (law .amounts)
+  unfolding amountsFor
+  plan-by-hand n =
+      let z = ne-eqb (w .given) 0 n in
+      hand-accepts (q .table) (valid s (q .table) (law .read) .few-loops) (w .size) (w .plan) (law .amounts) (rw z at (law .amounts-are))
+
+  pub hand-shifts : (w .given ≡ 0 → ⊥) → (k : ℕ) → k < count (q .table) → q .plan .shift k ≡ numberAt (w .plan) (2 * k)
+  hand-shifts n k l =
+      let e : 2 * k + 0 ≡ 2 * k = omega arith in
+      let h = plan-by-hand n in
+      ap (λ (c : Fusion). c .shift k) (law .plan-is) ∙ ap (λ (a : Amounts). getD (a .shifts) k 0) (h .read)
+      ∙ filled-here _ (count (q .table)) k (valid s (q .table) (law .read) .few-loops) l ∙ ap (numberAt (w .plan)) e
+
+  pub hand-peels : (w .given ≡ 0 → ⊥) → (k : ℕ) → k < count (q .table) → q .plan .peel k ≡ numberAt (w .plan) (2 * k + 1)
+  hand-peels n k l =
+      let e : 2 * k + 0 + 1 ≡ 2 * k + 1 = omega arith in
+      let h = plan-by-hand n in
+      ap (λ (c : Fusion). c .peel k) (law .plan-is) ∙ ap (λ (a : Amounts). getD (a .peels) k 0) (h .read)
+      ∙ filled-here _ (count (q .table)) k (valid s (q .table) (law .read) .few-loops) l ∙ ap (numberAt (w .plan)) e
+
+  -- NO ACCEPTED NUMBER IS BELOW OUR OWN
+  pub plan-least : (k : ℕ) → (shiftOf (q .table) k ≤ q .plan .shift k) × (peelOf (q .table) k ≤ q .plan .peel k)
+  plan-least k = rw (law .plan-is) (none-smaller s (q .table) (law .read) (law .amounts .shifts) (law .amounts .peels) (law .chosen .legal) k)
+
+  -- and none is above 10,000
+  pub plan-most : (k : ℕ) → (q .plan .shift k ≤ 10000) × (q .plan .peel k ≤ 10000)
+  plan-most k = rw (law .plan-is) (law .chosen .within .shifts-small k, law .chosen .within .peels-small k)
 
   -- each iteration stands in one list, once
   pub each-once : EachOnce (q .table) (q .plan)

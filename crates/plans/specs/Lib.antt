@@ -1,5 +1,7 @@
--- a table's plan: shifts, peels, threshold, and for P processors its blocks and lists; 10, 17 and 11
+-- a table's plan: shifts, peels, threshold, its own or by hand, and for P processors its blocks and lists; 10, 17 and 11
 pub mod Plans
+-- what asking for a plan tells
+pub mod Checking
 -- what is known of an accepted plan
 pub mod Accepted
 -- blocks on whole lines

@@ -1,4 +1,4 @@
--- Where the loops' bounds are asked, 11 is given of no table and processors of which it would not be given if they played no part.
+-- Where the loops' bounds are asked, 11 is given, by the table's own shifts and peels, of no table and processors of which it would not be given if they played no part.
 use Prim.Native.Nat.{ℕ, _≤_}
 use native.Mathlib.Omega.{arith}
 use mathlib.Core.Path.{_≡_, refl}
@@ -15,7 +15,7 @@ use Rattle.blocks.specs.Span.{tableSpan}
 use Rattle.blocks.specs.Blocks.{isShort}
 use Rattle.blocks.specs.LineLaws.{short-given, short-not}
 use Rattle.tables.specs.Nine.{valid}
-use Rattle.plans.specs.Plans.{Settings, shortFor}
+use Rattle.plans.specs.Plans.{Settings, own, shortFor}
 
 -- blocks that are long enough for a threshold are so for a smaller one
 short-smaller : (T W P v w : ℕ) → v ≤ w → isShort T W P w ≡ false → isShort T W P v ≡ false
@@ -29,5 +29,5 @@ short-smaller T W P v w l e = go (isShort T W P v) refl
 
 pub never-short : (s : List ℕ) (t : Table) → table s ≡ accepted t → (w : Settings)
     → isShort (tableSpan t .count) (w .line) (w .processors) (threshold (shifts (withoutBounds t)) (peels (withoutBounds t))) ≡ false
-    → shortFor t w ≡ false
+    → shortFor t (own t) w ≡ false
 never-short s t read w = short-smaller _ _ _ _ _ (threshold-never-larger t (valid s t read .few-loops))

@@ -16,7 +16,8 @@ use Rattle.blocks.specs.Blocks.{lines, start, before}
 use Rattle.blocks.specs.LineLaws.{before-first, before-up, before-last, before-whole, before-next, before-rises, before-one, some-block, one-block, short-not}
 use Rattle.lists.specs.Fusion.{fusedList}
 use Rattle.lists.specs.FusionLaws.{fused-list}
-use Rattle.plans.specs.Plans.{Settings, Planned, planOf, thresholdOf, planned}
+use Rattle.chains.specs.Threshold.{threshold}
+use Rattle.plans.specs.Plans.{Settings, Planned, planOf, planned}
 use Rattle.plans.specs.Accepted.{AcceptedPlan, not-outside, planned-accepts}
 use Rattle.plans.specs.OnLines.{OnLines}
 
@@ -34,7 +35,7 @@ module _ (s : List ℕ) (w : Settings) (q : Planned) (planned-is : planned s w �
   pos = not-outside 64 (w .processors) (law .not-ten) .0
 
   enough : w .processors ≤ lines (tableSpan t .count) (w .line)
-  enough = short-not (tableSpan t .count) (w .line) (w .processors) (thresholdOf t) (law .not-eleven) .0
+  enough = short-not (tableSpan t .count) (w .line) (w .processors) (threshold (law .amounts .shifts) (law .amounts .peels)) (law .not-eleven) .0
 
   from : tableSpan t .first ≡ least (count t) (first t)
   from = span-begins (count t) (first t) (last t)
@@ -43,18 +44,18 @@ module _ (s : List ℕ) (w : Settings) (q : Planned) (planned-is : planned s w �
   past = let v = law .fit .valid in span-ends (count t) (first t) (last t) (v .some-loops) (v .each 0 (v .some-loops) .rising)
 
   -- a fused iteration of a block that is not the first stands at its beginning or later, of one that is not the last before its end
-  fused-from : (b : ℕ) (x : Iteration) → b < w .processors → 0 < b → Mem x (fusedList t (planOf t w) b) → planOf t w .edge b ≤ x .index
+  fused-from : (b : ℕ) (x : Iteration) → b < w .processors → 0 < b → Mem x (fusedList t (planOf t (law .amounts) w) b) → planOf t (law .amounts) w .edge b ≤ x .index
   fused-from b x l some m =
-      let (i, f) = fused-list t (planOf t w) b x l .0 m in
+      let (i, f) = fused-list t (planOf t (law .amounts) w) b x l .0 m in
       omega (arith, f .low some)
 
-  fused-past : (b : ℕ) (x : Iteration) → suc b < w .processors → Mem x (fusedList t (planOf t w) b) → x .index < planOf t w .edge (suc b)
+  fused-past : (b : ℕ) (x : Iteration) → suc b < w .processors → Mem x (fusedList t (planOf t (law .amounts) w) b) → x .index < planOf t (law .amounts) w .edge (suc b)
   fused-past b x l m =
-      let (i, f) = fused-list t (planOf t w) b x (omega arith) .0 m in
+      let (i, f) = fused-list t (planOf t (law .amounts) w) b x (omega arith) .0 m in
       omega (arith, f .high l)
 
   -- so of two blocks the lines before the later one's beginning divide them
-  line-below : (b d : ℕ) (x y : Iteration) → b < d → d < w .processors → Mem x (fusedList t (planOf t w) b) → Mem y (fusedList t (planOf t w) d)
+  line-below : (b d : ℕ) (x y : Iteration) → b < d → d < w .processors → Mem x (fusedList t (planOf t (law .amounts) w) b) → Mem y (fusedList t (planOf t (law .amounts) w) d)
       → (x .index - tableSpan t .first) / w .line < (y .index - tableSpan t .first) / w .line
   line-below b d x y less l m n =
       let N = tableSpan t .count in
@@ -68,7 +69,7 @@ module _ (s : List ℕ) (w : Settings) (q : Planned) (planned-is : planned s w �
       le-div-iff-mul-le wide .1 (omega (arith, fused-from d y l (omega arith) n)) in
       omega arith
 
-  own-line : (b d : ℕ) (x y : Iteration) → b < w .processors → d < w .processors → Mem x (fusedList t (planOf t w) b) → Mem y (fusedList t (planOf t w) d)
+  own-line : (b d : ℕ) (x y : Iteration) → b < w .processors → d < w .processors → Mem x (fusedList t (planOf t (law .amounts) w) b) → Mem y (fusedList t (planOf t (law .amounts) w) d)
       → (x .index - tableSpan t .first) / w .line ≡ (y .index - tableSpan t .first) / w .line → b ≡ d
   own-line b d x y l i m n e = go (decLt b d) (decLt d b)
     where
@@ -77,7 +78,7 @@ module _ (s : List ℕ) (w : Settings) (q : Planned) (planned-is : planned s w �
       go (no h) (yes k) = absurd (omega (arith, line-below d b y x k l n m))
       go (no h) (no k) = omega arith
 
-  on-lines : OnLines t w (planOf t w)
+  on-lines : OnLines t w (planOf t (law .amounts) w)
   on-lines =
       let N = tableSpan t .count in
       let W = w .line in

@@ -67,7 +67,7 @@ fn print_text(s: &[u8], w: Settings, out: &mut [u8]) -> Outcome
     print_lines(out, p.axis, &store)
 }
 
-// What the program prints for a number of processors: lines have one index.
+// What the program prints for a number of processors: lines have one index, and no plan is given by hand.
 pub fn print_plan(s: &[u8], processors: u32, out: &mut [u8]) -> Outcome
     ensures { λ r. ⌜ Prints (text (now (s .entry)) (settings processors)) (now (out .entry)) (now (out .exit)) r ⌝ }
 {
@@ -76,6 +76,9 @@ pub fn print_plan(s: &[u8], processors: u32, out: &mut [u8]) -> Outcome
         Settings {
             processors,
             line: 1,
+            given: 0,
+            size: 0,
+            plan: [0u8; 128],
         },
         out,
     )

@@ -1,4 +1,5 @@
--- A refusal: the number of its ground, its place, and what it names, two numbers. Only 9 names something: a read of its loop, and 0.
+-- A refusal: the number of its ground, its place, and what it names, two numbers. Of 9 the place is a loop, and a read of
+-- it is named; of 20 the place is a loop, and a later loop is named. No other ground names anything.
 use Prim.Native.Nat.{ℕ}
 use Rattle.refusals.specs.declared.Refusal.{Refusal}
 

@@ -1,6 +1,6 @@
 -- The version of the library.
 use Prim.Native.Nat.{ℕ}
 
--- 0.3.0: 10,000 times the first number, 100 times the second, and the third
+-- 0.4.0: 10,000 times the first number, 100 times the second, and the third
 abbrev pub version : ℕ
-version = 300
+version = 400

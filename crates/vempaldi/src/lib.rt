@@ -13,6 +13,8 @@ ghost use Rattle.outputs.specs.Given.{final, countOf};
 ghost use Rattle.joins.specs.Joining.{joining};
 ghost use Rattle.facts.specs.Facts.{factsGiven};
 ghost use Rattle.entries.specs.Entries.{amounts, thresholds, sweepsGiven, blocksGiven, fusedGiven, peeledGiven, fusedRangesGiven, peeledRangesGiven};
+ghost use Rattle.plans.specs.Plans.{planned};
+ghost use Rattle.plans.specs.Checking.{thresholdIn};
 ghost use Rattle.printing.specs.Printing.{listingGiven};
 ghost use Rattle.plain.specs.Plain.{plainAnswer, plainMemory};
 ghost use Rattle.stepping.specs.Step.{step};
@@ -21,7 +23,7 @@ ghost use Rattle.told.specs.Answers.{answered, reported, refusalIn, reportAt};
 ghost use Rattle.vempaldi.specs.Version.{version};
 
 // The version: 10,000 times the first of its numbers, 100 times the second, and the third.
-const VERSION: u32 = 300;
+const VERSION: u32 = 400;
 
 #[no_mangle]
 pub extern "C" fn vempaldi_version() -> u32
@@ -106,6 +108,21 @@ pub extern "C" fn vempaldi_threshold(table: &[u8], out: &mut [u8], answer: &mut 
 {
     let o = entries::threshold(table, out);
     tell_outcome(answer, o)
+}
+
+// Whether a plan is accepted, the one by hand or the table's own, or the refusal; answers its threshold, 0 where it refuses.
+#[no_mangle]
+pub extern "C" fn vempaldi_check_plan(
+    table: &[u8],
+    settings: Settings,
+    answer: &mut [u64; 4],
+) -> u64
+    ensures { λ r. ⌜ now (answer .exit) ≡ answered (refusalOf (planned (now (table .entry)) settings)) (now (answer .entry)) ⌝ }
+    ensures { λ r. ⌜ r ≡ thresholdIn (planned (now (table .entry)) settings) ⌝ }
+{
+    let v = plans::check_plan(table, settings);
+    write_answer(answer, v.refusal);
+    v.threshold
 }
 
 // Sweeps before and after fusion, four bytes each; answers how many bytes were written, 0 where it refuses.
