@@ -4,7 +4,7 @@ use libc::STDIN_FILENO;
 use libc::STDOUT_FILENO;
 
 // No listing is longer, so it is never refused.
-const LINES: usize = 48400;
+const LINES: usize = 50000;
 
 fn wide(x: u8) -> u32 {
     x as u32

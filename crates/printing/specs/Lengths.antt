@@ -1,6 +1,6 @@
 -- How long a listing can be. A number below 10 ^ n has at most n digits, so a line is as long as its word, its blanks and those digits; the numbers
--- of loops and of blocks are counted with the digits that each has. The first loop has no peeled part, since no chain ends at it, and the
--- last block has none. Laws alone.
+-- of loops and of blocks are counted with the digits that each has. The last block has no peeled part; the first loop may have one, by hand. Laws
+-- alone.
 use mathlib.Core.Path.{_≡_, refl, ap}
 use mathlib.Core.Bool.{Bool, true, false, cond}
 use mathlib.Core.List.{List, [], _++_}
@@ -57,7 +57,7 @@ module _ (word : List ℕ) (b k : ℕ) (r : Range) where
           omega (arith, m))
       go (no l) = rw (le-ltb (r .from) (r .past) (omega arith)) (omega arith)
 
--- A PART ends where its loop does, or before; the last block has no peeled part, nor has a loop with no shift and no peel
+-- A PART ends where its loop does, or before; the last block has no peeled part
 module _ (own block : Range) (P b s p : ℕ) where
   fused-past : fusedPart own block P b s p .past ≤ own .past
   unfolding fusedPart
@@ -82,17 +82,9 @@ module _ (own block : Range) (P b s p : ℕ) where
   unfolding peeledPart
   peeled-last e = rw (eq-eqb (b + 1) P e) (omega arith)
 
-  peeled-still : s ≡ 0 → p ≡ 0 → peeledPart own block P b s p .past ≤ peeledPart own block P b s p .from
-  unfolding peeledPart
-  peeled-still e g = go (eqb (b + 1) P)
-    where
-      go : (x : Bool) → cond x (record { from = 0; past = 0 }) between .past ≤ cond x (record { from = 0; past = 0 }) between .from
-      go true = omega arith
-      go false = omega arith
-
 -- the bytes of a line, by its loop and its block; of all loops in a block
 abbrev loopMost : ℕ → ℕ
-loopMost k = length (decimal k) + 16
+loopMost k = length (decimal k) + 18
 
 abbrev blockMost : ℕ → ℕ
 blockMost b = length (decimal b) + 19
@@ -101,11 +93,10 @@ abbrev fusedMost : ℕ → ℕ → ℕ
 fusedMost b k = 5 + length (decimal b) + length (decimal k) + 15
 
 abbrev peeledMost : ℕ → ℕ → ℕ
-peeledMost b zero = 0
-peeledMost b (suc k) = 6 + length (decimal b) + length (decimal (suc k)) + 15
+peeledMost b k = 6 + length (decimal b) + length (decimal k) + 15
 
 -- sixteen loops and sixty-four blocks, sixty-three of them with a peeled part, by computation
-loops-sum : total 16 loopMost ≡ 278
+loops-sum : total 16 loopMost ≡ 310
 unfolding decimal digits
 loops-sum = refl
 
@@ -117,28 +108,27 @@ fused-sum : total 64 (λ b. total 16 (fusedMost b)) ≡ 23776
 unfolding decimal digits
 fused-sum = refl
 
-peeled-sum : total 63 (λ b. total 16 (peeledMost b)) ≡ 22908
+peeled-sum : total 63 (λ b. total 16 (peeledMost b)) ≡ 24410
 unfolding decimal digits
 peeled-sum = refl
 
--- OF A PLAN whose shifts and peels have at most four digits, the first loop's being 0, and of sweeps of three digits and two
+-- OF A PLAN whose shifts and peels have at most five digits, and of sweeps of three digits and two
 module _ (t : Table) (c : Fusion) (before after : ℕ) (fit : Fit t c)
-    (small-shift : (k : ℕ) → c .shift k < 10 ^ 4) (small-peel : (k : ℕ) → c .peel k < 10 ^ 4)
-    (first-shift : c .shift 0 ≡ 0) (first-peel : c .peel 0 ≡ 0) (few-before : before < 10 ^ 3) (few-after : after < 10 ^ 2) where
+    (small-shift : (k : ℕ) → c .shift k < 10 ^ 5) (small-peel : (k : ℕ) → c .peel k < 10 ^ 5) (few-before : before < 10 ^ 3) (few-after : after < 10 ^ 2) where
   few-loops : count t ≤ 16
   few-loops = fit .valid .few-loops
 
   ends : (k : ℕ) → k < count t → own t k .past ≤ 65791
   ends k l = omega (arith, valid-last t (fit .valid) k l)
 
-  loops-most : length (each (count t) (λ k. loopLine k (c .shift k) (c .peel k))) ≤ 278
-  loops-most = each-few (count t) 16 278 _ loopMost few-loops loops-sum line-most
+  loops-most : length (each (count t) (λ k. loopLine k (c .shift k) (c .peel k))) ≤ 310
+  loops-most = each-few (count t) 16 310 _ loopMost few-loops loops-sum line-most
     where
       line-most : (k : ℕ) → k < count t → length (loopLine k (c .shift k) (c .peel k)) ≤ loopMost k
       line-most k l =
           let same : length (decimal k) ≤ length (decimal k) = omega arith in
-          let shift = length-decimal 3 (c .shift k) (small-shift k) in
-          let peel = length-decimal 3 (c .peel k) (small-peel k) in
+          let shift = length-decimal 4 (c .shift k) (small-shift k) in
+          let peel = length-decimal 4 (c .peel k) (small-peel k) in
           let m = three-most (ascii "loop") k (c .shift k) same shift (c .peel k) peel in
           omega (arith, m)
 
@@ -175,21 +165,17 @@ module _ (t : Table) (c : Fusion) (before after : ℕ) (fit : Fit t c)
   peeled-each b = each-few (count t) 16 _ _ (peeledMost b) few-loops refl line-most
     where
       line-most : (k : ℕ) → k < count t → length (rangeLine (ascii "peeled") b k (peeledRange t c b k)) ≤ peeledMost b k
-      line-most zero l =
-          rw (range-none (ascii "peeled") b 0 (peeledRange t c b 0)
-          (peeled-still (own t 0) (blockAt (c .edge) b) (c .processors) b (c .shift 0) (c .peel 0) first-shift first-peel))
-          (omega arith)
-      line-most (suc k) l =
-          range-most (ascii "peeled") b (suc k) (peeledRange t c b (suc k))
-          (omega (arith, ends (suc k) l, peeled-past (own t (suc k)) (blockAt (c .edge) b) (c .processors) b (c .shift (suc k)) (c .peel (suc k))))
+      line-most k l =
+          range-most (ascii "peeled") b k (peeledRange t c b k)
+          (omega (arith, ends k l, peeled-past (own t k) (blockAt (c .edge) b) (c .processors) b (c .shift k) (c .peel k)))
 
-  peeled-most : length (rangeLines (ascii "peeled") (c .processors) (count t) (peeledRange t c)) ≤ 22908
+  peeled-most : length (rangeLines (ascii "peeled") (c .processors) (count t) (peeledRange t c)) ≤ 24410
   peeled-most = go (c .processors) refl
     where
-      go : (P : ℕ) → P ≡ c .processors → length (each P peeledOf) ≤ 22908
+      go : (P : ℕ) → P ≡ c .processors → length (each P peeledOf) ≤ 24410
       go zero e = omega arith
       go (suc P) e =
-          let m = each-few P 63 22908 peeledOf (λ b. total 16 (peeledMost b)) (omega (arith, fit .few)) peeled-sum (λ b l. peeled-each b) in
+          let m = each-few P 63 24410 peeledOf (λ b. total 16 (peeledMost b)) (omega (arith, fit .few)) peeled-sum (λ b l. peeled-each b) in
           omega (arith, m, length-append (each P peeledOf) (peeledOf P), ap length (peeled-last-none P (omega arith)))
 
   sweeps-most : length (sweepsLine before after) ≤ 14
@@ -198,7 +184,7 @@ module _ (t : Table) (c : Fusion) (before after : ℕ) (fit : Fit t c)
       omega (arith, m)
 
   -- all together
-  pub listing-most : length (listing t c before after) ≤ 48310
+  pub listing-most : length (listing t c before after) ≤ 49844
   unfolding listing
   listing-most =
       let l = each (count t) (λ k. loopLine k (c .shift k) (c .peel k)) in
@@ -207,6 +193,6 @@ module _ (t : Table) (c : Fusion) (before after : ℕ) (fit : Fit t c)
       let p = rangeLines (ascii "peeled") (c .processors) (count t) (peeledRange t c) in
       five l b f p (sweepsLine before after) loops-most blocks-most fused-most peeled-most sweeps-most
     where
-      five : (l b f p s : List ℕ) → length l ≤ 278 → length b ≤ 1334 → length f ≤ 23776 → length p ≤ 22908 → length s ≤ 14
-          → length (l ++ b ++ f ++ p ++ s) ≤ 48310
+      five : (l b f p s : List ℕ) → length l ≤ 310 → length b ≤ 1334 → length f ≤ 23776 → length p ≤ 24410 → length s ≤ 14
+          → length (l ++ b ++ f ++ p ++ s) ≤ 49844
       five l b f p s g h i j k = simp length-append (omega arith)

@@ -32,5 +32,5 @@ listingGiven s w room = after (planned s w) (λ q. fitted room (listingOf q))
 -- a call that prints a text into `out`, or gives 13 where it doesn't fit, tells o and leaves `left`; no text is long
 pub record Prints (text out left : List ℕ) (o : Outcome) : Type 0 where
   pub gives : Gives (fitted (length out) text) out left o
-  pub few : length text ≤ 48400
+  pub few : length text ≤ 50000
   pub fits : o .written ≤ length left

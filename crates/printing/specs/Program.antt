@@ -37,7 +37,7 @@ module _ (s : List ℕ) (w : Settings) where
   text-decided r e = text-refused r (rw e)
 
 -- the program lends room for the longest, so it is never refused with 13 and prints the whole text
-pub prints-all : (text out left : List ℕ) (o : Outcome) → Prints text out left o → 48400 ≤ length out
+pub prints-all : (text out left : List ℕ) (o : Outcome) → Prints text out left o → 50000 ≤ length out
     → (o ≡ writing (length text)) × (left ≡ text ++ drop (length text) out)
 unfolding fitted final
 prints-all text out left o p l =

@@ -24,7 +24,7 @@ const LEAST_WITH_PEELED: u64 = 20_000;
 /// program would write.
 const REFUSED_ROOM: usize = 64;
 /// So much room is said to be always enough, and nearly so much is needed.
-const ENOUGH: usize = 48_400;
+const ENOUGH: usize = 50_000;
 const LONG: usize = 48_274;
 
 struct Counts {
