@@ -33,6 +33,10 @@ module _ (s : List ℕ) (r : Refusal) (e : table s ≡ refused r) where
   unfolding sweepsGiven
   sweeps-decided room = rw e
 
+  pub check-decided : (w : Settings) → planned s w ≡ refused r
+  unfolding planned fitting
+  check-decided w = rw e
+
   pub blocks-decided : (w : Settings) (room : ℕ) → blocksGiven s w room ≡ refused r
   unfolding blocksGiven planned fitting
   blocks-decided w room = rw e

@@ -15,6 +15,7 @@ use Rattle.outputs.specs.Given.{fitted}
 use Rattle.model.specs.Table.{iteration}
 use Rattle.model.specs.Bodies.{run}
 use Rattle.plans.specs.Plans.{Settings, Planned, planned, plannedFor}
+use Rattle.plans.specs.Checking.{planThreshold, thresholdIn}
 use Rattle.entries.specs.Entries.{blocksOf, listedOf, rangesOf, blocksGiven, listGiven, rangesGiven}
 use Rattle.iterations.specs.Memory.{remembered}
 use Rattle.turns.specs.Turn.{refuses, stays, stepped}
@@ -27,6 +28,10 @@ use Rattle.answers.specs.Where.{twelve-where}
 module _ (s : List ℕ) (w : Settings) where
   -- WHERE THE PLANNER REFUSES
   module _ (r : Refusal) (e : planned s w ≡ refused r) where
+    -- asking for a plan tells no threshold
+    pub check-planned-refused : thresholdIn (planned s w) ≡ 0
+    check-planned-refused = rw e
+
     pub blocks-planned-refused : (room : ℕ) → blocksGiven s w room ≡ refused r
     unfolding blocksGiven
     blocks-planned-refused room = rw e
@@ -50,6 +55,10 @@ module _ (s : List ℕ) (w : Settings) where
 
   -- WHERE IT ACCEPTS
   module _ (q : Planned) (e : planned s w ≡ accepted q) where
+    -- asking for a plan tells its threshold (plans' FromBytes says what that is)
+    pub check-planned : thresholdIn (planned s w) ≡ planThreshold (q .plan)
+    check-planned = rw e
+
     pub blocks-planned : (room : ℕ) → blocksGiven s w room ≡ fitted room (encoded (blocksOf (q .plan)))
     unfolding blocksGiven
     blocks-planned room = rw e

@@ -1,26 +1,29 @@
 -- Each exported function on one table is refused only with a ground that holds. So the first number of an answer is 0 where the call is accepted and
 -- nowhere else.
-use Prim.Native.Nat.{ℕ, _≤_}
+use Prim.Native.Nat.{ℕ, _*_, _≤_}
 use native.Mathlib.Omega.{arith}
 use mathlib.Core.Path.{_≡_, refl, sym, ap, subst, _∙_}
-use mathlib.Core.Bool.{Bool, true, false, false≢true, not}
+use native.Mathlib.Decide.{ℕ-discrete}
+use mathlib.Core.Bool.{Bool, true, false, false≢true, not, _||_, or-true}
 use mathlib.Core.List.{List, [], _∷_}
 use lib.Dec.{eqb, ltb}
 use lib.ListN.{length}
 use lib.Ieee.{Float}
-use borrow.Author.Tests.{ltb-true, eq-eqb}
+use borrow.Author.Tests.{ltb-true, eq-eqb, ne-eqb}
 use Rattle.refusals.specs.declared.Refusal.{Refusal}
 use Rattle.refusals.specs.Refusals.{met}
 use Rattle.refusals.specs.Answers.{AnswerOf, accepted, refused, _if_else_, after, refusalOf, Only}
-use Rattle.refusals.specs.AnswerLaws.{test-only, accepted-only}
+use Rattle.refusals.specs.AnswerLaws.{if-only, after-only, test-only, accepted-only}
 use Rattle.model.specs.declared.Iteration.{Iteration}
-use Rattle.model.specs.Table.{Table, iteration}
+use Rattle.model.specs.Table.{Table, count, iteration}
 use Rattle.model.specs.Bodies.{run}
 use Rattle.numbers.specs.Numbers.{encoded}
 use Rattle.serial.specs.Serial.{table}
-use Rattle.tables.specs.Nine.{told-some, refused-told}
+use Rattle.tables.specs.Nine.{valid, told-some, refused-told}
 use Rattle.outputs.specs.Given.{fitted}
-use Rattle.plans.specs.Plans.{Settings, Planned, planOf, thresholdOf, shortFor, badProcessors, badNumber, badLine, fits, fitting, planned, plannedFor}
+use Rattle.amounts.specs.declared.Amounts.{Amounts}
+use Rattle.legality.specs.ByHand.{tooLarge, firstUnmet, judged, byHand}
+use Rattle.plans.specs.Plans.{Settings, Planned, own, planOf, thresholdOf, shortFor, badProcessors, badNumber, badLine, amountsFor, fits, fitting, planned, plannedFor}
 use Rattle.sweeps.specs.Sweeps as Sweeps
 use Rattle.facts.specs.Facts.{factsOf, factsGiven}
 use Rattle.entries.specs.Entries.{amountsOf, blocksOf, listedOf, rangesOf, amounts, thresholds, sweepsGiven, blocksGiven, listGiven, rangesGiven}
@@ -32,9 +35,10 @@ use Rattle.turns.specs.Reach.{Turn, does, halts, stops, turn-is}
 use Rattle.turns.specs.Meaning.{turn-said}
 use Rattle.stepping.specs.Step.{workOf, elements, steppedBy, step}
 use Rattle.stepping.specs.Run.{runAnswer}
-use Rattle.answers.specs.Statements.{BadProcessors, BadNumber, BadLine, Short, OtherLength, NoRoom, BadState}
+use Rattle.answers.specs.Statements.{Given, NotAPlan, BadProcessors, BadNumber, BadLine, Short, OtherLength, NoRoom, BadState}
 use Rattle.answers.specs.Tests.{Decides, ten, ten-named, eleven, fifteen, seventeen}
-use Rattle.answers.specs.Refusing.{Then, before, here, ReadRefused, LineRefused, FitRefused, PlanRefused, NamedRefused, MemoryRefused, OutputRefused, StepRefused, Nonzero}
+use Rattle.answers.specs.HandTests.{numbers, nineteen-is, twenty-given}
+use Rattle.answers.specs.Refusing.{Then, before, here, ReadRefused, HandRefused, read, nineteen, twenty, CountRefused, LineRefused, FitRefused, PlanRefused, NamedRefused, MemoryRefused, OutputRefused, StepRefused, Nonzero}
 
 -- 12 and 13 after any answer
 module _ {T : Type 0} (a : AnswerOf T) (Before : Refusal → Type 0) (first : Only Before a) where
@@ -79,25 +83,54 @@ module _ (s : List ℕ) where
   plain-refused = remembered-only (table s) (ReadRefused s) check-refused elementTotal
 
   module _ (w : Settings) where
+    -- 19 and 20
+    hand-only : (t : Table) → table s ≡ accepted t → Only (HandRefused s w) (amountsFor w t)
+    unfolding amountsFor byHand judged
+    hand-only t e = go (ℕ-discrete (w .given) 0)
+      where
+        few : count t ≤ 16
+        few = valid s t e .few-loops
+
+        fine : (x y : Bool) → not (eqb (w .size) (8 * count t)) ≡ x → tooLarge (numbers t few w) ≡ y → x ≡ false → y ≡ false → NotAPlan t w → ⊥
+        fine x y p q u v h = false≢true (sym (rw (p ∙ u, q ∙ v)) ∙ nineteen-is t few w .1 h)
+
+        sized : Given w → not (eqb (w .size) (8 * count t)) ≡ true → HandRefused s w (met 19 0)
+        sized g p = nineteen t e g (nineteen-is t few w .0 (rw p))
+
+        large : Given w → tooLarge (numbers t few w) ≡ true → HandRefused s w (met 19 0)
+        large g p = nineteen t e g (nineteen-is t few w .0 (rw p (or-true (not (eqb (w .size) (8 * count t))))))
+
+        go : Dec (w .given ≡ 0) → Only (HandRefused s w) (accepted (own t) if eqb (w .given) 0 else byHand t (w .size) (w .plan))
+        go (yes z) = rw (eq-eqb (w .given) 0 z) (accepted-only (HandRefused s w) (own t))
+        go (no g) =
+            rw (ne-eqb (w .given) 0 g)
+            (if-only (HandRefused s w) (met 19 0) (not (eqb (w .size) (8 * count t))) (judged t (numbers t few w)) (sized g)
+            (λ p. if-only (HandRefused s w) (met 19 0) (tooLarge (numbers t few w)) _ (large g)
+            (λ q. if-only (HandRefused s w) _ (ltb (firstUnmet t (numbers t few w)) 256) (accepted (numbers t few w))
+            (λ l. twenty t _ _ e g (fine _ _ refl refl p q) (twenty-given t few w (ltb-true _ 256 l)))
+            (λ l. accepted-only (HandRefused s w) (numbers t few w)))))
+
     fitting-only : (Bad : Type 0) (wrong : Bool) → Decides wrong Bad → Only (FitRefused s w Bad) (fitting wrong w (table s))
     unfolding fitting
     fitting-only Bad wrong d =
-        test-only (FitRefused s w Bad) (table s) 10 (λ t. wrong) (λ t. refused (met 17 0) if badLine w else fits w t)
-        (λ r e. before (before (before (check-refused r e))))
-        (λ t e x. before (before (here t e (d .0 x))))
-        (λ t e x. lined t e (λ bad. false≢true (sym x ∙ d .1 bad)) (badLine w) refl)
+        after-only (FitRefused s w Bad) (table s) _ (λ r e. before (before (before (read (check-refused r e)))))
+        (λ t e. test-only (FitRefused s w Bad) (amountsFor w t) 10 (λ a. wrong) (λ a. refused (met 17 0) if badLine w else fits w t a)
+        (λ r f. before (before (before (hand-only t e r f))))
+        (λ a m x. before (before (here t e ((a, m), d .0 x))))
+        (λ a m x. lined t e a m (λ bad. false≢true (sym x ∙ d .1 bad)) (badLine w) refl))
       where
-        short : (t : Table) → table s ≡ accepted t → (Bad → ⊥) → (BadLine w → ⊥) → (x : Bool) → shortFor t w ≡ x
-            → Only {T = Planned} (FitRefused s w Bad) (refused (met 11 0) if x else accepted (record { table = t; plan = planOf t w }))
-        short t e fine whole true x r f = subst (FitRefused s w Bad) (ap refusalOf f) (here t e (fine, whole, eleven t w .0 x))
-        short t e fine whole false x r f = accepted-only (FitRefused s w Bad) (record { table = t; plan = planOf t w }) r f
+        short : (t : Table) → table s ≡ accepted t → (a : Amounts) → amountsFor w t ≡ accepted a → (Bad → ⊥) → (BadLine w → ⊥) → (x : Bool) → shortFor t a w ≡ x
+            → Only {T = Planned} (FitRefused s w Bad) (refused (met 11 0) if x else accepted (record { table = t; plan = planOf t a w }))
+        short t e a m fine whole true x r f = subst (FitRefused s w Bad) (ap refusalOf f) (here t e (a, m, fine, whole, eleven t a w .0 x))
+        short t e a m fine whole false x r f = accepted-only (FitRefused s w Bad) (record { table = t; plan = planOf t a w }) r f
 
-        lined : (t : Table) → table s ≡ accepted t → (Bad → ⊥) → (x : Bool) → badLine w ≡ x
-            → Only {T = Planned} (FitRefused s w Bad) (refused (met 17 0) if x else fits w t)
-        lined t e fine true x r f = subst (FitRefused s w Bad) (ap refusalOf f) (before (here t e (fine, seventeen w .0 x)))
-        lined t e fine false x r f = short t e fine (λ bad. false≢true (sym x ∙ seventeen w .1 bad)) (shortFor t w) refl r f
+        lined : (t : Table) → table s ≡ accepted t → (a : Amounts) → amountsFor w t ≡ accepted a → (Bad → ⊥) → (x : Bool) → badLine w ≡ x
+            → Only {T = Planned} (FitRefused s w Bad) (refused (met 17 0) if x else fits w t a)
+        lined t e a m fine true x r f = subst (FitRefused s w Bad) (ap refusalOf f) (before (here t e ((a, m), fine, seventeen w .0 x)))
+        lined t e a m fine false x r f = short t e a m fine (λ bad. false≢true (sym x ∙ seventeen w .1 bad)) (shortFor t a w) refl r f
 
-    plan-refused : Only (PlanRefused s w) (planned s w)
+    -- asking for a plan
+    pub plan-refused : Only (PlanRefused s w) (planned s w)
     unfolding planned
     plan-refused = fitting-only (BadProcessors w) (badProcessors w) (ten w)
 
@@ -171,13 +204,15 @@ module _ (s : List ℕ) where
   read-some = told-some s
 
   module _ (w : Settings) where
+    hand-some : Nonzero (HandRefused s w)
+    hand-some r (read h) z = read-some r h z
+    hand-some r (nineteen t e g h) z = omega (arith, z)
+    hand-some r (twenty t j k e g n h) z = omega (arith, z)
+
     pub fit-some : (Bad : Type 0) → Nonzero (FitRefused s w Bad)
     fit-some Bad =
-        then-some (table s) (LineRefused s w Bad)
-        (then-some (table s) (Then (table s) (ReadRefused s) 10 (λ t. Bad))
-        (then-some (table s) (ReadRefused s) read-some 10 (λ t. Bad) (omega arith))
-        17 (λ t. (Bad → ⊥) × BadLine w) (omega arith))
-        11 (λ t. (Bad → ⊥) × (BadLine w → ⊥) × Short t w) (omega arith)
+        then-some (table s) (LineRefused s w Bad) (then-some (table s) (CountRefused s w Bad) (then-some (table s) (HandRefused s w) hand-some 10 _ (omega arith)) 17 _ (omega arith))
+        11 _ (omega arith)
 
     pub step-some : (b : ℕ) (counts : List ℕ) (m : List Float) → Nonzero (StepRefused s w b counts m)
     step-some b counts m =

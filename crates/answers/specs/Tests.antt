@@ -15,7 +15,9 @@ use Rattle.blocks.specs.SumLaws.{some-which, some-here}
 use Rattle.blocks.specs.Span.{tableSpan}
 use Rattle.blocks.specs.LineLaws.{short-given, short-not}
 use Rattle.turns.specs.Turn.{closed, wrongCount, wrongState}
-use Rattle.plans.specs.Plans.{Settings, Planned, thresholdOf, outside, badProcessors, badNumber, badLine, shortFor}
+use Rattle.chains.specs.Threshold.{threshold}
+use Rattle.amounts.specs.declared.Amounts.{Amounts}
+use Rattle.plans.specs.Plans.{Settings, Planned, outside, badProcessors, badNumber, badLine, shortFor}
 use Rattle.stepping.specs.Step.{workOf, fused, peeled}
 use Rattle.stepping.specs.Worded.{wrong-is, barrier-is}
 use Rattle.answers.specs.Statements.{BadProcessors, BadNumber, BadLine, Short, AboveLists, BeforeBarrier, BadCount, above, early, beyond, BadState}
@@ -24,7 +26,7 @@ use Rattle.answers.specs.Statements.{BadProcessors, BadNumber, BadLine, 
 abbrev pub Decides : Bool → Type 0 → Type 0
 Decides x A = (x ≡ true) ↔ A
 
-either : (x y : Bool) {A B : Type 0} → Decides x A → Decides y B → Decides (x || y) (A ⊎ B)
+pub either : (x y : Bool) {A B : Type 0} → Decides x A → Decides y B → Decides (x || y) (A ⊎ B)
 either x y {A} {B} f g = (to x y refl refl, ⊎-elim (λ a. left (f .1 a)) (λ b. right (g .1 b)))
   where
     to : (u v : Bool) → x ≡ u → y ≡ v → (u || v) ≡ true → A ⊎ B
@@ -37,14 +39,14 @@ either x y {A} {B} f g = (to x y refl refl, ⊎-elim (λ a. left (f .1 a)) (λ b
     right : y ≡ true → (x || y) ≡ true
     right e = rw e (or-true x)
 
-both : (x y : Bool) {A B : Type 0} → Decides x A → Decides y B → Decides (x && y) (A × B)
+pub both : (x y : Bool) {A B : Type 0} → Decides x A → Decides y B → Decides (x && y) (A × B)
 both x y {A} {B} f g = (to x y refl refl, λ (a, b). rw (f .1 a, g .1 b))
   where
     to : (u v : Bool) → x ≡ u → y ≡ v → (u && v) ≡ true → A × B
     to true v e h q = (f .0 e, g .0 (h ∙ q))
     to false v e h q = absurd (false≢true q)
 
-below : (m n : ℕ) → Decides (ltb m n) (m < n)
+pub below : (m n : ℕ) → Decides (ltb m n) (m < n)
 below m n = (ltb-true m n, lt-ltb m n)
 
 at-most : (m n : ℕ) → Decides (leb m n) (m ≤ n)
@@ -65,8 +67,8 @@ pub seventeen : (w : Settings) → Decides (badLine w) (BadLine w)
 seventeen w = outside-is 64 (w .line)
 
 -- 11
-pub eleven : (t : Table) (w : Settings) → Decides (shortFor t w) (Short t w)
-eleven t w = (short-given T W P (thresholdOf t), λ h. go h (shortFor t w) refl)
+pub eleven : (t : Table) (a : Amounts) (w : Settings) → Decides (shortFor t a w) (Short t a w)
+eleven t a w = (short-given T W P u, λ h. go h (shortFor t a w) refl)
   where
     T : ℕ
     T = tableSpan t .count
@@ -77,10 +79,13 @@ eleven t w = (short-given T W P (thresholdOf t), λ h. go h (shortFor t w) refl)
     P : ℕ
     P = w .processors
 
-    go : Short t w → (x : Bool) → shortFor t w ≡ x → x ≡ true
+    u : ℕ
+    u = threshold (a .shifts) (a .peels)
+
+    go : Short t a w → (x : Bool) → shortFor t a w ≡ x → x ≡ true
     go h true e = refl
     go h false e =
-        let (enough, wide) = short-not T W P (thresholdOf t) e in
+        let (enough, wide) = short-not T W P u e in
         absurd (⊎-elim (λ l. omega arith) (λ (two, b, l, less). omega (arith, less, wide two b l)) h)
 
 -- 15

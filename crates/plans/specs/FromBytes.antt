@@ -3,8 +3,8 @@
 -- those given by hand, of which none is smaller; and each iteration stands in one list, once.
 use Prim.Native.Nat.{ℕ, zero, suc, _+_, _*_, _≤_, _<_}
 use native.Mathlib.Omega.{arith}
-use native.Mathlib.Decide.{decLt}
-use mathlib.Core.Path.{_≡_, sym, ap, _∙_}
+use native.Mathlib.Decide.{ℕ-discrete, decLt}
+use mathlib.Core.Path.{_≡_, refl, sym, ap, _∙_}
 use mathlib.Core.Logic.{_⊎_, inl, inr, ⊎-elim}
 use mathlib.Core.List.{List}
 use mathlib.Core.List.{List·Memᴰ as Mem}
@@ -21,15 +21,18 @@ use Rattle.chains.specs.ChainLaws.{last-dependence}
 use Rattle.chains.specs.Tables.{shift-largest, peel-largest, allRefs-refs, plan-least as legal-least}
 use Rattle.chains.specs.Legal.{LegalPlan}
 use Rattle.chains.specs.Walk.{shifts, peels}
+use Rattle.chains.specs.MaximumLaws.{maximumBelow-of, maximumBelow-upper}
+use Rattle.chains.specs.Threshold.{threshold}
 use Rattle.chains.specs.ThresholdLaws.{threshold-attained, threshold-upper}
 use Rattle.lists.specs.Fusion.{Fusion, work, fusedList, peeledList}
 use Rattle.lists.specs.FusionLaws.{Once, once, owner, phase}
 use Rattle.lists.specs.EachOnce.{EachOnce}
 use Rattle.amounts.specs.declared.Amounts.{Amounts}
 use Rattle.legality.specs.Written.{numberAt}
-use Rattle.legality.specs.WrittenLaws.{filled-here}
+use Rattle.legality.specs.WrittenLaws.{filled-here, filled-past}
 use Rattle.legality.specs.ByHandLaws.{HandFits, hand-accepts}
 use Rattle.plans.specs.Plans.{Settings, Planned, shiftOf, peelOf, thresholdOf, own, planOf, amountsFor, planned}
+use Rattle.plans.specs.Checking.{planThreshold}
 use Rattle.tables.specs.Nine.{valid}
 use Rattle.plans.specs.Accepted.{AcceptedPlan, planned-accepts}
 
@@ -57,6 +60,12 @@ module _ (s : List ℕ) (t : Table) (read : table s ≡ accepted t) where
   past-zero : (k n : ℕ) (amount : _) → count t ≤ k → Largest amount (graph t) k n → n ≡ 0
   past-zero k n amount l h = ⊎-elim (λ r. absurd (none-past k l (r .0))) (λ r. r .1) (h .attained)
 
+  pub past-shift : (k : ℕ) → count t ≤ k → shiftOf t k ≡ 0
+  past-shift k l = past-zero k (shiftOf t k) backward l (shifts-largest k)
+
+  pub past-peel : (k : ℕ) → count t ≤ k → peelOf t k ≡ 0
+  past-peel k l = past-zero k (peelOf t k) forward l (peels-largest k)
+
   -- some loop's shift and peel together are the threshold, and no loop's are more
   pub threshold-some : (k : ℕ) × (k < count t) × (shiftOf t k + peelOf t k ≡ thresholdOf t)
   threshold-some =
@@ -67,8 +76,8 @@ module _ (s : List ℕ) (t : Table) (read : table s ≡ accepted t) where
           → (k : ℕ) × (k < count t) × (shiftOf t k + peelOf t k ≡ thresholdOf t)
       go k e (yes l) = (k, l, e)
       go k e (no l) =
-          let a = past-zero k (shiftOf t k) backward (omega arith) (shifts-largest k) in
-          let b = past-zero k (peelOf t k) forward (omega arith) (peels-largest k) in
+          let a = past-shift k (omega arith) in
+          let b = past-peel k (omega arith) in
           let most = threshold-upper (shifts (graph t)) (peels (graph t)) 0 (omega arith) in
           (0, omega (arith, valid s t read .some-loops), omega (arith, a, b, e, most))
 
@@ -122,6 +131,39 @@ module _ (s : List ℕ) (w : Settings) (q : Planned) (planned-is : planned s w �
   -- and none is above 10,000
   pub plan-most : (k : ℕ) → (q .plan .shift k ≤ 10000) × (q .plan .peel k ≤ 10000)
   plan-most k = rw (law .plan-is) (law .chosen .within .shifts-small k, law .chosen .within .peels-small k)
+
+  -- ITS THRESHOLD is the largest sum of shift and peel of one loop of the table: some loop has it, and none more
+  past-zeros : (k : ℕ) → count (q .table) ≤ k → q .plan .shift k + q .plan .peel k ≡ 0
+  past-zeros k l = go (ℕ-discrete (w .given) 0)
+    where
+      go : Dec (w .given ≡ 0) → q .plan .shift k + q .plan .peel k ≡ 0
+      go (yes e) = rw (own-plan e) (omega (arith, past-shift s (q .table) (law .read) k l, past-peel s (q .table) (law .read) k l))
+      go (no n) =
+          rw (law .plan-is, plan-by-hand n .read)
+          (omega (arith, filled-past (λ k. numberAt (w .plan) (2 * k + 0)) (count (q .table)) k l, filled-past (λ k. numberAt (w .plan) (2 * k + 0 + 1)) (count (q .table)) k l))
+
+  pub plan-threshold-some : (k : ℕ) × (k < count (q .table)) × (q .plan .shift k + q .plan .peel k ≡ planThreshold (q .plan))
+  plan-threshold-some =
+      ⊎-elim (λ e. (0, some-loop, omega (arith, e, maximumBelow-upper sum 16 0 (omega arith)))) (λ (k, l, e). go k e (decLt k (count (q .table))))
+      (maximumBelow-of (λ n. (n ≡ 0) ⊎ ((k : ℕ) × (k < 16) × (sum k ≡ n))) sum 16 (inl refl) (λ k l. inr (k, l, refl)))
+    where
+      sum : ℕ → ℕ
+      sum k = q .plan .shift k + q .plan .peel k
+
+      some-loop : 0 < count (q .table)
+      some-loop = valid s (q .table) (law .read) .some-loops
+
+      go : (k : ℕ) → sum k ≡ planThreshold (q .plan) → Dec (k < count (q .table)) → (k : ℕ) × (k < count (q .table)) × (sum k ≡ planThreshold (q .plan))
+      go k e (yes l) = (k, l, e)
+      go k e (no l) = (0, some-loop, omega (arith, e, past-zeros k (omega arith), maximumBelow-upper sum 16 0 (omega arith)))
+
+  pub plan-threshold-most : (k : ℕ) → k < count (q .table) → q .plan .shift k + q .plan .peel k ≤ planThreshold (q .plan)
+  plan-threshold-most k l = maximumBelow-upper (λ k. q .plan .shift k + q .plan .peel k) 16 k (omega (arith, valid s (q .table) (law .read) .few-loops))
+
+  -- without a plan by hand it is the table's own
+  pub plan-threshold-own : w .given ≡ 0 → planThreshold (q .plan) ≡ thresholdOf (q .table)
+  unfolding threshold
+  plan-threshold-own e = rw (own-plan e)
 
   -- each iteration stands in one list, once
   pub each-once : EachOnce (q .table) (q .plan)
