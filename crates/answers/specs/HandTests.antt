@@ -48,9 +48,11 @@ module _ (t : Table) (few : count t ≤ 16) (w : Settings) where
   large-is = (given, made)
     where
       at : (k : ℕ) → Dec (k < count t) → LargeAt k ≡ true → (k < count t) × ((10000 < handShift w k) ⊎ (10000 < handPeel w k))
-      at k (yes l) e =
-          (l, ⊎-elim (λ h. inl (omega (arith, h, shift-here k l))) (λ h. inr (omega (arith, h, peel-here k l)))
-          (either _ _ (below 10000 (getD (numbers .shifts) k 0)) (below 10000 (getD (numbers .peels) k 0)) .0 e))
+      at k (yes l) e = (
+        l,
+        ⊎-elim (λ h. inl (omega (arith, h, shift-here k l))) (λ h. inr (omega (arith, h, peel-here k l)))
+            (either _ _ (below 10000 (getD (numbers .shifts) k 0)) (below 10000 (getD (numbers .peels) k 0)) .0 e),
+      )
       at k (no l) e =
           absurd (⊎-elim (λ h. omega (arith, h, filled-past (λ k. numberAt (w .plan) (2 * k + 0)) (count t) k (omega arith)))
           (λ h. omega (arith, h, filled-past (λ k. numberAt (w .plan) (2 * k + 0 + 1)) (count t) k (omega arith)))
@@ -92,7 +94,12 @@ module _ (t : Table) (few : count t ≤ 16) (w : Settings) where
   unmet-not : (j k : ℕ) → Unmet (graph t) miss j k → NotMet t w j k
   unmet-not j k u =
       subst (λ (i : ℕ). NotMet t w i k) (u .from) (subst (λ (m : ℕ). NotMet t w (u .x .number) m) (u .to) (record {
-        x = u .x; y = u .y; dependence = u .dependence; from = refl; to = refl; short = short-is (u .x) (u .y) (u .dependence) .0 (u .missed-is);
+        x = u .x;
+        y = u .y;
+        dependence = u .dependence;
+        from = refl;
+        to = refl;
+        short = short-is (u .x) (u .y) (u .dependence) .0 (u .missed-is);
       }))
 
   pub not-unmet : (j k : ℕ) → NotMet t w j k → Unmet (graph t) miss j k

@@ -16,12 +16,15 @@ use Rattle.chains.specs.TableGraph.{graph}
 use Rattle.chains.specs.Walk.{required, raised, walk, numbers, shifts, peels}
 use Rattle.chains.specs.Steps.{Pair, steps, walked}
 use Rattle.chains.specs.Threshold.{threshold}
+use Rattle.chains.specs.Unmet.{leastFrom, unmet, leastUnmet}
 use Rattle.blocks.specs.Span.{spanOf}
 use Rattle.blocks.specs.Blocks.{lines, size, start, before, isShort}
 use Rattle.blocks.specs.Parts.{fusedPart, peeledPart}
 use Rattle.lists.specs.Lists.{loopAt, sumAt, sumBound, bySums, loopOver, byLoops}
 use Rattle.lists.specs.Fusion.{fusedList, peeledList}
-use Rattle.plans.specs.Plans.{Planned, settings, thresholdOf, fitting, planned}
+use Rattle.legality.specs.Written.{filledFrom}
+use Rattle.legality.specs.ByHand.{judged, byHand}
+use Rattle.plans.specs.Plans.{Planned, settings, thresholdOf, amountsFor, fitting, planned}
 use Rattle.marks.specs.Marks.{countFrom}
 use Rattle.sweeps.specs.Sweeps.{some}
 use Rattle.text.specs.Decimal.{decimal, digits}
@@ -37,7 +40,7 @@ refusal s = refusalOf (table s)
 
 -- that of a plan for P processors, 1 to 11, lines having one index
 unfoldable pub refusalFor : List ℕ → ℕ → Refusal
-unfolding refusal planned fitting dependence required raised walk numbers threshold spanOf lines size start before isShort
+unfolding refusal planned fitting amountsFor byHand judged filledFrom leastUnmet unmet leastFrom dependence required raised walk numbers threshold spanOf lines size start before isShort
 refusalFor s P = refusalOf (planned s (settings P))
 
 -- what f says of what is accepted; of a refusal nothing

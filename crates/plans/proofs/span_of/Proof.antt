@@ -63,5 +63,4 @@ pub span-of-spec : {M : Type 1} → statement M
 span-of-spec =
     tie.close (tie.spec
     Inv-loop μ-loop (λ c κs. search needs) (λ c κs. omega arith) loop-holds first-at-requires-2 lesser-requires
-    last-at-requires greater-requires add-k (λ c. omega arith) loop-again (λ c. omega arith) minus-requires
-    returns)
+    last-at-requires greater-requires add-k (λ c. omega arith) loop-again (λ c. omega arith) minus-requires returns)
