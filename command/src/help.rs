@@ -27,8 +27,8 @@ pub const PLAN: Help = Help {
                blocks begin on whole lines, which count from the least first index of all loops
   --plan PLAN  shifts and peels by hand, of one FILE, see below
   --write-plan OUT   write the plan's shifts and peels, those found or those of --plan, as text
-               into OUT: a start for a plan by hand. OUT is none of the files to read; a refused
-               plan has none, and neither has -o DIR
+               into OUT: a start for a plan by hand. OUT is none of the files to read, and is not
+               touched where the plan is refused. Of one FILE, and not with -o
   -o DIR       a file in DIR for each table instead of printing: NAME.plan, with --json NAME.json,
                NAME being the file's name without directory and extension (stdin for -). Files of
                these names are removed first; a refused table has no NAME.plan
@@ -90,8 +90,8 @@ const ALL: [&Help; 7] = [&CHECK, &PLAN, &JOIN, &RUN, &DUMP, &MAKE, &DRAW];
 const FILES: &str = "
 FILE is a table or a text (vempaldi make --help describes texts): what has 'array' or 'loop' as its
 first word outside comments is a text. One FILE, or PLAN, may be - for the standard input. With
-several files a last line on the standard error counts them. -p2 is -p 2, --order=turns is --order turns; behind
--- all words are files.
+several files a last line on the standard error counts them. -p2 is -p 2, --order=turns is --order
+turns; behind -- all words are files.
 ";
 
 const STATUS: &str = "
@@ -122,9 +122,9 @@ line SHIFT PEEL for each loop, in table order, # to the end of a line being a co
   2 1        # loop 1
 or the same numbers in bytes, four each, the lowest first. Numbers are 0 to 10000, else it is
 refused with 19. For each dependence the later loop's shift must be at least the earlier's plus the
-backward amount, its peel at least the earlier's plus the forward amount, else it is refused with 20,
-which says the loops, the references and the number that would do. What has no character but those
-of a text is one; a line of it that is not two numbers is an input error.
+backward amount, its peel at least the earlier's plus the forward amount, else it is refused with
+20, which says the loops, the references and the number that would do. What has no character but
+those of a text is one; a line of it that is not two numbers is an input error.
 ";
 
 const JSON: &str = "
