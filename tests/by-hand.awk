@@ -3,8 +3,8 @@
 #     awk -v plan="SHIFT PEEL .." -f tests/by-hand.awk LISTING TEXT
 #
 # LISTING is the table's own plan for one processor, of which the sweeps are taken; TEXT is the table's text, which has bounds and references.
-# Prints the lines `loop` with the plan's numbers and the line `sweeps`, which tests/lines.awk takes for its LISTING; or the line of the refusal, worked
-# out here as docs/TABLE.md says it: `refused 19 0`, or `refused 20` with the earlier and the later loop.
+# Prints the lines `loop` with the plan's numbers and the line `sweeps`, which tests/lines.awk takes for its LISTING; or the line of the refusal,
+# worked out here as docs/TABLE.md says it: `refused 19 0`, or `refused 20` with the earlier and the later loop.
 function max(one, other) { return one > other ? one : other }
 function min(one, other) { return one < other ? one : other }
 

@@ -2,8 +2,8 @@
 # tests/examples.sh c|rust|fortran: compiles that example against the library of build/ and runs it on every table of examples/ for several
 # numbers of processors, on tables that are refused, and with arguments that are no good.
 # What it must print is made without it and without the library. The listing is the proved program's (bin/plan), and for the example on two
-# processors the typed one; with lines it is worked out by tests/lines.awk, with a plan by hand by tests/by-hand.awk before. Counts are added up from that
-# listing and from the table's text; the numbers are worked out from the text.
+# processors the typed one; with lines it is worked out by tests/lines.awk, and what a plan by hand comes to before by tests/by-hand.awk. Counts are
+# added up from that listing and from the table's text; the numbers are worked out from the text.
 set -eu
 cd "$(dirname "$0")/.."
 case ${1:-} in
@@ -180,10 +180,10 @@ try_typed() {
     says 0 "$typed" "" examples/example.table 00000000002
     says 0 "$typed" "" examples/example.table 2 5
     [ "$language" != fortran ] || says 0 "$typed" "" examples/example.table
-    # The plan of examples/example.hand: 3 indices of a block are fused in loop 1, and three are peeled.
-    by_hand=$(expected $'loop 0 0 0\nloop 1 2 1\nblock 0 1 5\nblock 1 6 10\nfused 0 0 1 5\nfused 0 1 1 3\nfused 1 0 6 10\nfused 1 1 7 10\npeeled 0 1 4 6
-sweeps 6 5' 2)
-    says 0 "$by_hand" "" examples/example.table 2 1 $(sed 's/#.*//' examples/example.hand)
+    # The plan of examples/example.hand: of the first block's five indices three are fused in loop 1, and 4 to 6 are peeled.
+    local listing
+    listing=$(sed 's/^loop 1 1 1/loop 1 2 1/; s/^fused 0 1 1 4/fused 0 1 1 3/; s/^peeled 0 1 5 6/peeled 0 1 4 6/' tests/example.listing)
+    says 0 "$(expected "$listing" 2)" "" examples/example.table 2 1 $(sed 's/#.*//' examples/example.hand)
     table=examples/example.table
     try "refused 20 0 1" 2 1 0 0 0 1
     try "refused 20 0 1" 2 1 3 2 3 3

@@ -1,7 +1,7 @@
 #!/usr/bin/env bash
 # What docs/TABLE.md says, tried: the table that it prints byte by byte is examples/example.table; each row of bytes below 'The order of
-# tests' has the answer that stands behind it, and each plan below 'A plan by hand' too; its Fortran loops, compiled as printed, leave the numbers that the table's run leaves; and its
-# examples of the builders in C, Fortran and Rust, as printed, build that table.
+# tests' has the answer that stands behind it, and so has each plan below 'A plan by hand'; its Fortran loops, compiled as printed, leave the
+# numbers that the table's run leaves; and its examples of the builders in C, Fortran and Rust, as printed, build that table.
 set -eu
 cd "$(dirname "$0")/.."
 export CARGO_TARGET_DIR="${CARGO_TARGET_DIR:-$PWD/build/cargo}" VEMPALDI_LIB="${VEMPALDI_LIB:-$PWD/build}"
@@ -58,8 +58,8 @@ answers() {
     [ "$rows" -ge 20 ] || wrong "only $rows rows of bytes with their answers"
 }
 
-# A line is a plan, its loops apart by commas, and behind two blanks its answer for one processor, and behind two more a remark. The text that follows is
-# examples/example.hand.
+# A line is a plan, its loops apart by commas, and behind two blanks its answer for one processor, and behind two more a remark. The text that
+# follows is examples/example.hand.
 plans() {
     local plan answer said
     planned=0

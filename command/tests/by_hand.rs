@@ -48,6 +48,7 @@ fn what_is_no_plan_for_the_table_is_19() {
         (b"\0", "the plan has 1 byte, 2 loops need 16 (2 pairs)"),
         (long, "the plan has 17 bytes, 2 loops need 16 (2 pairs)"),
         (b"0 0\n10001 1\n", "shift 10001 of loop 1, allowed are 0 to 10000"),
+        (b"10000 10000\n10001 1\n", "shift 10001 of loop 1, allowed are 0 to 10000"),
         (b"0 10001\n99999 10002\n", "peel 10001 of loop 0, allowed are 0 to 10000"),
         (b"0 0\n1 4294967295\n", "peel 4294967295 of loop 1, allowed are 0 to 10000"),
     ] {
