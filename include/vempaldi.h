@@ -108,7 +108,7 @@ enum vempaldi_size {
     VEMPALDI_AMOUNT_BYTES = 128,    /* shifts and peels of 16 loops, so also of a plan by hand */
     VEMPALDI_RANGE_BYTES = 128,     /* a processor's ranges in 16 loops */
     VEMPALDI_BLOCK_BYTES = 512,     /* first and last index of 64 blocks */
-    VEMPALDI_LISTING_BYTES = 48400  /* no listing has more */
+    VEMPALDI_LISTING_BYTES = 50000  /* no listing has more */
 };
 
 /* What settles a table's lists beside the table itself. Every call that plans takes it, and all calls of a row of steps take the same. Make it

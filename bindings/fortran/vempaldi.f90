@@ -44,7 +44,7 @@ module vempaldi
   integer, parameter, public :: vempaldi_most_processors = 64, vempaldi_longest_line = 64, vempaldi_most_amount = 10000, &
     vempaldi_deciding_bytes = 2077
   integer, parameter, public :: vempaldi_table_bytes = 2065, vempaldi_facts_bytes = 268, vempaldi_amount_bytes = 128, &
-    vempaldi_range_bytes = 128, vempaldi_block_bytes = 512, vempaldi_listing_bytes = 48400
+    vempaldi_range_bytes = 128, vempaldi_block_bytes = 512, vempaldi_listing_bytes = 50000
 
   public :: vempaldi_version, vempaldi_check, vempaldi_join, vempaldi_facts
   public :: vempaldi_shifts_and_peels, vempaldi_threshold, vempaldi_check_plan, vempaldi_sweeps, vempaldi_blocks, vempaldi_listing

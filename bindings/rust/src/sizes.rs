@@ -28,7 +28,7 @@ pub const RANGE_BYTES: usize = 128;
 pub const BLOCK_BYTES: usize = 512;
 
 /// No listing has more.
-pub const LISTING_BYTES: usize = 48_400;
+pub const LISTING_BYTES: usize = 50_000;
 
 #[deprecated(since = "0.2.0", note = "it is TABLE_BYTES, as in C")]
 pub const MOST_TABLE_BYTES: usize = TABLE_BYTES;

@@ -400,6 +400,30 @@ fn sixteen_loops_have_the_longest_plan() {
     assert_eq!(checked(&table, Settings::new(2).amounts(highest)), Err((11, 0, 0)));
 }
 
+/// Without a plan by hand loop 0 is never peeled. Here every loop has a fused part in each of 64 blocks and a peeled one in each but the last, and all
+/// indices have five digits.
+#[test]
+fn the_longest_listings_fit() {
+    let mut b = Builder::new();
+    let [a0, a1] = [65_536, 65_536].map(|length| b.array(length));
+    for _ in 0..16 {
+        b.open_loop(10_000, 65_535, a0, 0);
+        b.read(a1, 0);
+    }
+    let table = b.end().expect("a table");
+    let text = listing(&table, Settings::new(64).amounts([(100, 100); 16])).expect("it fits");
+    // Lines of loops, blocks, fused and peeled parts, and the sweeps. A line has its words, a blank before each number, and a line feed.
+    let digits = |count: u32| (0..count).map(|number| number.to_string().len()).sum::<usize>();
+    let loops = digits(16) + 16 * "loop  100 100\n".len();
+    let blocks = digits(64) + 64 * "block  10000 10000\n".len();
+    let fused = 16 * digits(64) + 64 * digits(16) + 1_024 * "fused   10000 10000\n".len();
+    let peeled = 16 * digits(63) + 63 * digits(16) + 1_008 * "peeled   10000 10000\n".len();
+    // Each loop touches both arrays and stores one.
+    let sweeps = "sweeps 48 3\n".len();
+    assert_eq!(text.len(), loops + blocks + fused + peeled + sweeps);
+    assert!(text.len() > 48_400 && text.len() <= LISTING_BYTES, "{}", text.len());
+}
+
 /// With shift 3 and peel 2 of loop 1 and two processors, the first has 1 to 5 of loop 0 and 1 to 2 of loop 1, and 3 to 7 of loop 1 past the
 /// barrier; the other has 6 to 10 and 8 to 10, which are eight iterations.
 #[test]
