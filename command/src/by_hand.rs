@@ -24,8 +24,8 @@ pub fn with_plan(settings: Settings, name: &str) -> Result<Settings, Failure> {
     }
 }
 
-/// What has no character but those of a text is one. Nothing that would be accepted as bytes is lost by that: each number up to 10,000 has two
-/// bytes that are 0.
+/// What has no character but those of a text is one. Nothing that would be accepted as bytes is lost by that: of the four bytes of a number up
+/// to 10,000 at least two are 0.
 fn as_text(bytes: &[u8]) -> Option<&str> {
     let of_text = |one: char| !one.is_control() || "\t\n\r".contains(one);
     std::str::from_utf8(bytes).ok().filter(|text| !text.is_empty() && text.chars().all(of_text))
