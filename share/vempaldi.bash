@@ -4,11 +4,11 @@
 _vempaldi_options() {
     case $1 in
     check) echo -q --raw --help ;;
-    plan) echo -p --line -o --json --raw --help ;;
+    plan) echo -p --line --plan --write-plan -o --json --raw --help ;;
     join | make) echo -o --raw --help ;;
-    run) echo -p --line --order --memory --values -o --raw --help ;;
+    run) echo -p --line --plan --order --memory --values -o --raw --help ;;
     dump) echo --raw --help ;;
-    draw) echo -p --line -o --raw --help ;;
+    draw) echo -p --line --plan -o --raw --help ;;
     esac
 }
 
@@ -18,6 +18,7 @@ _vempaldi_value() {
     --order,@* | --memory,@*) compgen -f -P @ -- "${3#@}" ;;
     --order,*) compgen -W 'turns falling none random: @' -- "$3" ;;
     --memory,*) compgen -W 'index zero random: @' -- "$3" ;;
+    --plan,* | --write-plan,*) compgen -f -- "$3" ;;
     -p,* | --line,*) compgen -W '1 2 4 8 16 32 64' -- "$3" ;;
     -o,*) if [[ $1 == plan ]]; then compgen -d -- "$3"; else compgen -f -- "$3"; fi ;;
     esac
@@ -43,7 +44,7 @@ _vempaldi() {
     done
     case $before in
     --) mapfile -t COMPREPLY < <(compgen -f -- "$word") ;;
-    -p | --line | -o | --order | --memory) mapfile -t COMPREPLY < <(_vempaldi_value "$command" "$before" "$word") ;;
+    -p | --line | --plan | --write-plan | -o | --order | --memory) mapfile -t COMPREPLY < <(_vempaldi_value "$command" "$before" "$word") ;;
     *)
         case $word in
         -*) mapfile -t COMPREPLY < <(compgen -W "$(_vempaldi_options "$command")" -- "$word") ;;

@@ -2,8 +2,8 @@
 # tests/examples.sh c|rust|fortran: compiles that example against the library of build/ and runs it on every table of examples/ for several
 # numbers of processors, on tables that are refused, and with arguments that are no good.
 # What it must print is made without it and without the library. The listing is the proved program's (bin/plan), and for the example on two
-# processors the typed one; with lines it is worked out by tests/lines.awk. Counts are added up from that listing and from the table's text; the
-# numbers are worked out from the text.
+# processors the typed one; with lines it is worked out by tests/lines.awk, and what a plan by hand comes to before by tests/by-hand.awk. Counts are
+# added up from that listing and from the table's text; the numbers are worked out from the text.
 set -eu
 cd "$(dirname "$0")/.."
 case ${1:-} in
@@ -63,11 +63,12 @@ expected() {
     printf '%s\n' "$iterations iterations on $elements elements, same bits as the plain run" "$last_array"
 }
 
-# The line of a refusal, from the call that is refused, number, word and place; a read for 9.
+# The line of a refusal, from the call that is refused, number, word and place; a read for 9, a loop for 20.
 refusal() {
-    local call=$1 number=$2 word=$3 place=$4 read=${5:-}
+    local call=$1 number=$2 word=$3 place=$4 read=${5:-} named=read
+    [ "$number" -ne 20 ] || named=loop
     if [ "$language" != rust ]; then
-        echo "$call: refused $number $word, place $place${read:+, read $read}"
+        echo "$call: refused $number $word, place $place${read:+, $named $read}"
         return
     fi
     case $number in
@@ -79,14 +80,18 @@ refusal() {
     10) echo "refused 10 processors: P is outside 1 to 64, or a processor's number is not below P" ;;
     11) echo "refused 11 short: fewer lines than processors, or a block below the threshold" ;;
     17) echo "refused 17 line: a line's length is outside 1 to 64" ;;
+    19) echo "refused 19 plan: a plan by hand has not 8 bytes for each loop, or a number above 10,000" ;;
+    20) echo "refused 20 unmet from loop $place to loop $read: a plan by hand does not meet some dependence" ;;
     esac
 }
 
-# try LISTING P [W]: what the example says where the listing is this one.
+# try LISTING P [W [SHIFT PEEL]..]: what the example says where the listing is this one.
 try() {
     local listing=$1
     shift
     case $listing in
+    "refused 19 0") says 1 "" "$(refusal listing 19 plan 0)" "$table" "$@" ;;
+    "refused 20 "*) says 1 "" "$(refusal listing 20 unmet ${listing#refused 20 })" "$table" "$@" ;;
     "refused 10 0") says 1 "" "$(refusal listing 10 processors 0)" "$table" "$@" ;;
     "refused 11 0") says 1 "" "$(refusal listing 11 short 0)" "$table" "$@" ;;
     "refused 17 0") says 1 "" "$(refusal listing 17 line 0)" "$table" "$@" ;;
@@ -122,6 +127,51 @@ try_lines() {
     done
 }
 
+# The listing with lines of W iterations and a plan by hand.
+by_hand() {
+    local processors=$1 line=$2 own
+    own=$(awk -v plan="$3" -f tests/by-hand.awk <(printf '%s\n' "$one") "$text")
+    case $own in
+    refused*) echo "$own" ;;
+    *) awk -v processors="$processors" -v line="$line" -f tests/lines.awk <(printf '%s\n' "$own") "$text" ;;
+    esac
+}
+
+# Plans for a table, one a line: its own; all shifts or all peels higher by two; each number alone one lower (or one higher, where it is 0) and as
+# high as a number may be; one that is too high; half a pair, a pair and all pairs more; all but one pair.
+plans() {
+    printf '%s\n' "$one" | awk '
+        function tell(at, value, k) {
+            for (k = 0; k < n; k++) printf "%s%s", k == at ? value : own[k], k < n - 1 ? " " : ""
+            return ""
+        }
+        $1 == "loop" { own[n++] = $3; own[n++] = $4 }
+        END {
+            print tell(-1)
+            for (side = 0; side < 2; side++) {
+                for (k = 0; k < n; k++) printf "%s ", own[k] + 2 * (k % 2 == side)
+                print ""
+            }
+            for (k = 0; k < n; k++) { print tell(k, own[k] ? own[k] - 1 : 1); print tell(k, 10000) }
+            print tell(n - 1, 10001); print tell(0, "4294967295"); print tell(1, 65536)
+            print tell(-1) " 0"; print tell(-1) " 0 0"; print tell(-1) " " tell(-1)
+            for (k = 0; k < n - 2; k++) printf "%s ", own[k]
+            print ""
+        }'
+}
+
+# With numbers behind the line, a plan by hand.
+try_plans() {
+    local both name plan
+    for name in examples/*.table; do
+        take_table "$name"
+        while read -r plan; do
+            [ -n "$plan" ] || continue
+            for both in "1 1" "2 1" "3 4" "65 65"; do try "$(by_hand $both "$plan")" $both $plan; done
+        done < <(plans)
+    done
+}
+
 # The example on two processors by what is typed; Fortran takes two where it is given no number.
 try_typed() {
     elements=36 iterations=20 last_array="last array:$(printf ' %s.000' 0 3 6 8 10 12 14 16 18 20 21 11)"
@@ -130,6 +180,19 @@ try_typed() {
     says 0 "$typed" "" examples/example.table 00000000002
     says 0 "$typed" "" examples/example.table 2 5
     [ "$language" != fortran ] || says 0 "$typed" "" examples/example.table
+    # The plan of examples/example.hand: of the first block's five indices three are fused in loop 1, and 4 to 6 are peeled.
+    local listing
+    listing=$(sed 's/^loop 1 1 1/loop 1 2 1/; s/^fused 0 1 1 4/fused 0 1 1 3/; s/^peeled 0 1 5 6/peeled 0 1 4 6/' tests/example.listing)
+    says 0 "$(expected "$listing" 2)" "" examples/example.table 2 1 $(sed 's/#.*//' examples/example.hand)
+    table=examples/example.table
+    try "refused 20 0 1" 2 1 0 0 0 1
+    try "refused 20 0 1" 2 1 3 2 3 3
+    try "refused 19 0" 2 1 0 0 10001 1
+    try "refused 19 0" 2 1 0 0
+    try "refused 19 0" 2 1 0 0 1
+    try "refused 11 0" 2 1 2 0 3 4
+    try "refused 19 0" 65 65 0
+    try "refused 20 0 1" 65 65 0 0 0 0
 }
 
 # 1 to 10, A0 of 21 elements, A0[i] = A0[i] + A0[i+10] + A0[i+9] + A0[i+1]: the reads 2 and 3 meet the destination in another iteration.
@@ -183,14 +246,15 @@ try_refused() {
 }
 
 try_words() {
-    local word usage="usage: example FILE P [W]"
-    [ "$language" != fortran ] || usage="usage: example FILE [P [W]]"
+    local word usage="usage: example FILE P [W [SHIFT PEEL]..]"
+    [ "$language" != fortran ] || usage="usage: example FILE [P [W [SHIFT PEEL]..]]"
     for word in two '' -1 +2 ' 2' '2 ' 2x 0x2 2.0 4294967296 18446744073709551618; do
         says 2 "" "example: P is a number from 0 to 4294967295, not '$word'" examples/example.table "$word"
         says 2 "" "example: W is a number from 0 to 4294967295, not '$word'" examples/example.table 2 "$word"
+        says 2 "" "example: a shift is a number from 0 to 4294967295, not '$word'" examples/example.table 2 1 "$word"
+        says 2 "" "example: a peel is a number from 0 to 4294967295, not '$word'" examples/example.table 2 1 0 0 1 "$word"
     done
     says 2 "" "$usage"
-    says 2 "" "$usage" examples/example.table 2 4 8
     [ "$language" = fortran ] || says 2 "" "$usage" examples/example.table
     says 2 "" "example: cannot read 'no-such-file'" no-such-file 2
     says 2 "" "example: cannot read 'examples'" examples 2
@@ -210,6 +274,7 @@ try_bytes() {
 compile
 try_tables
 try_lines
+try_plans
 try_typed
 try_refused
 try_words

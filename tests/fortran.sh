@@ -1,7 +1,7 @@
 #!/usr/bin/env bash
-# Every procedure of the Fortran module on every table of examples/, for several numbers of processors and lengths of lines, and on refused
-# ones. What tests/fortran/calls.f90 must print is made from the proved program's listing (bin/plan) and from the table's text; with lines, from
-# the listing that tests/lines.awk works out.
+# Every procedure of the Fortran module on every table of examples/, for several numbers of processors and lengths of lines, with plans by hand,
+# and on refused ones. What tests/fortran/calls.f90 must print is made from the proved program's listing (bin/plan) and from the table's text; with
+# lines, from the listing that tests/lines.awk works out, with a plan by hand after tests/by-hand.awk.
 set -eu
 cd "$(dirname "$0")/.."
 library=${VEMPALDI_LIB:-build}
@@ -52,7 +52,13 @@ of_processors() {
         }' "$made/lists" -
 }
 
-# What every plan has, whether or not it is accepted for so many processors: numbers of the table.
+# The largest sum of shift and peel of one loop of a listing.
+threshold() {
+    awk -v name="$1" '$1 == "loop" && most < $3 + $4 { most = $3 + $4 } END { print name, most + 0 }'
+}
+
+# of_table ANSWER LINE: what every plan has, whether or not it is accepted for so many processors: numbers of the table, and between them the
+# answer to the plan and the line of its threshold.
 of_table() {
     echo "version $version"
     answers "0 0 0 0" check facts
@@ -60,7 +66,9 @@ of_table() {
     answers "0 0 0 0" amounts
     printf '%s\n' "$one" | grep '^loop '
     answers "0 0 0 0" threshold
-    printf '%s\n' "$one" | awk '$1 == "loop" && most < $3 + $4 { most = $3 + $4 } END { print "threshold", most + 0 }'
+    printf '%s\n' "$one" | threshold threshold
+    answers "$1" "check plan"
+    echo "$2"
     answers "0 0 0 0" sweeps
     printf '%s\n' "$one" | grep '^sweeps '
 }
@@ -74,7 +82,7 @@ joined() {
 
 accepted() {
     local processors=$1 listing=$2 own iterations
-    of_table
+    of_table "0 0 0 0" "$(printf '%s\n' "$listing" | threshold plan-threshold)"
     answers "0 0 0 0" blocks
     printf '%s\n' "$listing" | grep '^block '
     printf '%s\n' "$listing" | lists > "$made/lists"
@@ -93,22 +101,22 @@ accepted() {
     answers "12 0 0 0" "longer memory"
 }
 
-# A plan that is refused with 10, 17 or 11. The processor behind the last one is refused with 10 first.
+# A plan that is refused with 19, 20, 10, 17 or 11. The processor behind the last one is refused with 10 before 17 and 11.
 refused() {
-    local processors=$1 ground=$2 b
-    of_table
-    answers "$ground 0 0 0" blocks
-    for ((b = 0; b <= processors; b++)); do
-        [ "$b" -lt "$processors" ] || ground=10
-        answers "$ground 0 0 0" "fused ranges" "peeled ranges" "fused list" "peeled list"
-    done
-    answers "$2 0 0 0" listing
+    local processors=$1 ground=$2 place=$3 named=${4:-0} plan behind b
+    plan="$ground $place $named 0" behind="10 0 0 0"
+    case $ground in 19 | 20) behind=$plan ;; esac
+    of_table "$plan" "plan-threshold -1"
+    answers "$plan" blocks
+    for ((b = 0; b < processors; b++)); do answers "$plan" "fused ranges" "peeled ranges" "fused list" "peeled list"; done
+    answers "$behind" "fused ranges" "peeled ranges" "fused list" "peeled list"
+    answers "$plan" listing
     echo "listing-bytes 0"
     joined
     answers "0 0 0 0" "plain run"
-    answers "$2 0 0 0" run
+    answers "$plan" run
     echo "idle 0"
-    answers "10 0 0 0" step
+    answers "$behind" step
     printf '%s\n' "performed 0 0" "finished $([ "$processors" -eq 0 ] && echo T || echo F)" "alike F F"
     answers "12 0 0 0" "longer memory"
 }
@@ -120,6 +128,8 @@ no_table() {
     echo "elements -1"
     answers "$1" amounts threshold
     echo "threshold -1"
+    answers "$1" "check plan"
+    echo "plan-threshold -1"
     answers "$1" sweeps
     echo "sweeps -1 -1"
     answers "$1" blocks "fused ranges" "peeled ranges" "fused list" "peeled list" "fused ranges" "peeled ranges" "fused list" "peeled list"
@@ -134,30 +144,63 @@ no_table() {
     answers "$1" "longer memory"
 }
 
-# same FILE P [W]: the program says what is in $made/expected.
+# same FILE P [W [EXTENT NUMBER..]]: the program says what is in $made/expected.
 same() {
     runs=$((runs + 1))
     "$made/calls" "$@" > "$made/told" 2>&1 || true
     if ! cmp -s "$made/expected" "$made/told"; then
-        echo "the Fortran module on $1, P = $2${3:+, W = $3}; < is expected, > what it says:"
+        echo "the Fortran module with $*; < is expected, > what it says:"
         diff "$made/expected" "$made/told" | head -20
         exit 1
     fi
 }
 
-# try P LISTING [W]: what the program says where the listing is this one.
+# try P LISTING [W [EXTENT NUMBER..]]: what the program says where the listing is this one.
 try() {
     local processors=$1 listing=$2
+    shift 2
     case $listing in
-    refused*) refused "$processors" "$(echo "$listing" | cut -d' ' -f2)" > "$made/expected" ;;
+    refused*) refused "$processors" ${listing#refused } > "$made/expected" ;;
     *) accepted "$processors" "$listing" > "$made/expected" ;;
     esac
-    same "$table" "$processors" ${3+"$3"}
+    same "$table" "$processors" "$@"
 }
 
 # The listing with lines of W iterations.
 with_lines() {
     awk -v processors="$1" -v line="$2" -f tests/lines.awk <(printf '%s\n' "$one") "$text"
+}
+
+# try_plan P W NUMBER..: with a plan by hand of pairs.
+try_plan() {
+    local processors=$1 line=$2 own
+    shift 2
+    own=$(awk -v plan="$*" -f tests/by-hand.awk <(printf '%s\n' "$one") "$text")
+    case $own in
+    refused*) try "$processors" "$own" "$line" 2 "$@" ;;
+    *) try "$processors" "$(awk -v processors="$processors" -v line="$line" -f tests/lines.awk <(printf '%s\n' "$own") "$text")" "$line" 2 "$@" ;;
+    esac
+}
+
+# The table's own numbers by hand, higher ones, numbers that are too low or too high, too few and too many; and its own, but not in pairs.
+try_plans() {
+    local own higher both
+    own=$(printf '%s\n' "$one" | awk '$1 == "loop" { print $3, $4 }' | paste -sd ' ')
+    higher=$(awk '{ for (at = 1; at <= NF; at++) print $at + 1 + at % 2 }' <<< "$own" | paste -sd ' ')
+    for both in "1 1" "2 1" "3 4" "65 65"; do
+        try_plan $both $own
+        try_plan $both $higher
+        try_plan $both $(sed 's/^0 0/1 0/' <<< "$own")
+        try_plan $both $(sed 's/[0-9]*$/0/' <<< "$own")
+        try_plan $both $(sed 's/[0-9]*$/10000/' <<< "$own")
+        try_plan $both $(sed 's/[0-9]*$/10001/' <<< "$own")
+        try_plan $both $(sed 's/^[0-9]*/4294967295/' <<< "$own")
+        try_plan $both $own 0 0
+        try_plan $both $own $own $own $own $own $own $own $own $own
+        try_plan $both $(sed 's/ [0-9]* [0-9]*$//' <<< "$own")
+        try ${both% *} "refused 19 0" ${both#* } 1 $own
+        try ${both% *} "refused 19 0" ${both#* } 4 $own $own
+    done
 }
 
 for table in examples/*.table; do
@@ -169,6 +212,7 @@ for table in examples/*.table; do
         try "$processors" "$listing"
         try "$processors" "$listing" 1
     done
+    try_plans
     for line in 0 2 4 7 8 63 64 65 260; do
         for processors in 0 1 2 3 8 65; do try "$processors" "$(with_lines "$processors" "$line")" "$line"; done
     done

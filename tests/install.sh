@@ -143,6 +143,7 @@ C
 run_programs() {
     local said told=0 table="$prefix/share/vempaldi/examples/example.table"
     same "$listing" "$("$prefix/bin/vempaldi" plan "$table" -p 2)" "vempaldi plan"
+    same "loop 1 2 1" "$("$prefix/bin/vempaldi" plan "$table" -p 2 --plan "${table%.table}.hand" | grep '^loop 1 ')" "vempaldi plan --plan"
     same "$listing" "$("$prefix/bin/vempaldi-plan" 2 "$table")" "vempaldi-plan"
     ln -sf "$prefix/bin/vempaldi-plan" plan
     same "$listing" "$(./plan 2 - < "$table")" "vempaldi-plan through a link"
@@ -290,10 +291,14 @@ completion() {
     same --line "$(complete_line vempaldi draw --l)" "what draw --l is completed to"
     same '' "$(complete_line vempaldi check --l)" "what check --l is completed to"
     same 8 "$(complete_line vempaldi plan --line 8)" "what --line 8 is completed to"
+    same $'--plan\n--write-plan' "$(complete_line vempaldi plan - | grep plan)" "which options of plan have a plan"
+    same --plan "$(complete_line vempaldi run --p)" "what run --p is completed to"
+    same file.table "$(complete_line vempaldi plan --plan 'fi')" "what --plan is completed to"
+    same file.table "$(complete_line vempaldi plan --write-plan = 'fi')" "what --write-plan= is completed to"
 }
 
 # Every command and option that --help names stands in the man page and is offered by the completion; and nothing is offered that is not there.
-options_of() { grep -oE -- '(^|[^A-Za-z0-9_-])--?[a-z]+' | grep -oE -- '--?[a-z]+' | sort -u; }
+options_of() { grep -oE -- '(^|[^A-Za-z0-9_-])--?[a-z]+(-[a-z]+)*' | grep -oE -- '--?[a-z]+(-[a-z]+)*' | sort -u; }
 compare_options() {
     local commands command option page offered wanted
     page=$(sed 's/\\-/-/g; s/\\f[BIR]//g' "$prefix/share/man/man1/vempaldi.1")

@@ -1,5 +1,5 @@
 #!/usr/bin/env bash
-# Compiles and runs the examples of docs/REFUSALS.md that are in C, those of 13, 15 and 17, as they are printed there, on
+# Compiles and runs the examples of docs/REFUSALS.md that are in C, those of 13, 15, 17, 19 and 20, as they are printed there, on
 # examples/example.table. A comment in each says 'answer is' and four numbers: the call must answer these, and the first of them must be the
 # section's own number.
 set -eu
@@ -49,7 +49,7 @@ wrong() {
     exit 1
 }
 
-for number in 13 15 17; do
+for number in 13 15 17 19 20; do
     lines=$(printed "$number")
     says=$(printf '%s\n' "$lines" | sed -nE 's/.*answer is ([0-9]+(, [0-9]+){3}) \*\/.*/\1/p')
     case $says in
@@ -61,4 +61,4 @@ for number in 13 15 17; do
     told=$("$made/$number") || wrong "$number" "its program ends with a status other than 0"
     [ "$told" = "$says" ] || wrong "$number" "the answer is $told, not $says"
 done
-echo "docs/REFUSALS.md: the examples of 13, 15 and 17 answer what they say"
+echo "docs/REFUSALS.md: the examples of 13, 15, 17, 19 and 20 answer what they say"

@@ -1,7 +1,7 @@
 #!/usr/bin/env bash
 # What docs/TABLE.md says, tried: the table that it prints byte by byte is examples/example.table; each row of bytes below 'The order of
-# tests' has the answer that stands behind it; its Fortran loops, compiled as printed, leave the numbers that the table's run leaves; and its
-# examples of the builders in C, Fortran and Rust, as printed, build that table.
+# tests' has the answer that stands behind it, and so has each plan below 'A plan by hand'; its Fortran loops, compiled as printed, leave the
+# numbers that the table's run leaves; and its examples of the builders in C, Fortran and Rust, as printed, build that table.
 set -eu
 cd "$(dirname "$0")/.."
 export CARGO_TARGET_DIR="${CARGO_TARGET_DIR:-$PWD/build/cargo}" VEMPALDI_LIB="${VEMPALDI_LIB:-$PWD/build}"
@@ -58,6 +58,26 @@ answers() {
     [ "$rows" -ge 20 ] || wrong "only $rows rows of bytes with their answers"
 }
 
+# A line is a plan, its loops apart by commas, and behind two blanks its answer for one processor, and behind two more a remark. The text that
+# follows is examples/example.hand.
+plans() {
+    local plan answer said
+    planned=0
+    while IFS= read -r line; do
+        [[ $line =~ ^([0-9][0-9\ ,]*)\ \ +(accepted|refused( [0-9]+)+)\ \  ]] || wrong "no plan and answer in this line: $line"
+        plan=${BASH_REMATCH[1]} answer=${BASH_REMATCH[2]}
+        said=$(tr ',' '\n' <<< "$plan" | "$CARGO_TARGET_DIR/release/vempaldi" plan --raw examples/example.table -p 1 --plan - || true)
+        case $said in loop*) said=accepted ;; esac
+        [ "$said" = "$answer" ] || wrong "the library says '$said' of this: $line"
+        planned=$((planned + 1))
+    done < <(block 'A plan by hand' '')
+    [ "$planned" -ge 8 ] || wrong "only $planned plans with their answers"
+    said=$(printf '2 0\n3 4\n' | "$CARGO_TARGET_DIR/release/vempaldi" plan --raw examples/example.table -p 2 --plan - || true)
+    [ "$said" = "refused 11 0" ] || wrong "the library says '$said' of the plan 2 0, 3 4 with two processors"
+    sed -n '/^## A plan by hand/,/^## /p' "$document" | sed '1,/^```$/d; 1,/^```$/d' | sed -n '/^```$/,/^```$/p' | sed '1d; $d' |
+        diff - examples/example.hand || wrong "the text of a plan that it prints is not examples/example.hand"
+}
+
 # The loops that the table is made from, beginning with every element its own index, as `run` begins; the indices there count from 1.
 fortran_loops() {
     {
@@ -110,10 +130,11 @@ rust_example() {
 cargo build --quiet --release --offline --manifest-path command/Cargo.toml
 byte_by_byte
 answers
+plans
 fortran_loops
 for language in c fortran rust; do
     rm -f "$made/$language.table"
     "${language}_example"
     cmp examples/example.table "$made/$language.table" || wrong "the example of the builder in $language builds another table"
 done
-echo "$document: its bytes are the example's, $rows rows have their answers, its Fortran loops and its builders agree with it"
+echo "$document: its bytes are the example's, $rows rows and $planned plans have their answers, its Fortran loops and its builders agree with it"

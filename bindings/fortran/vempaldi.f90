@@ -5,16 +5,21 @@
 !
 ! An answer is four numbers. answer(1) is the ground's number, 0 where the call was accepted; answer(2) its place, a byte or a loop
 ! counted from 0, and 0 for too many loops in joining; answer(3) and answer(4) are what the refusal names: for 9 the lowest read of that
-! loop that meets the destination in another iteration, counted from 0 among the loop's reads, and 0. For every other ground, and where
-! accepted, both are 0.
+! loop that meets the destination in another iteration, counted from 0 among the loop's reads, and 0; for 20, whose place is the earlier of
+! two loops, the later one, and 0. For every other ground, and where accepted, both are 0.
 !
-! What settles a table's lists beside the table itself is `processors`, how many processors there are (1 to 64), and `line`, how many
-! iterations store into one cache line (1 to 64, 1 where it is absent); blocks begin on whole lines. All calls of a row of steps are given the
-! same. `line` stands behind the answer and is best given by its name, as in
+! What settles a table's lists beside the table itself is
+! - `processors`, how many processors there are (1 to 64);
+! - `line`, how many iterations store into one cache line (1 to 64, 1 where it is absent): blocks begin on whole lines;
+! - `plan`, a plan by hand: plan(1, k) is the shift of loop k - 1, plan(2, k) its peel, as vempaldi_shifts_and_peels gives them. Where it is
+!   absent, those are meant. 19 is given where it has not a pair for each loop (so also where its first extent is not 2), or a number
+!   outside 0 to 10000.
+! All calls of a row of steps are given the same. `line` and `plan` stand behind the answer and are best given by their names, as in
 !
 !   call vempaldi_blocks(table, 4, blocks, answer, line=8)
+!   call vempaldi_blocks(table, 4, blocks, answer, plan=amounts)
 !
-! A later version may add arguments of that kind behind it.
+! A later version may add arguments of that kind behind them.
 !
 ! Numbers that C takes as unsigned are given here as integer(c_int32_t); none that a caller needs is above 1048576.
 module vempaldi
@@ -22,36 +27,39 @@ module vempaldi
   implicit none
   private
 
-  ! The version of this module; vempaldi_version() is that of the library linked, its three numbers as one: 300 is 0.3.0.
-  integer, parameter, public :: vempaldi_version_major = 0, vempaldi_version_minor = 3, vempaldi_version_patch = 0
+  ! The version of this module; vempaldi_version() is that of the library linked, its three numbers as one: 400 is 0.4.0.
+  integer, parameter, public :: vempaldi_version_major = 0, vempaldi_version_minor = 4, vempaldi_version_patch = 0
 
   ! The first number of an answer.
   integer, parameter, public :: vempaldi_accepted = 0, vempaldi_torn = 1, vempaldi_kind = 2, vempaldi_field = 3, &
     vempaldi_crowd = 4, vempaldi_array = 5, vempaldi_body = 6, vempaldi_edge = 7, vempaldi_tail = 8, vempaldi_serial = 9, &
     vempaldi_processors = 10, vempaldi_short = 11, vempaldi_memory = 12, vempaldi_buffer = 13, vempaldi_unlike = 14, &
-    vempaldi_state = 15, vempaldi_line = 17
+    vempaldi_state = 15, vempaldi_line = 17, vempaldi_plan = 19, vempaldi_unmet = 20
 
   ! The first number of a report. vempaldi_no_report is never written: what is 0 before a call and still 0 after it was refused.
   integer, parameter, public :: vempaldi_no_report = 0, vempaldi_iteration = 1, vempaldi_waiting = 2, vempaldi_finished = 3
 
-  ! No plan has more processors, and no line more iterations. No byte of a table past the deciding ones changes an answer. The other sizes
-  ! always suffice; the procedures below use them.
-  integer, parameter, public :: vempaldi_most_processors = 64, vempaldi_longest_line = 64, vempaldi_deciding_bytes = 2077
+  ! No plan has more processors, no line more iterations, no plan by hand a higher shift or peel. No byte of a table past the deciding
+  ! ones changes an answer. The other sizes always suffice; the procedures below use them.
+  integer, parameter, public :: vempaldi_most_processors = 64, vempaldi_longest_line = 64, vempaldi_most_amount = 10000, &
+    vempaldi_deciding_bytes = 2077
   integer, parameter, public :: vempaldi_table_bytes = 2065, vempaldi_facts_bytes = 268, vempaldi_amount_bytes = 128, &
     vempaldi_range_bytes = 128, vempaldi_block_bytes = 512, vempaldi_listing_bytes = 50000
 
   public :: vempaldi_version, vempaldi_check, vempaldi_join, vempaldi_facts
-  public :: vempaldi_shifts_and_peels, vempaldi_threshold, vempaldi_sweeps, vempaldi_blocks, vempaldi_listing
+  public :: vempaldi_shifts_and_peels, vempaldi_threshold, vempaldi_check_plan, vempaldi_sweeps, vempaldi_blocks, vempaldi_listing
   public :: vempaldi_fused_list, vempaldi_peeled_list, vempaldi_fused_ranges, vempaldi_peeled_ranges
   public :: vempaldi_plain_run, vempaldi_step, vempaldi_run, vempaldi_word
 
-  ! 16 is no ground: no call gives it.
-  character(10), parameter :: words(0:17) = [character(10) :: 'accepted', 'torn', 'kind', 'field', 'crowd', 'array', 'body', &
-    'edge', 'tail', 'serial', 'processors', 'short', 'memory', 'buffer', 'unlike', 'state', 'unknown', 'line']
+  ! 16 and 18 are no grounds: no call gives them.
+  character(10), parameter :: words(0:20) = [character(10) :: 'accepted', 'torn', 'kind', 'field', 'crowd', 'array', 'body', &
+    'edge', 'tail', 'serial', 'processors', 'short', 'memory', 'buffer', 'unlike', 'state', 'unknown', 'line', 'unknown', 'plan', &
+    'unmet']
 
   ! The struct of include/vempaldi.h. The procedures below make it from their arguments.
   type, bind(c) :: c_settings
-    integer(c_int32_t) :: processors, line
+    integer(c_int32_t) :: processors, line, by_hand, plan_length
+    integer(c_int8_t) :: plan(vempaldi_amount_bytes)
   end type
 
   interface
@@ -96,6 +104,14 @@ module vempaldi
       integer(c_size_t), value :: n, room
       integer(c_int64_t), intent(out) :: answer(4)
       integer(c_int64_t) :: written
+    end function
+    function c_check_plan(table, n, settings, answer) result(threshold) bind(c, name='vempaldi_check_plan')
+      import :: c_settings, c_int8_t, c_size_t, c_int64_t
+      integer(c_int8_t), intent(in) :: table(*)
+      type(c_settings), value :: settings
+      integer(c_size_t), value :: n
+      integer(c_int64_t), intent(out) :: answer(4)
+      integer(c_int64_t) :: threshold
     end function
     function c_sweeps(table, n, out, room, answer) result(written) bind(c, name='vempaldi_sweeps')
       import :: c_int8_t, c_size_t, c_int64_t
@@ -255,6 +271,7 @@ contains
     amounts = pairs(out(1:written))
   end subroutine
 
+  ! That of the table's own shifts and peels; vempaldi_check_plan gives that of a plan by hand.
   subroutine vempaldi_threshold(table, threshold, answer)
     integer(c_int8_t), contiguous, intent(in) :: table(:)
     integer(c_int32_t), intent(inout) :: threshold
@@ -262,6 +279,19 @@ contains
     integer(c_int8_t) :: out(4)
     out = 0
     if (c_threshold(table, size(table, kind=c_size_t), out, 4_c_size_t, answer) > 0) threshold = number(out)
+  end subroutine
+
+  ! Whether a plan is accepted: the one by hand, or where it is absent that of the table's own shifts and peels. The threshold is that
+  ! plan's, and is left as found where the plan is refused.
+  subroutine vempaldi_check_plan(table, processors, threshold, answer, line, plan)
+    integer(c_int8_t), contiguous, intent(in) :: table(:)
+    integer(c_int32_t), intent(in) :: processors
+    integer(c_int32_t), intent(inout) :: threshold
+    integer(c_int64_t), intent(out) :: answer(4)
+    integer(c_int32_t), intent(in), optional :: line, plan(:, :)
+    integer(c_int64_t) :: told
+    told = c_check_plan(table, size(table, kind=c_size_t), settings_of(processors, line, plan), answer)
+    if (answer(1) == vempaldi_accepted) threshold = int(told, c_int32_t)
   end subroutine
 
   subroutine vempaldi_sweeps(table, before, after, answer)
@@ -276,95 +306,97 @@ contains
   end subroutine
 
   ! blocks(1, b) is the first index of block b - 1, blocks(2, b) its last. Each block but the last has a whole number of lines.
-  subroutine vempaldi_blocks(table, processors, blocks, answer, line)
+  subroutine vempaldi_blocks(table, processors, blocks, answer, line, plan)
     integer(c_int8_t), contiguous, intent(in) :: table(:)
     integer(c_int32_t), intent(in) :: processors
     integer(c_int32_t), allocatable, intent(out) :: blocks(:, :)
     integer(c_int64_t), intent(out) :: answer(4)
-    integer(c_int32_t), intent(in), optional :: line
+    integer(c_int32_t), intent(in), optional :: line, plan(:, :)
     integer(c_int8_t) :: out(vempaldi_block_bytes)
     integer(c_int64_t) :: written
     out = 0
-    written = c_blocks(table, size(table, kind=c_size_t), settings_of(processors, line), out, size(out, kind=c_size_t), answer)
+    written = c_blocks(table, size(table, kind=c_size_t), settings_of(processors, line, plan), out, size(out, kind=c_size_t), &
+      answer)
     blocks = pairs(out(1:written))
   end subroutine
 
   ! ranges(1, k) is the first index that the processor runs of loop k - 1 before the barrier, ranges(2, k) the one past the last; both
   ! are 0 where it runs none.
-  subroutine vempaldi_fused_ranges(table, processors, processor, ranges, answer, line)
+  subroutine vempaldi_fused_ranges(table, processors, processor, ranges, answer, line, plan)
     integer(c_int8_t), contiguous, intent(in) :: table(:)
     integer(c_int32_t), intent(in) :: processors, processor
     integer(c_int32_t), allocatable, intent(out) :: ranges(:, :)
     integer(c_int64_t), intent(out) :: answer(4)
-    integer(c_int32_t), intent(in), optional :: line
+    integer(c_int32_t), intent(in), optional :: line, plan(:, :)
     integer(c_int8_t) :: out(vempaldi_range_bytes)
     integer(c_int64_t) :: written
     out = 0
-    written = c_fused_ranges(table, size(table, kind=c_size_t), settings_of(processors, line), processor, out, &
+    written = c_fused_ranges(table, size(table, kind=c_size_t), settings_of(processors, line, plan), processor, out, &
       size(out, kind=c_size_t), answer)
     ranges = pairs(out(1:written))
   end subroutine
 
   ! The same past the barrier.
-  subroutine vempaldi_peeled_ranges(table, processors, processor, ranges, answer, line)
+  subroutine vempaldi_peeled_ranges(table, processors, processor, ranges, answer, line, plan)
     integer(c_int8_t), contiguous, intent(in) :: table(:)
     integer(c_int32_t), intent(in) :: processors, processor
     integer(c_int32_t), allocatable, intent(out) :: ranges(:, :)
     integer(c_int64_t), intent(out) :: answer(4)
-    integer(c_int32_t), intent(in), optional :: line
+    integer(c_int32_t), intent(in), optional :: line, plan(:, :)
     integer(c_int8_t) :: out(vempaldi_range_bytes)
     integer(c_int64_t) :: written
     out = 0
-    written = c_peeled_ranges(table, size(table, kind=c_size_t), settings_of(processors, line), processor, out, &
+    written = c_peeled_ranges(table, size(table, kind=c_size_t), settings_of(processors, line, plan), processor, out, &
       size(out, kind=c_size_t), answer)
     ranges = pairs(out(1:written))
   end subroutine
 
   ! list(1, n) is the loop of the n-th iteration before the barrier, list(2, n) its index.
-  subroutine vempaldi_fused_list(table, processors, processor, list, answer, line)
+  subroutine vempaldi_fused_list(table, processors, processor, list, answer, line, plan)
     integer(c_int8_t), contiguous, intent(in) :: table(:)
     integer(c_int32_t), intent(in) :: processors, processor
     integer(c_int32_t), allocatable, intent(out) :: list(:, :)
     integer(c_int64_t), intent(out) :: answer(4)
-    integer(c_int32_t), intent(in), optional :: line
+    integer(c_int32_t), intent(in), optional :: line, plan(:, :)
     integer(c_int32_t), allocatable :: ranges(:, :)
     integer(c_int8_t), allocatable :: out(:)
     integer(c_int64_t) :: written
-    call vempaldi_fused_ranges(table, processors, processor, ranges, answer, line)
+    call vempaldi_fused_ranges(table, processors, processor, ranges, answer, line, plan)
     allocate (out(room_for(ranges)), source=0_c_int8_t)
-    written = c_fused_list(table, size(table, kind=c_size_t), settings_of(processors, line), processor, out, &
+    written = c_fused_list(table, size(table, kind=c_size_t), settings_of(processors, line, plan), processor, out, &
       size(out, kind=c_size_t), answer)
     list = pairs(out(1:written))
   end subroutine
 
   ! The same past the barrier.
-  subroutine vempaldi_peeled_list(table, processors, processor, list, answer, line)
+  subroutine vempaldi_peeled_list(table, processors, processor, list, answer, line, plan)
     integer(c_int8_t), contiguous, intent(in) :: table(:)
     integer(c_int32_t), intent(in) :: processors, processor
     integer(c_int32_t), allocatable, intent(out) :: list(:, :)
     integer(c_int64_t), intent(out) :: answer(4)
-    integer(c_int32_t), intent(in), optional :: line
+    integer(c_int32_t), intent(in), optional :: line, plan(:, :)
     integer(c_int32_t), allocatable :: ranges(:, :)
     integer(c_int8_t), allocatable :: out(:)
     integer(c_int64_t) :: written
-    call vempaldi_peeled_ranges(table, processors, processor, ranges, answer, line)
+    call vempaldi_peeled_ranges(table, processors, processor, ranges, answer, line, plan)
     allocate (out(room_for(ranges)), source=0_c_int8_t)
-    written = c_peeled_list(table, size(table, kind=c_size_t), settings_of(processors, line), processor, out, &
+    written = c_peeled_list(table, size(table, kind=c_size_t), settings_of(processors, line, plan), processor, out, &
       size(out, kind=c_size_t), answer)
     list = pairs(out(1:written))
   end subroutine
 
   ! The plan as text with line feeds; empty where it is refused.
-  subroutine vempaldi_listing(table, processors, text, answer, line)
+  subroutine vempaldi_listing(table, processors, text, answer, line, plan)
     integer(c_int8_t), contiguous, intent(in) :: table(:)
     integer(c_int32_t), intent(in) :: processors
     character(:), allocatable, intent(out) :: text
     integer(c_int64_t), intent(out) :: answer(4)
-    integer(c_int32_t), intent(in), optional :: line
+    integer(c_int32_t), intent(in), optional :: line, plan(:, :)
     integer(c_int8_t), allocatable :: out(:)
     integer(c_int64_t) :: written, at
     allocate (out(vempaldi_listing_bytes), source=0_c_int8_t)
-    written = c_listing(table, size(table, kind=c_size_t), settings_of(processors, line), out, size(out, kind=c_size_t), answer)
+    written = c_listing(table, size(table, kind=c_size_t), settings_of(processors, line, plan), out, size(out, kind=c_size_t), &
+      answer)
     allocate (character(written) :: text)
     do at = 1, written
       text(at:at) = achar(out(at))
@@ -380,35 +412,51 @@ contains
 
   ! counts: a number for each processor that there can be, 0 before the first step. report: kind (vempaldi_iteration, _waiting,
   ! _finished), loop, index.
-  subroutine vempaldi_step(table, processors, processor, counts, memory, report, answer, line)
+  subroutine vempaldi_step(table, processors, processor, counts, memory, report, answer, line, plan)
     integer(c_int8_t), contiguous, intent(in) :: table(:)
     integer(c_int32_t), intent(in) :: processors, processor
     integer(c_int32_t), intent(inout) :: counts(vempaldi_most_processors), report(3)
     real(c_double), contiguous, intent(inout) :: memory(:)
     integer(c_int64_t), intent(out) :: answer(4)
-    integer(c_int32_t), intent(in), optional :: line
-    call c_step(table, size(table, kind=c_size_t), settings_of(processors, line), processor, counts, memory, &
+    integer(c_int32_t), intent(in), optional :: line, plan(:, :)
+    call c_step(table, size(table, kind=c_size_t), settings_of(processors, line, plan), processor, counts, memory, &
       size(memory, kind=c_size_t), report, answer)
   end subroutine
 
-  subroutine vempaldi_run(table, processors, order, memory, idle, answer, line)
+  subroutine vempaldi_run(table, processors, order, memory, idle, answer, line, plan)
     integer(c_int8_t), contiguous, intent(in) :: table(:), order(:)
     integer(c_int32_t), intent(in) :: processors
     real(c_double), contiguous, intent(inout) :: memory(:)
     integer(c_int64_t), intent(out) :: idle, answer(4)
-    integer(c_int32_t), intent(in), optional :: line
-    idle = c_run(table, size(table, kind=c_size_t), settings_of(processors, line), order, size(order, kind=c_size_t), memory, &
-      size(memory, kind=c_size_t), answer)
+    integer(c_int32_t), intent(in), optional :: line, plan(:, :)
+    idle = c_run(table, size(table, kind=c_size_t), settings_of(processors, line, plan), order, size(order, kind=c_size_t), &
+      memory, size(memory, kind=c_size_t), answer)
   end subroutine
 
   ! What C takes as one struct.
-  pure function settings_of(processors, line) result(settings)
+  pure function settings_of(processors, line, plan) result(settings)
     integer(c_int32_t), intent(in) :: processors
-    integer(c_int32_t), intent(in), optional :: line
+    integer(c_int32_t), intent(in), optional :: line, plan(:, :)
     type(c_settings) :: settings
-    settings = c_settings(processors, 1)
+    settings = c_settings(processors, 1, 0, 0, 0_c_int8_t)
     if (present(line)) settings%line = line
+    if (present(plan)) call take_plan(plan, settings)
   end function
+
+  ! A plan of other than pairs gets a length that no table has, and so is refused. No table has more pairs than there is room for.
+  pure subroutine take_plan(plan, settings)
+    integer(c_int32_t), intent(in) :: plan(:, :)
+    type(c_settings), intent(inout) :: settings
+    integer :: k
+    settings%by_hand = 1
+    settings%plan_length = huge(settings%plan_length)
+    if (size(plan, 1) /= 2 .or. size(plan, 2) > vempaldi_amount_bytes / 8) return
+    settings%plan_length = 8 * size(plan, 2)
+    do k = 1, size(plan, 2)
+      settings%plan(8 * k - 7:8 * k - 4) = bytes_of(plan(1, k))
+      settings%plan(8 * k - 3:8 * k) = bytes_of(plan(2, k))
+    end do
+  end subroutine
 
   ! A list has the iterations of its ranges, eight bytes each.
   pure function room_for(ranges) result(room)
@@ -424,6 +472,17 @@ contains
     value = 0
     do at = 4, 1, -1
       value = ior(ishft(value, 8), iand(int(bytes(at), c_int32_t), 255_c_int32_t))
+    end do
+  end function
+
+  pure function bytes_of(value) result(bytes)
+    integer(c_int32_t), intent(in) :: value
+    integer(c_int8_t) :: bytes(4)
+    integer :: at, byte
+    do at = 1, 4
+      byte = ibits(value, 8 * at - 8, 8)
+      ! The upper half has the bits of the negative numbers here.
+      bytes(at) = int(merge(byte - 256, byte, byte > 127), c_int8_t)
     end do
   end function
 

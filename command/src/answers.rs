@@ -54,9 +54,9 @@ pub fn made(options: &Options, product: &[u8], lines: &str) -> Result<Outcome, F
     accepted(options, lines, || Ok(()))
 }
 
-/// `refused`, the number, the place, and what the refusal names, which is something for 9 alone.
+/// `refused`, the number, the place, and what the refusal names, which is something for 9 and 20 alone.
 fn line(refusal: &Refusal) -> String {
-    let named = refusal.read().map_or(String::new(), |read| format!(" {read}"));
+    let named = refusal.read().or(refusal.loops().map(|(_, later)| later)).map_or(String::new(), |named| format!(" {named}"));
     format!("refused {} {}{named}\n", refusal.ground.number(), refusal.place)
 }
 
@@ -66,7 +66,7 @@ const ALONE: &str = "with --raw the standard output has the answer alone";
 pub fn needs_file(options: &Options) -> Told {
     match options.value("-o") {
         None | Some("-") if options.raw() => Err(Failure::Usage(format!("{ALONE}: -o OUT must name a file"))),
-        _ => outputs::apart_from_inputs(options),
+        out => outputs::apart_from_inputs(options, out),
     }
 }
 

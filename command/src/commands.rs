@@ -22,17 +22,22 @@ struct Command {
 
 const COMMANDS: [Command; 7] = [
     Command { name: "check", options: &["-q", "--raw"], work: check::check, help: help::CHECK },
-    Command { name: "plan", options: &["-p", "--line", "-o", "--json", "--raw"], work: plan::plan, help: help::PLAN },
+    Command {
+        name: "plan",
+        options: &["-p", "--line", "--plan", "--write-plan", "-o", "--json", "--raw"],
+        work: plan::plan,
+        help: help::PLAN,
+    },
     Command { name: "join", options: &["-o", "--raw"], work: join::join, help: help::JOIN },
     Command {
         name: "run",
-        options: &["-p", "--line", "-o", "--order", "--memory", "--values", "--raw"],
+        options: &["-p", "--line", "--plan", "-o", "--order", "--memory", "--values", "--raw"],
         work: run::run,
         help: help::RUN,
     },
     Command { name: "dump", options: &["--raw"], work: text::dump_files, help: help::DUMP },
     Command { name: "make", options: &["-o", "--raw"], work: make::make_file, help: help::MAKE },
-    Command { name: "draw", options: &["-p", "--line", "-o", "--raw"], work: draw::draw, help: help::DRAW },
+    Command { name: "draw", options: &["-p", "--line", "--plan", "-o", "--raw"], work: draw::draw, help: help::DRAW },
 ];
 
 const THERE_ARE: &str = "there are check, plan, join, run, dump, make and draw";

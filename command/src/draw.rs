@@ -15,6 +15,7 @@ use crate::input::Input;
 use crate::options::Options;
 use crate::outcome::{Failure, Outcome};
 use crate::refusals::Asked;
+use crate::svg::letters::width;
 use crate::svg::{shortened, Frame, Picture};
 use crate::wording::counted;
 use forms::Forms;
@@ -27,6 +28,8 @@ use style::{style, PLAIN, SMALL, TITLE};
 const MARGIN: f64 = 16.0;
 /// Room at the left for loops, shifts and peels.
 const LEFT: f64 = 396.0;
+/// What is kept free behind a name, for the count of processors.
+const BEHIND: f64 = 200.0;
 /// Between two panels.
 const GAP: f64 = 28.0;
 
@@ -71,7 +74,9 @@ fn picture(name: &str, plan: &Plan) -> String {
 /// The title, as much of it as the room has, and what is known of the whole plan.
 fn head(picture: &mut Picture, name: &str, plan: &Plan, room: f64) -> String {
     let count = plan.blocks.len();
-    let title = format!("{}: {}", called(name, room), counted(count, "processor"));
+    let whose = if plan.by_hand { ", plan by hand" } else { "" };
+    let behind = format!(": {}{whose}", counted(count, "processor"));
+    let title = format!("{}{behind}", called(name, room - BEHIND.max(width(&behind, &TITLE))));
     picture.text(MARGIN, 28.0, &TITLE, &title);
     let rule = if count == 1 { "it holds for two processors or more" } else { "no block may be shorter" };
     let lines = if plan.line == 1 { String::new() } else { format!(" in lines of {}", plan.line) };
@@ -91,8 +96,7 @@ fn head(picture: &mut Picture, name: &str, plan: &Plan, room: f64) -> String {
 fn called(name: &str, room: f64) -> String {
     match name {
         "-" => "standard input".to_string(),
-        // The count of processors stands behind it.
-        _ => shortened(name.rsplit('/').next().unwrap_or(name), &TITLE, room - 200.0),
+        _ => shortened(name.rsplit('/').next().unwrap_or(name), &TITLE, room),
     }
 }
 

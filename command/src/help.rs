@@ -19,17 +19,22 @@ pub const CHECK: Help = Help {
 };
 
 pub const PLAN: Help = Help {
-    usage: "vempaldi plan FILE.. -p N [--line W] [-o DIR] [--json] [--raw]",
+    usage: "vempaldi plan FILE.. -p N [--line W] [--plan PLAN] [--write-plan OUT]
+             [-o DIR] [--json] [--raw]",
     does: "the plan for N processors",
     options: "  -p N         how many processors, 1 to 64
   --line W     how many iterations store into one cache line, 1 to 64, and 1 if none is given;
                blocks begin on whole lines, which count from the least first index of all loops
+  --plan PLAN  shifts and peels by hand, of one FILE, see below
+  --write-plan OUT   write the plan's shifts and peels, those found or those of --plan, as text
+               into OUT: a start for a plan by hand. OUT is none of the files to read, and is not
+               touched where the plan is refused. Of one FILE, and not with -o
   -o DIR       a file in DIR for each table instead of printing: NAME.plan, with --json NAME.json,
                NAME being the file's name without directory and extension (stdin for -). Files of
                these names are removed first; a refused table has no NAME.plan
   --json       an object of JSON for each table, in a line of its own
 ",
-    parts: &[LINES, JSON],
+    parts: &[LINES, BY_HAND, JSON],
 };
 
 pub const JOIN: Help = Help {
@@ -40,17 +45,18 @@ pub const JOIN: Help = Help {
 };
 
 pub const RUN: Help = Help {
-    usage: "vempaldi run FILE.. -p N [--line W] [--order ORDER] [--memory MEMORY]
+    usage: "vempaldi run FILE.. -p N [--line W] [--plan PLAN] [--order ORDER] [--memory MEMORY]
              [--values] [-o OUT] [--raw]",
     does: "runs on N processors, beside the plain run, and compares",
     options: "  -p N         how many processors, 1 to 64
   --line W     how many iterations store into one cache line, 1 to 64, and 1 if none is given
+  --plan PLAN  shifts and peels by hand, of one FILE, see below
   --order ORDER, --memory MEMORY   see below
   --values     print the memory after the run
   -o OUT       write the memory after the run, of one FILE: binary64 numbers, little-endian; OUT is
                none of the files to read
 ",
-    parts: &[ORDERS, MEMORIES],
+    parts: &[BY_HAND, ORDERS, MEMORIES],
 };
 
 pub const DUMP: Help = Help {
@@ -68,23 +74,24 @@ pub const MAKE: Help = Help {
 };
 
 pub const DRAW: Help = Help {
-    usage: "vempaldi draw FILE -p N [--line W] [-o OUT] [--raw]",
+    usage: "vempaldi draw FILE -p N [--line W] [--plan PLAN] [-o OUT] [--raw]",
     does: "a picture of the plan in SVG: blocks across, loops down",
     options: "  -p N         how many processors, 1 to 64
   --line W     how many iterations store into one cache line, 1 to 64, and 1 if none is given;
                ticks show where longer lines begin, if there is room for them
+  --plan PLAN  shifts and peels by hand, see below
   -o OUT       where to write it, if not to the standard output; none of the files to read
 ",
-    parts: &[],
+    parts: &[BY_HAND],
 };
 
 const ALL: [&Help; 7] = [&CHECK, &PLAN, &JOIN, &RUN, &DUMP, &MAKE, &DRAW];
 
 const FILES: &str = "
 FILE is a table or a text (vempaldi make --help describes texts): what has 'array' or 'loop' as its
-first word outside comments is a text. One FILE may be - for the standard input. With several files
-a last line on the standard error counts them. -p2 is -p 2, --order=turns is --order turns; behind
--- all words are files.
+first word outside comments is a text. One FILE, or PLAN, may be - for the standard input. With
+several files a last line on the standard error counts them. -p2 is -p 2, --order=turns is --order
+turns; behind -- all words are files.
 ";
 
 const STATUS: &str = "
@@ -94,8 +101,9 @@ text wrong (join: or names that differ), 2 usage or input/output error.
 
 const REFUSED: &str = "
 A refusal says its number and word, the record and the byte, and what is wrong there; of a text also
-line, column and the line itself; 9 shows the loop with the read that it names marked. Records,
-bytes, arrays, loops, reads and processors count from 0, lines and columns of a text from 1.
+line, column and the line itself; 9 shows the loop with the read that it names marked, 20 both loops
+with the references in question. Records, bytes, arrays, loops, reads and processors count from 0,
+lines and columns of a text from 1.
 REFUSALS.md has an example of each and what to do about it (in docs of the source tree, installed
 in share/doc/vempaldi).
 ";
@@ -105,6 +113,18 @@ The lines of a plan:
   loop K SHIFT PEEL      block B FIRST LAST      sweeps BEFORE AFTER
   fused B K FROM TO      processor B runs this part of loop K before the barrier
   peeled B K FROM TO     and this part past it
+";
+
+const BY_HAND: &str = "
+PLAN, a plan by hand, stands in place of the shifts and peels that are found. It is a text with a
+line SHIFT PEEL for each loop, in table order, # to the end of a line being a comment:
+  0 0        # loop 0
+  2 1        # loop 1
+or the same numbers in bytes, four each, the lowest first. Numbers are 0 to 10000, else it is
+refused with 19. For each dependence the later loop's shift must be at least the earlier's plus the
+backward amount, its peel at least the earlier's plus the forward amount, else it is refused with
+20, which says the loops, the references and the number that would do. What has no character but
+those of a text is one; a line of it that is not two numbers is an input error.
 ";
 
 const JSON: &str = "
@@ -137,7 +157,7 @@ const RAW: &str = "
 file in the order given, without names. The standard error has usage and input/output errors alone
 (and what is wrong with a text; join: and names that differ; run: and a memory that differs). A
 refusal is one line:
-  refused NUMBER PLACE          for 9: refused 9 LOOP READ
+  refused NUMBER PLACE          for 9: refused 9 LOOP READ, for 20: refused 20 EARLIER LATER
 Accepted:
   check, dump, make: accepted   (check -q: nothing; dump: no text)
   plan, draw                    the plan's lines
@@ -168,7 +188,7 @@ fn all() -> String {
     for (title, one) in [("check", &CHECK), ("plan", &PLAN), ("run", &RUN), ("join, make, draw", &JOIN)] {
         text += &format!("\nOptions of {title}:\n{}", one.options);
     }
-    text + &[LINES, JSON, ORDERS, MEMORIES, RAW, TEXT].concat()
+    text + &[LINES, BY_HAND, JSON, ORDERS, MEMORIES, RAW, TEXT].concat()
 }
 
 impl Help {

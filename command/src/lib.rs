@@ -4,6 +4,7 @@
 mod answers;
 mod batch;
 mod before;
+mod by_hand;
 mod check;
 mod commands;
 mod draw;
@@ -36,6 +37,7 @@ mod short;
 mod spans;
 mod svg;
 mod text;
+mod unmet;
 mod wording;
 
 pub use explain::{explain, Explanation};

@@ -1,5 +1,6 @@
 //! `plan --json`: a table's plan or its refusal as one object. docs/plan.schema.json has its form.
 
+use crate::by_hand::in_force;
 use crate::infix::assignment;
 use crate::input::Input;
 use crate::json::Value;
@@ -20,6 +21,7 @@ pub fn object(name: &str, given: &Result<Input, TextError>, settings: Settings) 
         ("file", name.to_string().into()),
         ("processors", settings.processors.into()),
         ("line", settings.line.into()),
+        ("by_hand", Value::Truth(settings.by_hand().is_some())),
         ("accepted", Value::Truth(accepted)),
     ];
     match planned {
@@ -33,12 +35,13 @@ fn plan(input: &Input, settings: Settings) -> Result<Vec<(&'static str, Value)>,
     let table = &input.table;
     let blocks = vempaldi::blocks(table, settings)?;
     let (facts, sweeps) = (facts(table)?, vempaldi::sweeps(table)?);
+    let (amounts, threshold) = in_force(table, settings)?;
     let sweeps = vec![("before", sweeps.before.into()), ("after", sweeps.after.into())];
     Ok(vec![
         ("elements", facts.elements.into()),
         ("arrays", arrays(input, &facts)),
-        ("loops", loops(input, &facts, &vempaldi::shifts_and_peels(table)?)),
-        ("threshold", vempaldi::threshold(table)?.into()),
+        ("loops", loops(input, &facts, &amounts)),
+        ("threshold", threshold.into()),
         ("blocks", Value::list(blocks, |block| bounds(block.first, block.last))),
         ("fused", parts(settings, |processor| fused_ranges(table, settings, processor))?),
         ("peeled", parts(settings, |processor| peeled_ranges(table, settings, processor))?),

@@ -1,5 +1,6 @@
 //! The words behind a command: files and options, in any order.
 
+use crate::by_hand;
 use crate::nearest::nearest;
 use crate::outcome::Failure;
 use crate::wording::quoted;
@@ -12,7 +13,7 @@ pub struct Options {
     given: Vec<(&'static str, String)>,
 }
 
-const WITH_VALUE: [&str; 5] = ["-p", "--line", "-o", "--order", "--memory"];
+const WITH_VALUE: [&str; 7] = ["-p", "--line", "--plan", "--write-plan", "-o", "--order", "--memory"];
 const ALONE: [&str; 4] = ["-q", "--values", "--raw", "--json"];
 
 impl Options {
@@ -52,10 +53,10 @@ impl Options {
         Ok(())
     }
 
-    /// The standard input has one table, order or memory: a second reader would find nothing.
+    /// The standard input has one table, plan, order or memory: a second reader would find nothing.
     fn input_once(&self) -> Result<(), Failure> {
         let files = self.files.iter().filter(|file| *file == "-").count();
-        let values = self.given.iter().filter(|(_, value)| value == "@-").count();
+        let values = self.given.iter().filter(|(name, value)| value == "@-" || *name == "--plan" && value == "-").count();
         match files + values {
             0 | 1 => Ok(()),
             _ => Err(Failure::Usage("the standard input can be read once only".to_string())),
@@ -88,18 +89,25 @@ impl Options {
         self.raw() || self.has("--json")
     }
 
-    /// All that is read: the files, and those of `--order @FILE` and `--memory @FILE`.
+    /// All that is read: the files, that of `--plan`, and those of `--order @FILE` and `--memory @FILE`.
     pub fn inputs(&self) -> impl Iterator<Item = &str> {
         let given = self.given.iter().filter(|(name, _)| ["--order", "--memory"].contains(name));
-        self.files.iter().map(String::as_str).chain(given.filter_map(|(_, value)| value.strip_prefix('@')))
+        let given = given.filter_map(|(_, value)| value.strip_prefix('@'));
+        self.files.iter().map(String::as_str).chain(self.value("--plan")).chain(given)
     }
 
-    /// What settles a plan beside the table: how many processors there are, and how long a line is where that is said.
+    /// What settles a plan beside the table: how many processors there are, how long a line is where that is said, and a plan by hand, which
+    /// is of one table.
     pub fn settings(&self) -> Result<Settings, Failure> {
         let count = self.number("-p", "processors", MOST_PROCESSORS)?;
         let settings = Settings::new(count.ok_or_else(|| Failure::Usage("-p N is missing".to_string()))?);
         let line = self.number("--line", "iterations", LONGEST_LINE)?;
-        Ok(line.map_or(settings, |line| settings.line(line)))
+        let settings = line.map_or(settings, |line| settings.line(line));
+        match (self.value("--plan"), self.files.len()) {
+            (None, _) => Ok(settings),
+            (Some(name), 0 | 1) => by_hand::with_plan(settings, name),
+            (_, count) => Err(Failure::Usage(format!("--plan is for one file, not {count}"))),
+        }
     }
 
     /// An option's value as a number. One that is outside its range is the library's to refuse.

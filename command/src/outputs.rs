@@ -18,8 +18,9 @@ pub struct Outputs {
 
 impl Outputs {
     /// Files of an earlier run that have these tables' names are removed, so that what stands there afterwards is of this run. Nothing is
-    /// removed where two tables have one name or a table would be overwritten.
-    pub fn prepare(directory: &str, files: &[String], extension: &'static str) -> Result<Outputs, Failure> {
+    /// removed where two tables have one name or something that is read would be overwritten.
+    pub fn prepare(directory: &str, options: &Options, extension: &'static str) -> Result<Outputs, Failure> {
+        let files = &options.files;
         let outputs = Outputs { directory: PathBuf::from(directory), extension };
         if !outputs.directory.is_dir() {
             return Err(Failure::Usage(format!("-o {}: there is no such directory", quoted(directory))));
@@ -30,7 +31,7 @@ impl Outputs {
                 let both = format!("{} and {} would both be {}", files[before], files[at], path.display());
                 return Err(Failure::Usage(both));
             }
-            if files.iter().any(|file| same_file(Path::new(file), path)) {
+            if options.inputs().any(|file| same_file(Path::new(file), path)) {
                 return Err(is_read(path));
             }
         }
@@ -50,9 +51,9 @@ impl Outputs {
     }
 }
 
-/// Nothing is written over what the command reads: its files, and those of an order or a memory.
-pub fn apart_from_inputs(options: &Options) -> Result<(), Failure> {
-    let Some(out) = options.value("-o").filter(|out| *out != "-") else { return Ok(()) };
+/// Nothing is written over what the command reads: its files, and those of a plan, an order or a memory.
+pub fn apart_from_inputs(options: &Options, out: Option<&str>) -> Result<(), Failure> {
+    let Some(out) = out.filter(|out| *out != "-") else { return Ok(()) };
     match options.inputs().any(|file| same_file(Path::new(file), Path::new(out))) {
         true => Err(is_read(Path::new(out))),
         false => Ok(()),

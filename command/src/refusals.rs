@@ -1,15 +1,17 @@
 //! Refusals in words: the ground and its place as the library told them, what in the table or in the call meets the ground, and for a
 //! text the line with a mark below.
 
+use crate::by_hand;
 use crate::explain::{explain, record_at, Explanation};
 use crate::input::{first_word, Input};
 use crate::parse::Told;
 use crate::serial::{explain_serial, Serial};
 use crate::short::short;
+use crate::unmet::Unmet;
 use crate::wording::{counted, quoted};
 use vempaldi::{facts, Ground, Refusal, Settings, LONGEST_LINE, MOST_PROCESSORS};
 
-/// What was asked beside the table, which the words of 10, 11, 12 and 17 are about.
+/// What was asked beside the table, which the words of 10, 11, 12, 17, 19 and 20 are about.
 #[derive(Clone, Copy, Default)]
 pub struct Asked {
     pub settings: Option<Settings>,
@@ -27,9 +29,10 @@ impl Asked {
 pub fn describe(input: &Input, refusal: &Refusal, asked: &Asked) -> String {
     let place = text_place(input, refusal);
     let head = place.as_ref().map_or(input.name.clone(), |told| format!("{}:{}:{}", input.name, told.line, told.column));
-    let shown = match refusal.read() {
-        Some(read) => Serial::new(&input.table, &input.names, refusal.place, read).marked(),
-        None => place.map(|told| told.shown),
+    let shown = match (refusal.read(), unmet(input, refusal, asked)) {
+        (Some(read), _) => Serial::new(&input.table, &input.names, refusal.place, read).marked(),
+        (_, Some(unmet)) => unmet.marked(),
+        _ => place.map(|told| told.shown),
     };
     let shown = shown.map_or(String::new(), |lines| format!("\n{lines}"));
     format!("{head}: {}{shown}", message(input, refusal, asked))
@@ -49,10 +52,16 @@ fn explanation(input: &Input, refusal: &Refusal) -> Option<Explanation> {
     }
 }
 
+/// What refusal 20 is about.
+fn unmet<'a>(input: &'a Input, refusal: &Refusal, asked: &Asked) -> Option<Unmet<'a>> {
+    Unmet::new(&input.table, &input.names, &asked.settings?, refusal.loops()?)
+}
+
 /// In one line: number, word, record and byte, and what is wrong.
 pub fn message(input: &Input, refusal: &Refusal, asked: &Asked) -> String {
     let ground = refusal.ground;
     let place = match (ground, refusal.read()) {
+        _ if ground == Ground::Unmet => format!(" from loop {} to loop {}", refusal.place, refusal.named[0]),
         (_, Some(read)) => format!(" at {}", Serial::new(&input.table, &input.names, refusal.place, read).at()),
         (Ground::Tail, _) => format!(" at byte {}", refusal.place),
         _ if ground.has_byte() => format!(" at {}", record_at(&input.table, refusal.place as usize)),
@@ -61,6 +70,8 @@ pub fn message(input: &Input, refusal: &Refusal, asked: &Asked) -> String {
     let words = match ground {
         Ground::Processors => asked.settings.map(|one| format!("P is {}, allowed are 1 to {MOST_PROCESSORS}", one.processors)),
         Ground::Line => asked.settings.map(|one| format!("W is {}, allowed are 1 to {LONGEST_LINE}", one.line)),
+        Ground::Plan => asked.settings.and_then(|settings| by_hand::wrong_form(&input.table, &settings)),
+        Ground::Unmet => unmet(input, refusal, asked).and_then(|unmet| unmet.words()),
         Ground::Short => asked.settings.and_then(|settings| short(&input.table, settings)),
         Ground::Memory => asked.numbers.and_then(|numbers| lengths(&input.table, numbers)),
         _ => explanation(input, refusal).map(|explanation| explanation.words),

@@ -83,13 +83,12 @@ fn tell(options: &Options, input: &Input, facts: &Facts, settings: Settings, bot
     Ok(if different.is_empty() { Outcome::Good } else { Outcome::Bad })
 }
 
-/// `2 processors`, `2 processors in lines of 8`.
+/// `2 processors`, `2 processors in lines of 8`, `2 processors with a plan by hand`.
 fn on(settings: Settings) -> String {
     let processors = counted(settings.processors as usize, "processor");
-    match settings.line {
-        1 => processors,
-        line => format!("{processors} in lines of {line}"),
-    }
+    let lines = if settings.line == 1 { String::new() } else { format!(" in lines of {}", settings.line) };
+    let plan = if settings.by_hand().is_some() { " with a plan by hand" } else { "" };
+    processors + &lines + plan
 }
 
 fn write_memory(options: &Options, both: &Both) -> Result<(), Failure> {

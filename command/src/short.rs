@@ -2,7 +2,7 @@
 //! answer; here the numbers that it went by are put into words.
 
 use crate::wording::counted;
-use vempaldi::{blocks, facts, threshold, Settings, MOST_PROCESSORS};
+use vempaldi::{blocks, check_plan, facts, Settings, MOST_PROCESSORS};
 
 pub fn short(table: &[u8], settings: Settings) -> Option<String> {
     let loops = facts(table).ok()?.loops;
@@ -11,17 +11,26 @@ pub fn short(table: &[u8], settings: Settings) -> Option<String> {
     let indices = last - first + 1;
     let lines = indices.div_ceil(settings.line);
     let split = split(indices, lines, settings.line);
+    let by_hand = settings.by_hand().is_some();
     let why = if lines < settings.processors {
         format!("{split} for {}", counted(settings.processors as usize, "processor"))
     } else {
         // No block has fewer lines than the last one, and what its last line lacks is cut off.
         let least = settings.line * (lines / settings.processors) - (settings.line * lines - indices);
         let block = if settings.line == 1 { "a block" } else { "a last block" };
-        let threshold = threshold(table).ok()?;
-        format!("{split} in {} blocks leave {block} of {least}, the threshold is {threshold}", settings.processors)
+        let whose = if by_hand { "the plan's threshold" } else { "the threshold" };
+        let threshold = threshold(table, settings)?;
+        format!("{split} in {} blocks leave {block} of {least}, {whose} is {threshold}", settings.processors)
     };
     let such = if settings.line == 1 { "" } else { "in such lines " };
-    Some(format!("{why}; {such}there is a plan for {} at most", counted(most(table, settings)? as usize, "processor")))
+    let holds = if by_hand { "this plan is accepted" } else { "there is a plan" };
+    Some(format!("{why}; {such}{holds} for {} at most", counted(most(table, settings)? as usize, "processor")))
+}
+
+/// That of the plan by hand, where there is one. A plan that is accepted at all is accepted for one processor, whatever its threshold.
+fn threshold(table: &[u8], mut settings: Settings) -> Option<u32> {
+    settings.processors = 1;
+    check_plan(table, settings).ok()
 }
 
 /// What is split over the blocks: `10 indices`, `3 lines of 4 (10 indices)`.
@@ -33,7 +42,7 @@ fn split(indices: u32, lines: u32, line: u32) -> String {
     }
 }
 
-/// The most processors for which there is a plan in such lines.
+/// The most processors for which there is a plan in such lines, or for which the plan by hand is one.
 fn most(table: &[u8], mut settings: Settings) -> Option<u32> {
     (1..=MOST_PROCESSORS).rev().find(|&count| {
         settings.processors = count;

@@ -142,6 +142,25 @@ fn objects_say_how_long_a_line_is() {
     assert_eq!(object(&["-", "-p2", "--line", "8"], b"loop").at("line").number(), 8);
 }
 
+/// Whether the plan is by hand stands in every object; its shifts, peels and threshold are those of the plan.
+#[test]
+fn objects_say_whose_plan_it_is() {
+    let truth = |words: &[&str], input: &[u8]| object(words, input).at("by_hand") == &Json::Truth(true);
+    assert!(!truth(&[EXAMPLE, "-p2"], b"") && !truth(&[EXAMPLE, "-p65"], b"") && !truth(&["-", "-p1"], b"loop"));
+    let plan = ["-p2", "--plan", "examples/example.hand"];
+    assert!(truth(&[&["-"], &plan[..]].concat(), b"\x06") && truth(&[&["-"], &plan[..]].concat(), b"loop"));
+    let by_hand = object(&[&[EXAMPLE], &plan[..]].concat(), b"");
+    assert_eq!((by_hand.at("by_hand"), by_hand.at("threshold").number()), (&Json::Truth(true), 3));
+    assert_eq!(listing(&by_hand).lines().take(2).collect::<Vec<_>>(), ["loop 0 0 0", "loop 1 2 1"]);
+    for (input, number, word, named) in [(&b"0 0\n0 1\n"[..], 20, "unmet", 1), (b"0 0\n", 19, "plan", 0)] {
+        let refused = object(&[EXAMPLE, "-p2", "--plan", "-"], input);
+        let refusal = refused.at("refusal");
+        assert_eq!((refusal.at("number").number(), refusal.at("word").text(), refusal.at("place").number()), (number, word, 0));
+        assert_eq!(refusal.at("named").list().iter().map(Json::number).collect::<Vec<_>>(), [named, 0]);
+        assert_eq!(*refused.at("by_hand"), Json::Truth(true));
+    }
+}
+
 #[test]
 fn several_files_have_a_line_each_and_nothing_else_is_said() {
     let told = run(&["plan", "--json", "-p", "2", EXAMPLE, "README.md", "no-such-file", "examples/jacobi.txt"]);

@@ -7,6 +7,8 @@ mod common;
 mod drawn;
 #[path = "common/lines.rs"]
 mod lines;
+#[path = "common/plans.rs"]
+mod plans;
 #[path = "picture/ticks.rs"]
 mod ticks;
 #[path = "picture/xml.rs"]
@@ -249,6 +251,43 @@ fn a_picture_says_what_it_is_of() {
     assert!(drawn.said("small")[0].contains("threshold 2 (it holds for two processors or more)"));
 }
 
+/// The shifts and peels are those of the plan, and its heading says whose they are.
+#[test]
+fn a_plan_by_hand_is_drawn() {
+    let told = run(&["draw", EXAMPLE, "-p", "2", "--plan", "examples/example.hand"]);
+    assert_eq!((told.status, told.err.as_str()), (0, ""));
+    let drawn = Drawn::new(&told.out);
+    assert_eq!(drawn.said("title"), ["example.table: 2 processors, plan by hand"]);
+    assert!(drawn.said("small")[0].contains("threshold 3 (no block may be shorter)"));
+    assert_eq!(drawn.said("plain")[..6], ["0", "0", "2", "1", "2", "1"]);
+    assert_eq!(drawn.said("in-fused"), ["P0: 1-5", "P0: 1-3", "P1: 6-10", "P1: 7-10"]);
+    assert_eq!(drawn.said("in-peeled"), ["P0: 4-6"]);
+    assert_eq!(run(&["draw", EXAMPLE, "-p", "2", "--plan", "/dev/null"]).status, 1);
+}
+
+/// Whatever holds of the picture of any plan, also with the highest numbers.
+#[test]
+fn any_plan_by_hand_can_be_read() {
+    let mut random = Random::new(35);
+    for round in 0..60 {
+        let table = tables::aligned(&mut random, &[SMALL, MIDDLE, LARGE][round % 3]);
+        let plan = plans::met(&table, &mut random, 5);
+        let plan = if round % 5 == 0 { plans::highest(&plan) } else { plan };
+        let file = plans::PlanFile::new(
+            "drawn.hand",
+            if round % 2 == 0 { plans::text(&plan).into_bytes() } else { plans::bytes(&plan) },
+        );
+        let least = plans::threshold(&plan).max(1);
+        let most = (1..=64).rev().find(|count| *count == 1 || lines::indices(&table) / count >= least).expect("one");
+        let count = random.between(1, i64::from(most)).to_string();
+        let words = |command| [command, "-", "-p", &count, "--plan", &file.0];
+        let (bytes, bounds) = (encode(&table), table.loops.iter().map(|one| (one.first, one.last)).collect::<Vec<_>>());
+        let (listing, told) = (fed(&words("plan"), &bytes).out, fed(&words("draw"), &bytes));
+        assert_eq!((told.status, told.err.as_str()), (0, ""));
+        Drawn::new(&told.out).check(&listing, &bounds);
+    }
+}
+
 /// A file's name may have any characters and any length; the title is then escaped and cut.
 #[test]
 fn a_name_neither_breaks_the_picture_nor_leaves_it() {
@@ -258,12 +297,14 @@ fn a_name_neither_breaks_the_picture_nor_leaves_it() {
         std::fs::write(&name, bytes(EXAMPLE)).expect("written");
         let told = run(&["draw", &name, "-p", "64"]);
         assert_eq!(told.status, 1, "example.table has no plan for 64");
-        let picture = run(&["draw", &name, "-p", "5"]).out;
+        let by_hand = ["--plan", "examples/example.hand"];
+        for (count, more, end) in [("5", &[][..], ": 5 processors"), ("3", &by_hand, ": 3 processors, plan by hand")] {
+            let drawn = Drawn::new(&run(&[&["draw", &name, "-p", count], more].concat()).out);
+            let (title, area) = drawn.texts().into_iter().find(|(one, _)| one.is("title")).expect("a title");
+            assert!(drawn.frame().holds(&area), "{area:?}");
+            assert!(title.text.ends_with(end), "{title:?}");
+        }
         std::fs::remove_file(&name).expect("removed");
-        let drawn = Drawn::new(&picture);
-        let (title, area) = drawn.texts().into_iter().find(|(one, _)| one.is("title")).expect("a title");
-        assert!(drawn.frame().holds(&area), "{area:?}");
-        assert!(title.text.ends_with(": 5 processors"), "{title:?}");
     }
     let name = out_name("a<b>&'\"c");
     std::fs::write(&name, bytes(EXAMPLE)).expect("written");

@@ -62,8 +62,8 @@ fn is_number(section: &str) -> bool {
 #[test]
 fn every_refusal_says_what_is_printed_below_it() {
     let found = of_section(is_number);
-    // Every ground but 13 and 15, which the command never meets; 16 is none.
-    for ground in (1..=17).filter(|ground| ![13, 15, 16].contains(ground)) {
+    // Every ground but 13 and 15, which the command never meets; 16 and 18 are none.
+    for ground in (1..=20).filter(|ground| ![13, 15, 16, 18].contains(ground)) {
         assert!(found.iter().any(|example| example.section == ground.to_string()), "{ground}");
     }
     for example in found {
@@ -91,7 +91,7 @@ fn names_of_joined_texts_are_told_as_printed() {
 #[test]
 fn every_raw_answer_is_what_is_printed_below_it() {
     let found = of_section(|section| section == "For");
-    assert_eq!(found.len(), 12);
+    assert_eq!(found.len(), 14);
     for example in found {
         assert!(example.command.contains(" --raw "), "{}", example.command);
         let refused = example.says.iter().any(|line| line.starts_with("refused "));

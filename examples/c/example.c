@@ -3,7 +3,8 @@
  *
  *     cc example.c $(pkg-config --cflags --libs build/vempaldi.pc) -o example && ./example ../example.table 2
  *
- * A second number is how many iterations a line has, 1 where there is none.
+ * A second number is how many iterations a line has, 1 where there is none. The numbers behind it are a plan by hand, shift and peel of each loop
+ * in table order, as in ./example ../example.table 2 1  0 0  2 1.
  * The exit status is 0 where the memories have the same bits, 1 where a call is refused, 2 where the arguments or the file are no good. */
 #include <inttypes.h>
 #include <stdio.h>
@@ -29,6 +30,7 @@ static void stop_if_refused(const char *what, const uint64_t answer[4]) {
     const char *word = answer[0] < sizeof words / sizeof *words ? words[answer[0]] : "unknown";
     fprintf(stderr, "%s: refused %" PRIu64 " %s, place %" PRIu64, what, answer[0], word, answer[1]);
     if (answer[0] == VEMPALDI_SERIAL) fprintf(stderr, ", read %" PRIu64, answer[2]);
+    if (answer[0] == VEMPALDI_UNMET) fprintf(stderr, ", loop %" PRIu64, answer[2]);
     fprintf(stderr, "\n");
     exit(1);
 }
@@ -43,6 +45,16 @@ static uint32_t read_number(const char *name, const char *word) {
         exit(2);
     }
     return (uint32_t)value;
+}
+
+/* The numbers of a plan, four bytes each. Those for which there is no room are counted only: such a plan is refused by its length. */
+static struct vempaldi_settings with_plan(struct vempaldi_settings settings, int count, char **word) {
+    uint8_t plan[VEMPALDI_AMOUNT_BYTES] = {0};
+    for (int i = 0; i < count; i++) {
+        uint32_t value = read_number(i % 2 ? "a peel" : "a shift", word[i]);
+        for (int n = 0; n < 4 && 4 * i + n < VEMPALDI_AMOUNT_BYTES; n++) plan[4 * i + n] = (uint8_t)(value >> 8 * n);
+    }
+    return vempaldi_with_plan(settings, plan, 4 * (size_t)count);
 }
 
 /* No byte past those that decide changes an answer, so the file may be of any length. */
@@ -73,9 +85,9 @@ static void print_plan(size_t length, struct vempaldi_settings settings) {
     uint64_t written = vempaldi_listing(table, length, settings, text, sizeof text, answer);
     stop_if_refused("listing", answer);
     fwrite(text, 1, written, stdout);
-    vempaldi_threshold(table, length, text, sizeof text, answer);
-    stop_if_refused("threshold", answer);
-    printf("threshold %" PRIu32 "\n", number(text));
+    uint64_t threshold = vempaldi_check_plan(table, length, settings, answer);
+    stop_if_refused("check plan", answer);
+    printf("threshold %" PRIu64 "\n", threshold);
 }
 
 /* Steps the processors from the highest down until none performs an iteration. The result is how many were performed. */
@@ -103,12 +115,13 @@ static void print_last(const double *memory) {
 }
 
 int main(int count, char **word) {
-    if (count != 3 && count != 4) {
-        fprintf(stderr, "usage: example FILE P [W]\n");
+    if (count < 3) {
+        fprintf(stderr, "usage: example FILE P [W [SHIFT PEEL]..]\n");
         return 2;
     }
     struct vempaldi_settings settings = vempaldi_for(read_number("P", word[2]));
-    if (count == 4) settings.line = read_number("W", word[3]);
+    if (count >= 4) settings.line = read_number("W", word[3]);
+    if (count >= 5) settings = with_plan(settings, count - 4, word + 4);
     size_t length = read_table(word[1]);
     uint64_t answer[4];
     vempaldi_facts(table, length, facts, sizeof facts, answer);

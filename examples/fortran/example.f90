@@ -3,8 +3,9 @@
 !
 !     gfortran vempaldi.f90 example.f90 -Lbuild -lvempaldi -o example && ./example example.table 2
 !
-! Without a number it is two processors. A second number is how many iterations a line has, 1 where there is none. The exit status is 0
-! where the memories have the same bits, 1 where a call is refused, 2 where the arguments or the file are no good.
+! Without a number it is two processors. A second number is how many iterations a line has, 1 where there is none. The numbers behind it are
+! a plan by hand, shift and peel of each loop in table order. The exit status is 0 where the memories have the same bits, 1 where a call is
+! refused, 2 where the arguments or the file are no good.
 program example
   use, intrinsic :: iso_c_binding
   use, intrinsic :: iso_fortran_env, only: error_unit
@@ -14,25 +15,28 @@ program example
   integer(c_int8_t), allocatable :: table(:)
   integer(c_int32_t), allocatable :: arrays(:, :), loops(:, :)
   integer(c_int32_t) :: processors, line, threshold, elements
+  ! Where no plan is given it is not allocated, and so absent in every call.
+  integer(c_int32_t), allocatable :: plan(:, :)
   integer(c_int64_t) :: answer(4)
   character(:), allocatable :: text
 
-  if (command_argument_count() < 1 .or. command_argument_count() > 3) call stop_for_caller('usage: example FILE [P [W]]')
+  if (command_argument_count() < 1) call stop_for_caller('usage: example FILE [P [W [SHIFT PEEL]..]]')
   processors = 2
   line = 1
   if (command_argument_count() >= 2) processors = number_in('P', argument(2))
-  if (command_argument_count() == 3) line = number_in('W', argument(3))
+  if (command_argument_count() >= 3) line = number_in('W', argument(3))
+  if (command_argument_count() >= 4) call read_plan()
   call read_table(argument(1))
 
   elements = 0
   call vempaldi_facts(table, arrays, loops, elements, answer)
   call stop_if_refused('facts')
-  call vempaldi_listing(table, processors, text, answer, line=line)
+  call vempaldi_listing(table, processors, text, answer, line=line, plan=plan)
   call stop_if_refused('listing')
   write (*, '(a)', advance='no') text
   threshold = 0
-  call vempaldi_threshold(table, threshold, answer)
-  call stop_if_refused('threshold')
+  call vempaldi_check_plan(table, processors, threshold, answer, line=line, plan=plan)
+  call stop_if_refused('check plan')
   print '(a,i0)', 'threshold ', threshold
   call run_both()
 
@@ -71,6 +75,21 @@ contains
     number = int(value, c_int32_t)
   end function
 
+  ! A number too many makes no pairs, and the library refuses such a plan.
+  subroutine read_plan()
+    integer(c_int32_t), allocatable :: numbers(:)
+    integer :: at
+    allocate (numbers(command_argument_count() - 3))
+    do at = 1, size(numbers)
+      numbers(at) = number_in(trim(merge('a shift', 'a peel ', mod(at, 2) == 1)), argument(3 + at))
+    end do
+    if (mod(size(numbers), 2) == 0) then
+      plan = reshape(numbers, [2, size(numbers) / 2])
+    else
+      plan = reshape(numbers, [1, size(numbers)])
+    end if
+  end subroutine
+
   ! No byte past those that decide changes an answer, so the file may be of any length.
   subroutine read_table(name)
     character(*), intent(in) :: name
@@ -93,6 +112,7 @@ contains
     write (error_unit, '(2a,i0,3a,i0)', advance='no') what, ': refused ', answer(1), ' ', vempaldi_word(answer(1)), &
       ', place ', answer(2)
     if (answer(1) == vempaldi_serial) write (error_unit, '(a,i0)', advance='no') ', read ', answer(3)
+    if (answer(1) == vempaldi_unmet) write (error_unit, '(a,i0)', advance='no') ', loop ', answer(3)
     write (error_unit, '(a)') ''
     stop 1, quiet=.true.
   end subroutine
@@ -103,9 +123,9 @@ contains
     integer :: iterations, b
     iterations = 0
     do b = 0, processors - 1
-      call vempaldi_fused_list(table, processors, b, fused, answer, line=line)
+      call vempaldi_fused_list(table, processors, b, fused, answer, line=line, plan=plan)
       call stop_if_refused('fused list')
-      call vempaldi_peeled_list(table, processors, b, peeled, answer, line=line)
+      call vempaldi_peeled_list(table, processors, b, peeled, answer, line=line, plan=plan)
       call stop_if_refused('peeled list')
       iterations = iterations + size(fused, 2) + size(peeled, 2)
     end do
@@ -125,7 +145,7 @@ contains
     call stop_if_refused('plain run')
     ! The last processor is named once for every iteration that there is. It idles once it has performed its own.
     allocate (order(listed()), source=int(processors - 1, c_int8_t))
-    call vempaldi_run(table, processors, order, other, idle, answer, line=line)
+    call vempaldi_run(table, processors, order, other, idle, answer, line=line, plan=plan)
     call stop_if_refused('run')
     print '(a,i0)', 'idle ', idle
     write (*, '(i0,a,i0,a)', advance='no') size(order), ' iterations on ', elements, ' elements, '

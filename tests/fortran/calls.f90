@@ -1,5 +1,6 @@
-! Every procedure of the Fortran module on one table: calls FILE P [W] prints the listing from the calls that give numbers, what else they
-! give, and the ground of each call, in lines that tests/fortran.sh knows from elsewhere.
+! Every procedure of the Fortran module on one table: calls FILE P [W [EXTENT NUMBER..]] prints the listing from the calls that give numbers, what
+! else they give, and the ground of each call, in lines that tests/fortran.sh knows from elsewhere. The numbers are a plan by hand, an array with
+! that first extent.
 program calls
   use, intrinsic :: iso_c_binding
   use vempaldi
@@ -7,8 +8,8 @@ program calls
 
   integer(c_int8_t), allocatable :: table(:)
   integer(c_int32_t) :: processors
-  ! Where no W is given it is not allocated, and so absent in every call.
-  integer(c_int32_t), allocatable :: line
+  ! Where no W is given, or no plan, it is not allocated, and so absent in every call.
+  integer(c_int32_t), allocatable :: line, plan(:, :)
   integer(c_int64_t) :: answer(4)
   character(4096) :: word
   integer :: unit, length
@@ -20,11 +21,12 @@ program calls
   read (unit) table
   call get_command_argument(2, word)
   read (word, *) processors
-  if (command_argument_count() == 3) then
+  if (command_argument_count() >= 3) then
     call get_command_argument(3, word)
     allocate (line)
     read (word, *) line
   end if
+  if (command_argument_count() >= 4) call read_plan()
 
   print '(a,i0)', 'version ', vempaldi_version()
   call vempaldi_check(table, answer)
@@ -38,6 +40,23 @@ program calls
   call tell_runs()
 
 contains
+
+  ! A number of more than 31 bits is read by its bits, which are those of a negative one here.
+  subroutine read_plan()
+    integer(c_int64_t) :: value
+    integer(c_int32_t), allocatable :: numbers(:)
+    integer :: at, extent
+    allocate (numbers(command_argument_count() - 4))
+    call get_command_argument(4, word)
+    read (word, *) extent
+    do at = 1, size(numbers)
+      call get_command_argument(4 + at, word)
+      read (word, *) value
+      if (value > huge(numbers)) value = value - 4294967296_c_int64_t
+      numbers(at) = int(value, c_int32_t)
+    end do
+    plan = reshape(numbers, [extent, size(numbers) / extent])
+  end subroutine
 
   subroutine say(what)
     character(*), intent(in) :: what
@@ -74,6 +93,10 @@ contains
     call vempaldi_threshold(table, threshold, answer)
     call say('threshold')
     print '(a,1x,i0)', 'threshold', threshold
+    threshold = -1
+    call vempaldi_check_plan(table, processors, threshold, answer, line=line, plan=plan)
+    call say('check plan')
+    print '(a,1x,i0)', 'plan-threshold', threshold
     before = -1
     after = -1
     call vempaldi_sweeps(table, before, after, answer)
@@ -84,10 +107,12 @@ contains
   subroutine tell_blocks()
     integer(c_int32_t), allocatable :: blocks(:, :)
     integer :: b
-    if (allocated(line)) then
+    if (allocated(plan)) then
+      call vempaldi_blocks(table, processors, blocks, answer, line, plan)
+    else if (allocated(line)) then
       call vempaldi_blocks(table, processors, blocks, answer, line)
     else
-      ! As callers have it who know of no line.
+      ! As callers have it who know of no line and no plan.
       call vempaldi_blocks(table, processors, blocks, answer)
     end if
     call say('blocks')
@@ -101,15 +126,15 @@ contains
     integer(c_int32_t), allocatable :: fused(:, :), peeled(:, :)
     integer(c_int32_t) :: b
     do b = 0, processors
-      call vempaldi_fused_ranges(table, processors, b, fused, answer, line=line)
+      call vempaldi_fused_ranges(table, processors, b, fused, answer, line=line, plan=plan)
       call say('fused ranges')
-      call vempaldi_peeled_ranges(table, processors, b, peeled, answer, line=line)
+      call vempaldi_peeled_ranges(table, processors, b, peeled, answer, line=line, plan=plan)
       call say('peeled ranges')
       call tell_parts('fused', b, fused)
       call tell_parts('peeled', b, peeled)
-      call vempaldi_fused_list(table, processors, b, fused, answer, line=line)
+      call vempaldi_fused_list(table, processors, b, fused, answer, line=line, plan=plan)
       call say('fused list')
-      call vempaldi_peeled_list(table, processors, b, peeled, answer, line=line)
+      call vempaldi_peeled_list(table, processors, b, peeled, answer, line=line, plan=plan)
       call say('peeled list')
       call tell_list('fused', b, fused)
       call tell_list('peeled', b, peeled)
@@ -137,7 +162,7 @@ contains
 
   subroutine tell_listing()
     character(:), allocatable :: text
-    call vempaldi_listing(table, processors, text, answer, line=line)
+    call vempaldi_listing(table, processors, text, answer, line=line, plan=plan)
     call say('listing')
     print '(a,1x,i0)', 'listing-bytes', len(text)
   end subroutine
@@ -163,7 +188,7 @@ contains
     other = stepped
     call vempaldi_plain_run(table, plain, answer)
     call say('plain run')
-    call vempaldi_run(table, processors, [integer(c_int8_t) :: 0, 0, 127], other, idle, answer, line=line)
+    call vempaldi_run(table, processors, [integer(c_int8_t) :: 0, 0, 127], other, idle, answer, line=line, plan=plan)
     call say('run')
     print '(a,1x,i0)', 'idle', idle
     call step_all(stepped)
@@ -189,7 +214,7 @@ contains
       before = seen(vempaldi_iteration)
       do b = 0, processors
         report = vempaldi_no_report
-        call vempaldi_step(table, processors, b, counts, memory, report, answer, line=line)
+        call vempaldi_step(table, processors, b, counts, memory, report, answer, line=line, plan=plan)
         seen(report(1)) = seen(report(1)) + 1
       end do
       if (seen(vempaldi_iteration) == before) exit

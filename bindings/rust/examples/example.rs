@@ -1,7 +1,8 @@
 //! Plans the loop table of a file for a number of processors, then steps it in an odd order on a memory in which every element is its own
-//! index within its array, beside the plain run. W, where it is given, is how many iterations a line has.
+//! index within its array, beside the plain run. W, where it is given, is how many iterations a line has. The numbers behind it are a plan by
+//! hand, shift and peel of each loop in table order.
 //!
-//!     cargo run --example example -- FILE P [W]
+//!     cargo run --example example -- FILE P [W [SHIFT PEEL]..]
 //!
 //! The exit status is 0 where the memories have the same bits, 1 where a call is refused, 2 where the arguments or the file are no good.
 
@@ -35,14 +36,25 @@ fn read_number(name: &str, word: &OsStr) -> Result<u32, Failure> {
 
 /// The file's name, and the settings that the words behind it say.
 fn read_words(words: &[OsString]) -> Result<(&OsString, Settings), Failure> {
-    match words {
-        [file, processors] => Ok((file, Settings::new(read_number("P", processors)?))),
-        [file, processors, line] => {
-            let processors = read_number("P", processors)?;
-            Ok((file, Settings::new(processors).line(read_number("W", line)?)))
+    let [file, processors, more @ ..] = words else {
+        return Err(Failure::Caller("usage: example FILE P [W [SHIFT PEEL]..]".to_string()));
+    };
+    let mut settings = Settings::new(read_number("P", processors)?);
+    if let [line, plan @ ..] = more {
+        settings = settings.line(read_number("W", line)?);
+        if !plan.is_empty() {
+            settings = settings.plan(&read_plan(plan)?);
         }
-        _ => Err(Failure::Caller("usage: example FILE P [W]".to_string())),
     }
+    Ok((file, settings))
+}
+
+/// The numbers of a plan, four bytes each. `Settings::amounts` takes pairs of numbers; bytes may also be too few or too many, which the library
+/// refuses.
+fn read_plan(words: &[OsString]) -> Result<Vec<u8>, Failure> {
+    let names = ["a shift", "a peel"].into_iter().cycle();
+    let numbers: Result<Vec<u32>, Failure> = names.zip(words).map(|(name, word)| read_number(name, word)).collect();
+    Ok(numbers?.into_iter().flat_map(u32::to_le_bytes).collect())
 }
 
 /// No byte past those that decide changes an answer, so the file may be of any length.
@@ -66,7 +78,8 @@ fn print_ranges(word: &str, processor: u32, ranges: &[Range<u32>]) {
 /// The plan by its numbers. `vempaldi::listing` gives the same lines as text.
 fn print_plan(table: &[u8], settings: Settings) -> Result<(), Refusal> {
     let blocks = vempaldi::blocks(table, settings)?;
-    for (k, one) in vempaldi::shifts_and_peels(table)?.iter().enumerate() {
+    let amounts = settings.by_hand().map_or_else(|| vempaldi::shifts_and_peels(table), Ok)?;
+    for (k, one) in amounts.iter().enumerate() {
         println!("loop {k} {} {}", one.shift, one.peel);
     }
     for (b, block) in blocks.iter().enumerate() {
@@ -80,7 +93,7 @@ fn print_plan(table: &[u8], settings: Settings) -> Result<(), Refusal> {
     }
     let sweeps = vempaldi::sweeps(table)?;
     println!("sweeps {} {}", sweeps.before, sweeps.after);
-    println!("threshold {}", vempaldi::threshold(table)?);
+    println!("threshold {}", vempaldi::check_plan(table, settings)?);
     Ok(())
 }
 

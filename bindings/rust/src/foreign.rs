@@ -25,6 +25,7 @@ extern "C" {
     pub fn vempaldi_facts(t: *const u8, n: usize, out: *mut u8, room: usize, answer: *mut Answer) -> u64;
     pub fn vempaldi_shifts_and_peels(t: *const u8, n: usize, out: *mut u8, room: usize, answer: *mut Answer) -> u64;
     pub fn vempaldi_threshold(t: *const u8, n: usize, out: *mut u8, room: usize, answer: *mut Answer) -> u64;
+    pub fn vempaldi_check_plan(t: *const u8, n: usize, s: Settings, answer: *mut Answer) -> u64;
     pub fn vempaldi_sweeps(t: *const u8, n: usize, out: *mut u8, room: usize, answer: *mut Answer) -> u64;
     pub fn vempaldi_blocks(t: *const u8, n: usize, s: Settings, out: *mut u8, room: usize, answer: *mut Answer) -> u64;
     pub fn vempaldi_listing(t: *const u8, n: usize, s: Settings, out: *mut u8, room: usize, answer: *mut Answer) -> u64;

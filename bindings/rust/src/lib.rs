@@ -24,6 +24,19 @@
 //! # Ok::<(), vempaldi::Refusal>(())
 //! ```
 //!
+//! Shifts and peels can be given by hand instead of found. A plan that is accepted then stands wherever the table's own would:
+//!
+//! ```
+//! use vempaldi::Settings;
+//!
+//! let table = std::fs::read("../../examples/example.table").unwrap();
+//! let mut amounts = vempaldi::shifts_and_peels(&table)?;
+//! amounts[1].shift += 2;
+//! let settings = Settings::new(2).amounts(amounts);
+//! assert_eq!(vempaldi::fused_ranges(&table, settings, 0)?, [1..6, 1..3]); // loop 1 stays three indices behind the block's end
+//! # Ok::<(), vempaldi::Refusal>(())
+//! ```
+//!
 //! Enums, and structs that calls give, are `non_exhaustive`: a later release may add to them, and callers still compile. So a match has an
 //! arm for what is newer than the program:
 //!
@@ -65,8 +78,8 @@ mod version;
 pub use builder::{BuildError, BuildFault, Builder, Operation, BODY_LENGTHS, BUILDER_BYTES};
 pub use facts::{facts, ArrayFacts, Facts, LoopFacts};
 pub use planning::{
-    blocks, check, fused_list, fused_ranges, join, join_into, listing, peeled_list, peeled_ranges, shifts_and_peels, sweeps,
-    threshold, Amounts, Block, Iteration, Sweeps,
+    blocks, check, check_plan, fused_list, fused_ranges, join, join_into, listing, peeled_list, peeled_ranges, shifts_and_peels,
+    sweeps, threshold, Amounts, Block, Iteration, Sweeps,
 };
 pub use refusal::{Ground, Refusal};
 pub use running::{plain_run, run, step, Report, State};

@@ -7,11 +7,19 @@ use crate::settings::Settings;
 use crate::sizes::{AMOUNT_BYTES, BLOCK_BYTES, LISTING_BYTES, RANGE_BYTES, TABLE_BYTES};
 use std::ops::Range;
 
+/// What a loop has in a plan: as the library finds it, or as [`Settings::amounts`] takes it.
 #[derive(Clone, Copy, Debug, PartialEq, Eq)]
 #[non_exhaustive]
 pub struct Amounts {
     pub shift: u32,
     pub peel: u32,
+}
+
+/// Shift and peel.
+impl From<(u32, u32)> for Amounts {
+    fn from((shift, peel): (u32, u32)) -> Self {
+        Amounts { shift, peel }
+    }
 }
 
 /// First and last index of a processor's block.
@@ -92,12 +100,35 @@ pub fn join_into(left: &[u8], right: &[u8], out: &mut [u8]) -> Result<usize, Ref
 /// ```
 pub fn shifts_and_peels(table: &[u8]) -> Result<Vec<Amounts>, Refusal> {
     let numbers = of_table(vempaldi_shifts_and_peels, table, AMOUNT_BYTES)?;
-    Ok(pairs(&numbers).map(|(shift, peel)| Amounts { shift, peel }).collect())
+    Ok(pairs(&numbers).map(Amounts::from).collect())
 }
 
-/// The largest sum of shift and peel of one loop.
+/// The largest sum of shift and peel of one loop, of the table's own shifts and peels. [`check_plan`] gives that of a plan by hand.
 pub fn threshold(table: &[u8]) -> Result<u32, Refusal> {
     Ok(of_table(vempaldi_threshold, table, 4)?[0])
+}
+
+/// Whether a plan is accepted: the one by hand that the settings have, or else that of the table's own shifts and peels. The result is its
+/// threshold, the largest sum of its shift and peel of one loop.
+///
+/// ```
+/// use vempaldi::{Ground, Settings};
+///
+/// let table = std::fs::read("../../examples/example.table").unwrap();
+/// assert_eq!(vempaldi::check_plan(&table, 2)?, 2); // its own: 0 and 0, 1 and 1
+/// assert_eq!(vempaldi::check_plan(&table, Settings::new(2).amounts([(0, 0), (2, 1)]))?, 3);
+///
+/// // Loop 1 reads A0[i-1] and A0[i+1], which loop 0 stores: its shift and its peel are each at least one more than those of loop 0.
+/// let refusal = vempaldi::check_plan(&table, Settings::new(2).amounts([(3, 0), (3, 1)])).unwrap_err();
+/// assert_eq!((refusal.ground, refusal.loops()), (Ground::Unmet, Some((0, 1))));
+/// # Ok::<(), vempaldi::Refusal>(())
+/// ```
+pub fn check_plan(table: &[u8], settings: impl Into<Settings>) -> Result<u32, Refusal> {
+    let mut answer = [0; 4];
+    // SAFETY: the pointer and length are those of a live slice, and the answer is lent for this call alone.
+    let threshold = unsafe { vempaldi_check_plan(table.as_ptr(), table.len(), settings.into(), &mut answer) };
+    // Two numbers of a plan are 20,000 at most.
+    Refusal::of_answer(&answer).map(|()| threshold as u32)
 }
 
 pub fn sweeps(table: &[u8]) -> Result<Sweeps, Refusal> {

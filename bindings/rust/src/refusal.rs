@@ -23,12 +23,14 @@ pub enum Ground {
     Unlike,
     State,
     Line,
+    Plan,
+    Unmet,
     /// A number that this wrapper does not know: the library is of another version.
     Other(u64),
 }
 
-/// Each ground with its number, its word and its text. No call gives 16.
-const GROUNDS: [(Ground, u64, &str, &str); 16] = [
+/// Each ground with its number, its word and its text. No call gives 16 or 18.
+const GROUNDS: [(Ground, u64, &str, &str); 18] = [
     (Ground::Torn, 1, "torn", "the bytes end inside a record or before the end record"),
     (Ground::Kind, 2, "kind", "a kind is unknown or out of its order, or there is no array or loop before the end"),
     (Ground::Field, 3, "field", "a field is outside its range, or first is above last"),
@@ -45,6 +47,8 @@ const GROUNDS: [(Ground, u64, &str, &str); 16] = [
     (Ground::Unlike, 14, "unlike", "the joined tables differ in arrays"),
     (Ground::State, 15, "state", "the counts are none that steps from 0 can leave"),
     (Ground::Line, 17, "line", "a line's length is outside 1 to 64"),
+    (Ground::Plan, 19, "plan", "a plan by hand has not 8 bytes for each loop, or a number above 10,000"),
+    (Ground::Unmet, 20, "unmet", "a plan by hand does not meet some dependence"),
 ];
 
 impl Ground {
@@ -82,10 +86,11 @@ impl Ground {
 #[non_exhaustive]
 pub struct Refusal {
     pub ground: Ground,
-    /// For torn to tail a byte of the table (for crowd 0 where joined tables have too many loops in all), for serial a loop, else 0.
+    /// For torn to tail a byte of the table (for crowd 0 where joined tables have too many loops in all), for serial a loop, for unmet the
+    /// earlier loop, else 0.
     pub place: u64,
     /// What the refusal names. For serial the lowest read of that loop that meets the destination in another iteration, numbered from 0
-    /// among the loop's reads in byte order, and 0; else two zeros.
+    /// among the loop's reads in byte order, and 0; for unmet the later loop, and 0; else two zeros.
     pub named: [u64; 2],
 }
 
@@ -103,6 +108,12 @@ impl Refusal {
         (self.ground == Ground::Serial).then_some(self.named[0])
     }
 
+    /// The two loops of unmet, the earlier and the later one, and nothing for the other grounds: some dependence from the one to the other is
+    /// not met. Of all such pairs it is the one with the lowest earlier loop, and with that the lowest later one.
+    pub fn loops(&self) -> Option<(u64, u64)> {
+        (self.ground == Ground::Unmet).then_some((self.place, self.named[0]))
+    }
+
     /// Whether joined tables have too many loops in all. No table by itself meets crowd at its first byte.
     fn of_both(&self) -> bool {
         self.ground == Ground::Crowd && self.place == 0
@@ -114,6 +125,8 @@ impl fmt::Display for Refusal {
         write!(out, "refused {} {}", self.ground.number(), self.ground.word())?;
         if let Some(read) = self.read() {
             write!(out, " at loop {}, read {read}", self.place)?;
+        } else if let Some((earlier, later)) = self.loops() {
+            write!(out, " from loop {earlier} to loop {later}")?;
         } else if self.ground.has_byte() && !self.of_both() {
             write!(out, " at byte {}", self.place)?;
         }

@@ -6,6 +6,9 @@ pub const MOST_PROCESSORS: u32 = 64;
 /// The largest number of iterations that a line has.
 pub const LONGEST_LINE: u32 = 64;
 
+/// No shift and no peel of a plan by hand is above it.
+pub const MOST_AMOUNT: u32 = 10_000;
+
 /// The longest accepted table, so also the longest joined one.
 pub const TABLE_BYTES: usize = 2_065;
 
@@ -15,7 +18,7 @@ pub const DECIDING_BYTES: usize = 2_077;
 /// Facts of 16 arrays and 16 loops.
 pub const FACTS_BYTES: usize = 268;
 
-/// Shifts and peels of 16 loops.
+/// Shifts and peels of 16 loops, so also of a plan by hand.
 pub const AMOUNT_BYTES: usize = 128;
 
 /// A processor's ranges in 16 loops.

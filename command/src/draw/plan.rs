@@ -1,5 +1,6 @@
 //! What is drawn: a table's plan, as the library gives it.
 
+use crate::by_hand::in_force;
 use crate::infix::assignment;
 use crate::names::Names;
 use crate::records::decode;
@@ -38,13 +39,15 @@ pub struct Plan {
     pub sweeps: Sweeps,
     /// How many indices a line has.
     pub line: u32,
+    /// Whether shifts and peels were given and not found.
+    pub by_hand: bool,
 }
 
 impl Plan {
     pub fn of(table: &[u8], settings: Settings, names: &Names) -> Result<Plan, Refusal> {
         let listing = vempaldi::listing(table, settings)?;
         let (fused, peeled) = ranges(table, settings)?;
-        let amounts = vempaldi::shifts_and_peels(table)?.into_iter();
+        let (amounts, threshold) = in_force(table, settings)?;
         let decoded = decode(table).0.loops;
         let loops = decoded.iter().zip(amounts).map(|(one, amounts)| {
             let statement = assignment(one, names).map_or(String::new(), |infix| infix.text);
@@ -55,9 +58,10 @@ impl Plan {
             blocks: vempaldi::blocks(table, settings)?,
             fused,
             peeled,
-            threshold: vempaldi::threshold(table)?,
+            threshold,
             sweeps: vempaldi::sweeps(table)?,
             line: settings.line,
+            by_hand: settings.by_hand().is_some(),
             listing,
         })
     }
