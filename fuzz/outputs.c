@@ -1,4 +1,5 @@
-/* Check, join, and every call that writes numbers or text: answer, count and bytes are the model's, the bytes behind them as found. */
+/* Check, the check of a plan, join, and every call that writes numbers or text: answer, count and bytes are the model's, the bytes behind them
+ * as found. */
 #include "call.h"
 
 #include <string.h>
@@ -55,8 +56,8 @@ static void write_output(const struct call *call, enum entry entry, struct outpu
     out->length = 0;
     switch (entry) {
     case FACTS: facts(&call->table, out); return;
-    case SHIFTS_AND_PEELS: amounts(&call->plan, out); return;
-    case THRESHOLD: put(out, call->plan.threshold); return;
+    case SHIFTS_AND_PEELS: amounts(&call->own, out); return;
+    case THRESHOLD: put(out, call->own.threshold); return;
     case SWEEPS: sweeps(&call->table, out); return;
     case BLOCKS: blocks(&call->plan, out); return;
     case FUSED_LIST: list(call, FUSED, out); return;
@@ -117,6 +118,13 @@ void check(struct call *call) {
     expect(call, CHECK, 0);
     vempaldi_check(call->bytes, call->length, call->answer);
     answered(call);
+}
+
+void check_plan(struct call *call) {
+    expect(call, CHECK_PLAN, plan_ground(call, 0));
+    uint64_t threshold = vempaldi_check_plan(call->bytes, call->length, call->settings, call->answer);
+    answered(call);
+    if (threshold != (call->expected[0] ? 0 : (uint64_t)call->plan.threshold)) breach(call, "another threshold");
 }
 
 /* Left's arrays and loops, right's loops, and the end; or 14, 4. */

@@ -4,6 +4,7 @@
 pub mod blocks;
 pub mod bodies;
 pub mod boundaries;
+pub mod by_hand;
 pub mod collisions;
 pub mod damage;
 pub mod dealt;
