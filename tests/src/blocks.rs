@@ -44,11 +44,7 @@ pub fn plan(table: &Table, settings: Settings) -> Result<Plan, Refusal> {
 
 /// The same for a call that names a processor: ground 10 is asked of its
 /// number behind P.
-pub fn plan_naming(
-    table: &Table,
-    settings: Settings,
-    named: Option<u32>,
-) -> Result<Plan, Refusal> {
+pub fn plan_naming(table: &Table, settings: Settings, named: Option<u32>) -> Result<Plan, Refusal> {
     let amounts = by_hand::in_force(table, &settings)?;
     if !(1..=MOST_PROCESSORS).contains(&settings.processors) {
         return Err(Refusal::whole(PROCESSORS));
@@ -59,22 +55,22 @@ pub fn plan_naming(
     if !(1..=LONGEST_LINE).contains(&settings.line) {
         return Err(Refusal::whole(LINE));
     }
-    with_amounts(table, settings, amounts).ok_or(Refusal::whole(SHORT))
+    let plan = laid(table, settings, amounts).ok_or(Refusal::whole(SHORT))?;
+    if plan.long_enough(threshold(&plan.amounts)) {
+        Ok(plan)
+    } else {
+        Err(Refusal::whole(SHORT))
+    }
 }
 
-/// The plan with these shifts and peels, for settings that are in range;
-/// nothing is ground 11.
-pub fn with_amounts(table: &Table, settings: Settings, amounts: Vec<Amounts>) -> Option<Plan> {
+/// Blocks with these shifts and peels, for settings that are in range, if
+/// there are lines enough.
+pub fn laid(table: &Table, settings: Settings, amounts: Vec<Amounts>) -> Option<Plan> {
     let indices = indices(table);
-    let count = i64::from(settings.processors);
-    if lines(indices, settings.line) < count {
+    if lines(indices, settings.line) < i64::from(settings.processors) {
         return None;
     }
     let blocks = split(indices, settings);
-    let least = threshold(&amounts);
-    if count >= 2 && blocks.iter().any(|block| block.count() < least) {
-        return None;
-    }
     let bounds = table.loops.iter().map(|one| bounds(one.first, one.last)).collect();
     Some(Plan { amounts, blocks, bounds })
 }
@@ -124,6 +120,11 @@ fn split(indices: Range, settings: Settings) -> Vec<Range> {
 }
 
 impl Plan {
+    /// Whether no block has fewer indices than `least`, where that counts.
+    pub fn long_enough(&self, least: i64) -> bool {
+        self.blocks.len() < 2 || self.blocks.iter().all(|block| block.count() >= least)
+    }
+
     /// What processor b runs of loop k before the barrier.
     pub fn fused(&self, b: usize, k: usize) -> Range {
         let own = self.bounds[k];

@@ -58,6 +58,11 @@ pub fn read(bytes: &[u8]) -> Vec<Amounts> {
     bytes.chunks_exact(LOOP_BYTES).map(one).collect()
 }
 
+/// The bytes of a plan that is typed as shift and peel of each loop.
+pub fn typed(plan: &[(u32, u32)]) -> Vec<u8> {
+    plan.iter().flat_map(|&(shift, peel)| [shift, peel]).flat_map(u32::to_le_bytes).collect()
+}
+
 /// The bytes of a plan with these numbers.
 pub fn written(amounts: &[Amounts]) -> Vec<u8> {
     let numbers = amounts.iter().flat_map(|one| [one.shift, one.peel]);
