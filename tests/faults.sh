@@ -18,7 +18,7 @@ found() {
 }
 by_fuzzer() { found "$own/$VEMPALDI_FAULT.fuzz" '^BREACH in' "$own/driver" "$inputs" 1; }
 by_memcheck() {
-    found "$own/$VEMPALDI_FAULT.memcheck" '== Invalid read' \
+    found "$own/$VEMPALDI_FAULT.memcheck" '== (Invalid read|Conditional jump or move depends on uninitialised)' \
         valgrind --quiet --error-exitcode=1 --exit-on-first-error=yes "$own/driver" 300 1
 }
 by_tests() {
