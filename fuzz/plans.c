@@ -87,11 +87,12 @@ static uint32_t plan_bytes(const struct call *call, struct cursor *bytes, uint8_
     if (call->verdict[0] || way >= 15) {
         length = call->verdict[0] ? 8 * (1 + take(bytes, 1) % MOST_LOOPS) : 8 * (uint32_t)call->table.loops;
         for (uint32_t i = 0; i < length; i += 4) put_four(out + i, way % 2 ? take(bytes, 1) % 3 : take(bytes, 4));
-        return length;
+        return way < 4 ? wrong_length(length, bytes) : length;
     }
     plan = call->own;
     if (way > 0) raised(&plan, bytes);
-    if (way == 8 || way == 9) lifted(&plan, bytes);
+    /* Only large inputs have blocks that are long enough for high numbers. */
+    if (way == 8 || way == 9 || (bytes->large && way % 2)) lifted(&plan, bytes);
     if (way > 9 && way < 13) lowered(&plan, bytes);
     length = written(&plan, out);
     if (way == 13) ends(out, length, bytes);
@@ -115,7 +116,7 @@ struct vempaldi_settings any_plan(const struct call *call, struct cursor *bytes)
 
 /* Plans by hand of accepted tables: how many there were, by what became of them. */
 static struct {
-    uint64_t all, lengths, numbers, unmet, by_shift, by_peel, several, far, not_below, accepted, above, parallel, highest, beyond, shorter;
+    uint64_t all, lengths, numbers, unmet, by_shift, by_peel, several, far, not_below, accepted, above, parallel, highest, tall, beyond, shorter;
 } plans;
 
 /* Of a plan that is refused with 20: of what the pairs of loops that it does not meet are. */
@@ -141,7 +142,7 @@ static void count_accepted(const struct call *call) {
         beyond |= call->plan.shift[k] > call->plan.indices;
     }
     plans.accepted++, plans.above += above, plans.parallel += above && call->settings.processors > 1;
-    plans.highest += highest, plans.beyond += beyond;
+    plans.highest += highest, plans.tall += highest && call->settings.processors > 1, plans.beyond += beyond;
 }
 
 void count_plan(const struct call *call) {
@@ -165,6 +166,6 @@ void tell_plans(void) {
     fprintf(stderr, ", of no neighbours: %" PRIu64 ", with no number below the own: %" PRIu64 "\n", plans.far, plans.not_below);
     fprintf(stderr, "  accepted: %" PRIu64 ", above the own: %" PRIu64 ", these for two processors or more: %" PRIu64, plans.accepted, plans.above,
             plans.parallel);
-    fprintf(stderr, ", with 10,000: %" PRIu64 ", with a shift above all indices: %" PRIu64 "; 11 that the own has not: %" PRIu64 "\n",
-            plans.highest, plans.beyond, plans.shorter);
+    fprintf(stderr, ", with 10,000: %" PRIu64 ", these for two processors or more: %" PRIu64, plans.highest, plans.tall);
+    fprintf(stderr, ", with a shift above all indices: %" PRIu64 "; 11 that the own has not: %" PRIu64 "\n", plans.beyond, plans.shorter);
 }

@@ -90,6 +90,13 @@ static void told_early(const uint8_t *table, size_t table_length, struct vempald
     if (fault("ranges-line-before-processor") && plan[0] == 17) refuse(answer, 17);
 }
 
+/* Whether a plan by hand has a number that fourteen bits are needed for. */
+static int tall(struct vempaldi_settings settings, uint64_t length) {
+    for (uint64_t at = 0; settings.by_hand && at < length; at += 4)
+        if (number_at(settings.plan + at) >= 1 << 13) return 1;
+    return 0;
+}
+
 uint64_t vempaldi_fused_ranges(const uint8_t *table, size_t table_length, struct vempaldi_settings settings, uint32_t processor,
                                uint8_t *out, size_t out_length, uint64_t answer[4]) {
     table_length = length_in("fused-ranges", table_length), settings = settings_in("fused-ranges", table, table_length, settings);
@@ -103,6 +110,7 @@ uint64_t vempaldi_fused_ranges(const uint8_t *table, size_t table_length, struct
         shorten(amounts, out, written / 8);
     }
     if (fault("ranges-processor-before-plan") && (answer[0] == 19 || answer[0] == 20) && processor >= settings.processors) refuse(answer, 10);
+    if (fault("ranges-tall-wrong") && !answer[0] && settings.processors > 1 && tall(settings, written)) put_at(out, number_at(out) + 1);
     if (fault("ranges-last-included") && !answer[0] && number_at(out + 4)) put_at(out + 4, number_at(out + 4) - 1);
     return written;
 }

@@ -3,13 +3,14 @@
 //! or no plan, with a count of those by which each wrong way would be seen.
 
 use crate::entries::{check_plan, every_entry, needed, of_plan, with_room};
-use vempaldi_checks::by_hand::{in_force, typed as bytes_of, written};
+use vempaldi_checks::by_hand::{in_force, typed as bytes_of, written, MOST_AMOUNT};
 use vempaldi_checks::by_iterations::{least_unmet, needs};
 use vempaldi_checks::collisions;
 use vempaldi_checks::damage;
 use vempaldi_checks::encoder::encode;
 use vempaldi_checks::examples::{crossed, ByHand, CROSSED_BY_HAND, EXAMPLE, EXAMPLE_BY_HAND};
 use vempaldi_checks::examples::{EXAMPLE_BY_HAND_LISTING, EXAMPLE_LISTING};
+use vempaldi_checks::large;
 use vempaldi_checks::library_planning as library;
 use vempaldi_checks::line_lengths;
 use vempaldi_checks::lined;
@@ -28,12 +29,17 @@ use vempaldi_checks::tally::Tally;
 const MADE: u64 = 80_000;
 const SMALL_TABLES: u64 = 400;
 const GIVEN_BACK: u64 = 20_000;
+const LONG: u64 = 4_000;
+/// Of so many long tables one is asked for its lists.
+const LISTS: u64 = 200;
 const LEAST_OF_EACH: u64 = 300;
 /// Of so many made plans one goes to every entry with every room, the others
 /// to the check and to one entry.
 const EVERY: u64 = 20;
 /// Of so many, one table is damaged too.
 const DAMAGED: u64 = 8;
+/// Enough for the lists and listings of the tables that are given back.
+const ROOM: usize = 65_536;
 /// Chains over few arrays, so that most loops depend on several others.
 const CHAINED: Shape =
     Shape { arrays: 2, loops: 8, items: 5, length: 90, offset: 3, serial: false };
@@ -43,11 +49,12 @@ pub fn compare_all() {
     typed(&mut tally, &EXAMPLE, &EXAMPLE_BY_HAND);
     typed(&mut tally, &crossed(), &CROSSED_BY_HAND);
     typed_listings();
-    small();
-    given_back();
     made(&mut tally);
     tally.print("entries of plans by hand");
     tally.require(&[0, 1, 2, 3, 5, 6, 7, 8, 9, 10, 11, 13, 17, 19, 20], LEAST_OF_EACH);
+    long();
+    small();
+    given_back();
 }
 
 fn typed(tally: &mut Tally, table: &[u8], typed: &[ByHand]) {
@@ -81,6 +88,37 @@ fn typed_listings() {
         let found = String::from_utf8_lossy(&out[..written as usize]);
         assert_eq!(found, wanted, "a typed listing for {settings:?}");
     }
+}
+
+/// High numbers for several processors, which need long blocks: most calls are
+/// those whose output is short.
+fn long() {
+    let mut random = Random::new(83);
+    let mut tally = Tally::new();
+    let tables = [large::last_indices(2), large::last_indices(5), large::chained()];
+    let mut highest = 0;
+    for number in 0..LONG {
+        let table = &tables[random.below(tables.len())];
+        let (bytes, line) = (encode(table), line_lengths::good(&mut random));
+        let mut settings = plans_by_hand::high(&mut random, table, Settings::new(1, line));
+        let plan = in_force(table, &settings).expect("accepted");
+        let most = processors::most_with(table, line, threshold(&plan));
+        let fewer = random.between(1, most.into()) as u32;
+        settings.processors = random.pick(&[most, most, most + 1, fewer]);
+        let processor = random.below(settings.processors as usize) as u32;
+        check_plan(&mut tally, &bytes, settings);
+        for entry in of_plan(&bytes, settings, processor) {
+            if number % LISTS == 0 || !entry.is_list() {
+                with_room(&mut tally, &bytes, &entry, needed(&entry));
+            }
+        }
+        let tall = plan.iter().any(|one| one.shift.max(one.peel) == MOST_AMOUNT);
+        highest += u64::from(tall && (2..=most).contains(&settings.processors));
+    }
+    tally.print("high numbers by hand in long tables");
+    println!("  {highest} accepted plans for two processors and more have a number of 10,000");
+    tally.require(&[0, 11], LEAST_OF_EACH);
+    assert!(highest >= LEAST_OF_EACH, "too few plans with the highest number");
 }
 
 /// Every plan of small numbers for small tables, beside what the iterations
@@ -162,11 +200,13 @@ fn given_back() {
     assert!((GIVEN_BACK / 3..GIVEN_BACK).contains(&accepted), "too few of one kind");
 }
 
-/// What each call that plans comes to: its answer, its result and its bytes.
-fn all_of(table: &[u8], settings: Settings, processor: u32) -> Vec<(Answer, u64, Vec<u8>)> {
+/// What a call comes to: its answer, its result and the bytes that it wrote.
+type Came = (Answer, u64, Vec<u8>);
+
+/// Every call that plans, with room enough.
+fn all_of(table: &[u8], settings: Settings, processor: u32) -> Vec<Came> {
     type Call<'a> = &'a dyn Fn(&mut [u8]) -> (Answer, u64);
-    let calls: [Call; 7] = [
-        &|_| library::check_plan(table, settings),
+    let calls: [Call; 6] = [
         &|out| library::blocks(table, settings, out),
         &|out| library::listing(table, settings, out),
         &|out| library::fused_list(table, settings, processor, out),
@@ -174,12 +214,16 @@ fn all_of(table: &[u8], settings: Settings, processor: u32) -> Vec<(Answer, u64,
         &|out| library::fused_ranges(table, settings, processor, out),
         &|out| library::peeled_ranges(table, settings, processor, out),
     ];
-    let came = |call: &Call| {
-        let mut out = vec![0xA5; 65_536];
-        let (answer, result) = call(&mut out);
-        (answer, result, out)
+    let mut out = vec![0xA5; ROOM];
+    let mut came = |call: &Call| {
+        let (answer, written) = call(&mut out);
+        assert!(answer[0] != 13, "too little room");
+        (answer, written, out[..written as usize].to_vec())
     };
-    calls.iter().map(came).collect()
+    let (answer, threshold) = library::check_plan(table, settings);
+    let mut all = vec![(answer, threshold, Vec::new())];
+    all.extend(calls.iter().map(&mut came));
+    all
 }
 
 fn made(tally: &mut Tally) {

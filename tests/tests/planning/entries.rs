@@ -31,6 +31,13 @@ pub struct Entry<'a> {
     call: Call<'a>,
 }
 
+impl Entry<'_> {
+    /// Whether it writes every iteration.
+    pub fn is_list(&self) -> bool {
+        self.name.ends_with("list")
+    }
+}
+
 pub fn compare_all() {
     let mut tally = Tally::new();
     let plans = every_list(&mut tally);
