@@ -27,9 +27,13 @@ int line_in_range(uint32_t line);
  * length is in range; of CALL-line-8-bits with the low byte of the length alone; and with what `misread_plan` makes of a plan by hand. */
 struct vempaldi_settings settings_in(const char *call, const uint8_t *table, size_t length, struct vempaldi_settings settings);
 
-/* A plan by hand as a call takes it: of the faults CALL-by-hand-ignored and all-by-hand-ignored none, where it is neither 19 nor 20; of the others
- * of hands.c that begin with `all` another one. */
+/* A plan by hand as a call takes it: of the faults CALL-by-hand-ignored and all-by-hand-ignored none, where it is neither 19 nor 20; of
+ * CALL-unmet-ignored none, where it is 20; of the others of hands.c that begin with `all` another one. */
 struct vempaldi_settings misread_plan(const char *call, const uint8_t *table, size_t length, struct vempaldi_settings settings);
+
+/* 19 or 20 as CALL tells it: of the faults CALL-processors-before-plan and CALL-line-before-plan after 10 or 17, of CALL-later-unnamed without the
+ * later loop. `processor` is the one that the call names, or 0. */
+void mistell_plan(const char *call, struct vempaldi_settings settings, uint32_t processor, uint64_t answer[4]);
 
 /* Shifts and peels in force, for settings with which the table has a plan. */
 void amounts_in_force(const uint8_t *table, size_t length, struct vempaldi_settings settings, uint8_t out[VEMPALDI_AMOUNT_BYTES]);

@@ -11,11 +11,21 @@ void amounts_in_force(const uint8_t *table, size_t length, struct vempaldi_setti
     else real_vempaldi_shifts_and_peels(table, length, out, VEMPALDI_AMOUNT_BYTES, answer);
 }
 
-/* Whether a plan by hand is neither 19 nor 20. */
-static int meant(const uint8_t *table, size_t length, struct vempaldi_settings settings) {
+/* Whether a call leaves out the plan by hand: one that is meant, or one that is 20. */
+static int left_out(const char *call, const uint8_t *table, size_t length, struct vempaldi_settings settings) {
     uint64_t answer[4];
+    int meant = fault("all-by-hand-ignored") || fault_in(call, "by-hand-ignored"), unmet = fault_in(call, "unmet-ignored");
+    if (!meant && !unmet) return 0;
     real_vempaldi_check_plan(table, length, settings, answer);
-    return answer[0] != 19 && answer[0] != 20;
+    return (meant && answer[0] != 19 && answer[0] != 20) || (unmet && answer[0] == 20);
+}
+
+void mistell_plan(const char *call, struct vempaldi_settings settings, uint32_t processor, uint64_t answer[4]) {
+    int bad = settings.processors < 1 || settings.processors > VEMPALDI_MOST_PROCESSORS || processor >= settings.processors;
+    if (answer[0] != 19 && answer[0] != 20) return;
+    if (fault_in(call, "later-unnamed")) answer[2] = 0;
+    if (fault_in(call, "line-before-plan") && !bad && !line_in_range(settings.line)) refuse(answer, 17);
+    if (fault_in(call, "processors-before-plan") && bad) refuse(answer, 10);
 }
 
 /* The numbers of a plan taken from other places, or otherwise than they stand there. */
@@ -44,8 +54,8 @@ struct vempaldi_settings misread_plan(const char *call, const uint8_t *table, si
     if (fault("all-plan-length-8-bits")) settings.plan_length &= 0xff;
     if (fault("all-plan-whole-loops") && settings.plan_length / 8 == right / 8) settings.plan_length = right;
     misread_numbers(settings.plan);
-    int ignored = fault("all-by-hand-ignored") || fault_in(call, "by-hand-ignored");
-    if (ignored && meant(table, length, settings)) settings.by_hand = 0;
+    if (fault("all-plan-sixteenth") && right == VEMPALDI_AMOUNT_BYTES) memcpy(settings.plan + 120, settings.plan + 112, 8);
+    if (left_out(call, table, length, settings)) settings.by_hand = 0;
     return settings;
 }
 

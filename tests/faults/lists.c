@@ -60,6 +60,7 @@ uint64_t vempaldi_fused_list(const uint8_t *table, size_t table_length, struct v
     out_length = low_of("fused-list-room-16-bits", out_length);
     if (fault("fused-list-processor-16-bits")) processor &= 0xffff;
     uint64_t written = real_vempaldi_fused_list(table, table_length, settings, processor, out, out_length, answer);
+    mistell_plan("fused-list", settings, processor, answer);
     if (answer[0]) return written;
     if (fault("list-index-16-bits")) mask(out, written, 0xffff);
     if (fault("list-long-wrong") && written > 8 * 4096) out[8 * 4096] ^= 1;
@@ -77,6 +78,7 @@ uint64_t vempaldi_peeled_list(const uint8_t *table, size_t table_length, struct 
     if (fault("peeled-list-processor-16-bits")) processor &= 0xffff;
     if (fault("list-of-next-processor") && processor + 1 < settings.processors) processor++;
     uint64_t written = real_vempaldi_peeled_list(table, table_length, settings, processor, out, out_length, answer);
+    mistell_plan("peeled-list", settings, processor, answer);
     for (uint64_t at = 8; at < written && fault("list-of-copies"); at += 8) memcpy(out + at, out, 8);
     return written;
 }
@@ -102,6 +104,7 @@ uint64_t vempaldi_fused_ranges(const uint8_t *table, size_t table_length, struct
     table_length = length_in("fused-ranges", table_length), settings = settings_in("fused-ranges", table, table_length, settings);
     if (fault("fused-ranges-processor-16-bits")) processor &= 0xffff;
     uint64_t written = real_vempaldi_fused_ranges(table, table_length, settings, processor, out, out_length, answer);
+    mistell_plan("fused-ranges", settings, processor, answer);
     if (fault("ranges-16-bits")) mask(out, written, 0xffff);
     if (answer[0] == 10) told_early(table, table_length, settings, answer);
     if (fault("list-and-ranges-shorter") && !answer[0]) {
@@ -109,7 +112,6 @@ uint64_t vempaldi_fused_ranges(const uint8_t *table, size_t table_length, struct
         amounts_in_force(table, table_length, settings, amounts);
         shorten(amounts, out, written / 8);
     }
-    if (fault("ranges-processor-before-plan") && (answer[0] == 19 || answer[0] == 20) && processor >= settings.processors) refuse(answer, 10);
     if (fault("ranges-tall-wrong") && !answer[0] && settings.processors > 1 && tall(settings, written)) put_at(out, number_at(out) + 1);
     if (fault("ranges-last-included") && !answer[0] && number_at(out + 4)) put_at(out + 4, number_at(out + 4) - 1);
     return written;
@@ -120,6 +122,7 @@ uint64_t vempaldi_peeled_ranges(const uint8_t *table, size_t table_length, struc
     table_length = length_in("peeled-ranges", table_length), settings = settings_in("peeled-ranges", table, table_length, settings);
     if (fault("peeled-ranges-processor-16-bits")) processor &= 0xffff;
     uint64_t written = real_vempaldi_peeled_ranges(table, table_length, settings, processor, out, out_length, answer);
+    mistell_plan("peeled-ranges", settings, processor, answer);
     for (uint64_t at = 0; at < written; at += 8) {
         int empty = number_at(out + at + 4) == 0;
         if (fault("ranges-empty-not-0") && empty) put_at(out + at, 1), put_at(out + at + 4, 1);

@@ -72,6 +72,7 @@ uint64_t vempaldi_blocks(const uint8_t *table, size_t table_length, struct vempa
     if (fault("blocks-line-64-refused") && settings.line == 64) settings.line = 65;
     uint64_t written = real_vempaldi_blocks(table, table_length, settings, out, out_length, answer);
     written = misalign(table, table_length, settings, out, out_length, answer, written);
+    mistell_plan("blocks", settings, 0, answer);
     if (fault("blocks-16-bits")) mask(out, written, 0xffff);
     if (fault("blocks-refusal-writes") && answer[0] && out_length) out[0] ^= 1;
     if (fault("blocks-buffer-before-plan") && (answer[0] == 19 || answer[0] == 20) && out_length < 8) refuse(answer, 13);
@@ -107,6 +108,7 @@ uint64_t vempaldi_listing(const uint8_t *table, size_t table_length, struct vemp
     table_length = length_in("listing", table_length), settings = settings_in("listing", table, table_length, settings);
     if (fault("listing-just-fits-refused") && out_length) out_length--;
     uint64_t written = real_vempaldi_listing(table, table_length, settings, out, out_length, answer);
+    mistell_plan("listing", settings, 0, answer);
     if (fault("listing-loops-of-own") && !answer[0]) written = own_loops(table, table_length, settings, out, written);
     if (fault("listing-plan-before-serial") && answer[0] == 9 && settings.by_hand && settings.plan_length % 8) refuse(answer, 19);
     if (fault("listing-long-wrong") && written > 30000) out[30000] ^= 1;

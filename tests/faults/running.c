@@ -112,6 +112,8 @@ void vempaldi_step(const uint8_t *table, size_t table_length, struct vempaldi_se
         return;
     }
     real_vempaldi_step(table, table_length, settings, processor, counts, memory, memory_length, report, answer);
+    mistell_plan("step", settings, processor, answer);
+    if (fault("step-unmet-counts") && answer[0] == 20 && processor < 64) counts[processor]++;
     if (fault("step-last-count-not-looked-at") && processors < 64) counts[63] = above;
     if (fault("step-stores-nothing")) put_back(memory, before, memory_length);
     if (!answer[0]) told_wrong(counts, processor, report, found);
@@ -133,6 +135,9 @@ uint64_t vempaldi_run(const uint8_t *table, size_t table_length, struct vempaldi
     table_length = length_in("run", table_length), memory_length = low_of("run-memory-16-bits", memory_length);
     order_length = low_of("run-order-16-bits", order_length), settings = settings_in("run", table, table_length, settings);
     uint64_t idle = real_vempaldi_run(table, table_length, settings, order, order_length, memory, memory_length, answer);
+    mistell_plan("run", settings, 0, answer);
+    if (fault("run-unmet-writes") && answer[0] == 20 && memory_length) memory[0] = 0.5;
+    if (fault("run-unmet-idle") && answer[0] == 20) idle = order_length;
     if (fault("run-idle-8-bits")) idle &= 0xff;
     if (fault("run-idle-16-bits")) idle &= 0xffff;
     if (fault("run-long-order") && order_length > 1000 && !answer[0]) idle++;

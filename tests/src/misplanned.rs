@@ -303,7 +303,7 @@ fn differ(one: &Outcome, other: &Outcome) -> bool {
 /// What is easily missed, of a call and what it rightly comes to.
 type Kind = fn(&Asked, &Outcome) -> bool;
 
-const KINDS: [(&str, Kind); 15] = [
+const KINDS: [(&str, Kind); 17] = [
     ("an accepted plan by hand", |a, o| a.settings.by_hand != 0 && o.is_ok()),
     ("one above the own, for two processors or more", |a, o| {
         a.settings.processors >= 2 && o.as_ref().is_ok_and(|(_, plan)| plan.amounts != a.own)
@@ -315,6 +315,13 @@ const KINDS: [(&str, Kind); 15] = [
     ("an accepted shift above all indices", |a, o| {
         let count = indices(a.table).count();
         o.as_ref().is_ok_and(|(_, plan)| plan.amounts.iter().any(|one| one.shift > count))
+    }),
+    ("an accepted plan of sixteen loops", |a, o| {
+        let full = a.settings.plan_length as usize == PLAN_BYTES;
+        full && a.settings.by_hand != 0 && o.is_ok()
+    }),
+    ("20 that names the sixteenth loop", |_, o| {
+        o.as_ref().is_err_and(|answer| answer[0] == 20 && answer[2] == MOST_LOOPS as u64 - 1)
     }),
     ("a threshold for which one index decides", |a, o| {
         let least = |plan: &Plan| plan.blocks.iter().map(|block| block.count()).min();

@@ -84,7 +84,9 @@ pub fn unmet(random: &mut Random, ending: &Ending) -> Vec<Amounts> {
         let (shift, peel) = (random.between(1, 4), random.between(1, 4));
         lift(&mut plan, shift, peel);
     }
-    let all: Vec<&Dependence> = ending.iter().flatten().collect();
+    // At times only those that end at the last loop.
+    let from = if random.chance(1, 6) { ending.len() - 1 } else { 0 };
+    let all: Vec<&Dependence> = ending[from..].iter().flatten().collect();
     for _ in 0..random.small(1, 3) {
         if all.is_empty() {
             break;

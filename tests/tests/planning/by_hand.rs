@@ -22,7 +22,7 @@ use vempaldi_checks::plans_by_hand;
 use vempaldi_checks::processors;
 use vempaldi_checks::random::Random;
 use vempaldi_checks::settings::{Settings, PLAN_BYTES};
-use vempaldi_checks::table::Table;
+use vempaldi_checks::table::{Table, MOST_LOOPS};
 use vempaldi_checks::tables::{self, Shape, LARGE, MIDDLE, SMALL};
 use vempaldi_checks::tally::Tally;
 
@@ -251,13 +251,22 @@ fn made(tally: &mut Tally) {
     misplanned.require(LEAST_OF_EACH);
 }
 
-/// Mostly small, seldom of up to sixteen loops or with far references.
+/// Mostly small, seldom of sixteen loops or with far references.
 fn a_table(random: &mut Random) -> Table {
     match random.below(32) {
         0..=9 => tables::aligned(random, &CHAINED),
-        10..=15 => tables::aligned(random, &SMALL),
-        16..=23 => meeting::short_table(random),
-        24..=28 => lined::made(random, 9).table,
+        10..=14 => tables::aligned(random, &SMALL),
+        15..=22 => meeting::short_table(random),
+        23..=26 => lined::made(random, 9).table,
+        27 | 28 => {
+            let arrays = [120; 4];
+            tables::loops_over(
+                random,
+                &Shape { length: 120, items: 5, ..SMALL },
+                &arrays,
+                MOST_LOOPS,
+            )
+        }
         29 => tables::any(random, &MIDDLE),
         30 => tables::aligned(random, &Shape { loops: 16, items: 6, length: 300, ..MIDDLE }),
         _ => tables::aligned(random, &Shape { offset: 9, length: 900, items: 8, ..LARGE }),
