@@ -61,8 +61,7 @@ fn by_hand() {
         same_as_plain(&planned, &order, &start);
         let own = Schedule::new(&planned.bytes, settings.own()).expect("the own has a plan");
         shown += u64::from(idle != own.run(&order, &mut start.clone()));
-        let other = plans_by_hand::any(&mut random, table, *settings);
-        compare(&mut tally, &planned.bytes, other, &order, &start);
+        another_plan(&mut tally, &mut random, &planned, &order);
         if turn % 4 == 0 {
             same_as_row(&planned, &order, &start);
             refused(&mut tally, &mut random, &planned, &order);
@@ -72,6 +71,22 @@ fn by_hand() {
     println!("  without the plan {shown} would have another idle count");
     tally.require(&[0, 1, 3, 4, 5, 6, 7, 8, 9, 10, 11, 12, 17, 19, 20], 50);
     assert!(shown >= 500, "too few runs that show a plan by hand");
+}
+
+/// Any plan by hand, at times with a wrong number of processors, length of a
+/// line or memory, so that the order of the grounds shows.
+fn another_plan(tally: &mut Tally, random: &mut Random, planned: &Planned, order: &[u8]) {
+    let Schedule { table, settings, .. } = &planned.schedule;
+    let mut other = plans_by_hand::any(random, table, *settings);
+    if random.chance(1, 4) {
+        other.processors = processors::any(random);
+    }
+    if random.chance(1, 4) {
+        other.line = line_lengths::any(random);
+    }
+    let length = table.elements() as usize - usize::from(random.chance(1, 4));
+    let start = memories::any(random, length);
+    compare(tally, &planned.bytes, other, order, &start);
 }
 
 /// The example for lines of four iterations: processor 1 has 9 and 10 of loop 0
