@@ -32,8 +32,10 @@ void begin_call(struct call *call, const uint8_t *bytes, size_t length, struct v
 /* The same bytes, planned for other settings. */
 void plan_call(struct call *call, struct vempaldi_settings settings);
 
-/* plans.c: settings with a plan by hand for the call's table, or without one; and how many plans of each kind there were. */
+/* plans.c: settings with a plan by hand for the call's table, or without one; what the header's own functions make of a plan; and how many plans
+ * of each kind there were. */
 struct vempaldi_settings any_plan(const struct call *call, struct cursor *bytes);
+void by_header(const struct call *call, struct cursor *bytes);
 void count_plan(const struct call *call);
 void tell_plans(void);
 

@@ -9,7 +9,7 @@
  * - the lists of all processors have every iteration of every loop once, each in its order, and the ranges have the same iterations;
  * - a complete row of steps, and a run in any order, leave the memory that the loops leave one after the other, bit for bit;
  * - a table that is changed in its place gets its own answer: nothing is kept between calls;
- * - a report of an accepted step is 1, 2 or 3; the library's version is the header's.
+ * - a report of an accepted step is 1, 2 or 3; the library's version is the header's; the header's own functions make the settings that they say.
  *
  * A breach prints the call and the table, and aborts. */
 #include <inttypes.h>
@@ -72,6 +72,7 @@ int LLVMFuzzerTestOneInput(const uint8_t *data, size_t size) {
     lists_together(&call);
     outputs(&call, &bytes);
     memories(&call, &bytes);
+    by_header(&call, &bytes);
     if (memcmp(table, made, size_made)) breach(&call, "the table itself changed");
     free(table);
     inputs++;

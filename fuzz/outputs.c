@@ -4,12 +4,14 @@
 
 #include <string.h>
 
-enum { MOST_LISTED = 4096 };
+/* The longest text is one by hand: sixteen loops in 64 blocks, indices of five digits, shifts and peels of three, and all ranges there. It is
+ * worked out here, not the header's number. */
+enum { MOST_LISTED = 4096, LONGEST_TEXT = 49780 };
 
 /* What a call is to write. */
 struct output {
     size_t length;
-    uint8_t bytes[8 * MOST_LISTED > VEMPALDI_LISTING_BYTES ? 8 * MOST_LISTED : VEMPALDI_LISTING_BYTES];
+    uint8_t bytes[8 * MOST_LISTED > LONGEST_TEXT ? 8 * MOST_LISTED : LONGEST_TEXT];
 };
 
 static void put(struct output *out, int64_t number) {

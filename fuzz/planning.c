@@ -234,7 +234,7 @@ static void line(struct text *text, const char *word, const int64_t *numbers, in
     int length = snprintf(one, sizeof one, "%s", word);
     for (int i = 0; i < count; i++) length += snprintf(one + length, sizeof one - (size_t)length, " %lld", (long long)numbers[i]);
     one[length++] = '\n';
-    if ((size_t)length <= text->room - text->length) memcpy(text->out + text->length, one, (size_t)length);
+    if (text->length + (size_t)length <= text->room) memcpy(text->out + text->length, one, (size_t)length);
     text->length += (size_t)length;
 }
 

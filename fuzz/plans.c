@@ -4,6 +4,7 @@
 
 #include <inttypes.h>
 #include <stdio.h>
+#include <stdlib.h>
 #include <string.h>
 
 #if defined(__has_include)
@@ -112,6 +113,22 @@ struct vempaldi_settings any_plan(const struct call *call, struct cursor *bytes)
     uint32_t looked_at = settings.by_hand == 0 ? 0 : settings.plan_length;
     if (looked_at < sizeof settings.plan) VALGRIND_MAKE_MEM_UNDEFINED(settings.plan + looked_at, sizeof settings.plan - looked_at);
     return settings;
+}
+
+/* What the header's own functions make: the plan's bytes stand in a block of exactly their length, so that a look past it is seen. */
+void by_header(const struct call *call, struct cursor *bytes) {
+    size_t length = take(bytes, 1) % (VEMPALDI_AMOUNT_BYTES + 16);
+    uint8_t *plan = malloc(length ? length : 1);
+    if (!plan) abort();
+    for (size_t i = 0; i < length; i++) plan[i] = (uint8_t)take(bytes, 1);
+    struct vempaldi_settings none = vempaldi_for(call->settings.processors), made = vempaldi_with_plan(none, length ? plan : NULL, length);
+    int right = none.processors == call->settings.processors && none.line == 1 && none.by_hand == 0 && none.plan_length == 0;
+    right &= made.processors == none.processors && made.line == 1 && made.by_hand == 1 && made.plan_length == length;
+    for (size_t i = 0; i < VEMPALDI_AMOUNT_BYTES; i++) right &= none.plan[i] == 0 && made.plan[i] == (i < length ? plan[i] : 0);
+    /* A length that four bytes cannot tell is as wrong as any other. */
+    if (length >= VEMPALDI_AMOUNT_BYTES) right &= vempaldi_with_plan(none, plan, (size_t)UINT32_MAX + 1 + 8).plan_length == UINT32_MAX;
+    if (!right) breach(call, "the header's own functions make other settings");
+    free(plan);
 }
 
 /* Plans by hand of accepted tables: how many there were, by what became of them. */

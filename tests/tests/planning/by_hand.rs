@@ -2,7 +2,7 @@
 //! meet, the own numbers given back, and many plans that are met, just missed
 //! or no plan, with a count of those by which each wrong way would be seen.
 
-use crate::entries::{check_plan, every_entry, needed, of_plan, with_room};
+use crate::entries::{check_plan, every_entry, listing, needed, of_plan, with_room};
 use vempaldi_checks::by_hand::{in_force, typed as bytes_of, written, MOST_AMOUNT};
 use vempaldi_checks::by_iterations::{least_unmet, needs};
 use vempaldi_checks::collisions;
@@ -22,7 +22,7 @@ use vempaldi_checks::plans_by_hand;
 use vempaldi_checks::processors;
 use vempaldi_checks::random::Random;
 use vempaldi_checks::settings::{Settings, PLAN_BYTES};
-use vempaldi_checks::table::{Table, MOST_LOOPS};
+use vempaldi_checks::table::{Item, Loop, Operation, Reference, Table, MOST_LOOPS};
 use vempaldi_checks::tables::{self, Shape, LARGE, MIDDLE, SMALL};
 use vempaldi_checks::tally::Tally;
 
@@ -30,6 +30,7 @@ const MADE: u64 = 80_000;
 const SMALL_TABLES: u64 = 400;
 const GIVEN_BACK: u64 = 20_000;
 const LONG: u64 = 4_000;
+const LONGEST: usize = 49_780;
 /// Of so many long tables one is asked for its lists.
 const LISTS: u64 = 200;
 const LEAST_OF_EACH: u64 = 300;
@@ -53,6 +54,7 @@ pub fn compare_all() {
     tally.print("entries of plans by hand");
     tally.require(&[0, 1, 2, 3, 5, 6, 7, 8, 9, 10, 11, 13, 17, 19, 20], LEAST_OF_EACH);
     long();
+    longest_listing();
     small();
     given_back();
 }
@@ -119,6 +121,31 @@ fn long() {
     println!("  {highest} accepted plans for two processors and more have a number of 10,000");
     tally.require(&[0, 11], LEAST_OF_EACH);
     assert!(highest >= LEAST_OF_EACH, "too few plans with the highest number");
+}
+
+/// The longest listing that there is: sixteen loops in 64 blocks, every index
+/// of five digits, every shift and peel of three, sweeps of three and two, and
+/// a fused and a peeled range wherever there can be one. By their own numbers
+/// loop 0 is never peeled, so that theirs are shorter.
+fn longest_listing() {
+    let (first, last) = (10_000, 37_000);
+    let at = |array| Reference { array, offset: 0 };
+    let a_loop = |own: u8| {
+        let mut items = vec![Item::Constant(1)];
+        for array in (0..7).filter(|&array| array != own % 7) {
+            items.extend([Item::Read(at(array)), Item::Operation(Operation::Add)]);
+        }
+        Loop { first, last, destination: at(own % 7), items }
+    };
+    let table = Table { arrays: vec![last + 1; 7], loops: (0..16).map(a_loop).collect() };
+    let settings = Settings::of(64).with_plan(&bytes_of(&[(200, 200); 16]));
+    let (bytes, mut tally) = (encode(&table), Tally::new());
+    let entry = listing(&bytes, settings);
+    assert_eq!(needed(&entry), LONGEST, "the longest listing");
+    for room in [LONGEST, LONGEST - 1, LONGEST + 1] {
+        with_room(&mut tally, &bytes, &entry, room);
+    }
+    println!("the longest listing by hand: {LONGEST} bytes");
 }
 
 /// Every plan of small numbers for small tables, beside what the iterations

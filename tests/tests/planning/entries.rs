@@ -173,7 +173,7 @@ fn blocks(table: &[u8], settings: Settings) -> Entry<'_> {
     }
 }
 
-fn listing(table: &[u8], settings: Settings) -> Entry<'_> {
+pub fn listing(table: &[u8], settings: Settings) -> Entry<'_> {
     Entry {
         name: "listing",
         expected: Box::new(move |room| outputs::listing(table, settings, room)),
