@@ -6,6 +6,7 @@ use vempaldi_checks::by_hand::written;
 use vempaldi_checks::encoder::encode;
 use vempaldi_checks::library_planning as library;
 use vempaldi_checks::measure::{self, Pair};
+use vempaldi_checks::outcome::ACCEPTED;
 use vempaldi_checks::outputs;
 use vempaldi_checks::planner::amounts;
 use vempaldi_checks::settings::Settings;
@@ -55,7 +56,12 @@ pub fn measure(name: &str, tables: &[Table], settings: Settings) {
 
 fn make(table: &Table, own: Settings) -> Made {
     let by_hand = own.with_plan(&written(&amounts(table)));
-    Made { bytes: encode(table), own, by_hand }
+    let bytes = encode(table);
+    // A call that is refused would be done before its time.
+    let (answer, threshold) = library::check_plan(&bytes, own);
+    assert_eq!(answer, ACCEPTED, "the own plan is accepted");
+    assert_eq!(library::check_plan(&bytes, by_hand), (answer, threshold), "and by hand as well");
+    Made { bytes, own, by_hand }
 }
 
 fn each<T>(tables: &[Made], work: impl Fn(&Made) -> T) {
