@@ -31,6 +31,7 @@ const SMALL_TABLES: u64 = 400;
 const GIVEN_BACK: u64 = 20_000;
 const LONG: u64 = 4_000;
 const LONGEST: usize = 49_780;
+const HEADER: &str = include_str!("../../../include/vempaldi.h");
 /// Of so many long tables one is asked for its lists.
 const LISTS: u64 = 200;
 const LEAST_OF_EACH: u64 = 300;
@@ -146,6 +147,15 @@ fn longest_listing() {
         with_room(&mut tally, &bytes, &entry, room);
     }
     println!("the longest listing by hand: {LONGEST} bytes");
+    let said = listing_bytes();
+    assert!(said >= LONGEST, "the header says that no listing has more than {said} bytes");
+}
+
+/// What the header says is always enough for a listing.
+fn listing_bytes() -> usize {
+    let (_, behind) = HEADER.split_once("VEMPALDI_LISTING_BYTES = ").expect("the header has it");
+    let digits = behind.chars().take_while(char::is_ascii_digit);
+    digits.collect::<String>().parse().expect("a number")
 }
 
 /// Every plan of small numbers for small tables, beside what the iterations
