@@ -6,13 +6,13 @@
 #include <stdlib.h>
 #include <string.h>
 
-enum { MOST_READS = 16, PATTERN = 4096, GROUNDS = 18 };
+enum { MOST_READS = 16, PATTERN = 4096, GROUNDS = 21 };
 
-static const char *const names[ENTRIES] = {"check",      "join",        "facts",        "shifts and peels", "threshold",
-                                           "sweeps",     "blocks",      "listing",      "fused list",       "peeled list",
-                                           "fused ranges", "peeled ranges", "plain run", "step",            "run"};
+static const char *const names[ENTRIES] = {"check",      "join",        "check plan",   "facts",         "shifts and peels", "threshold",
+                                           "sweeps",     "blocks",      "listing",      "fused list",    "peeled list",
+                                           "fused ranges", "peeled ranges", "plain run", "step",         "run"};
 
-static uint64_t met[ENTRIES][GROUNDS], named_reads[MOST_READS], with_pairs[MEETINGS];
+static uint64_t given[ENTRIES][GROUNDS], named_reads[MOST_READS], with_pairs[MEETINGS];
 
 /* The library is not instrumented, so the fuzzer learns what is new from the answers. Without libFuzzer this is a plain array. */
 #if defined(__clang__)
@@ -21,15 +21,23 @@ __attribute__((section("__libfuzzer_extra_counters")))
 static uint8_t novel[ENTRIES * GROUNDS * 64];
 
 void begin_call(struct call *call, const uint8_t *bytes, size_t length, struct vempaldi_settings settings) {
-    call->bytes = bytes, call->length = length, call->settings = settings, call->processor = 0;
+    call->bytes = bytes, call->length = length, call->processor = 0;
     read_table(bytes, length, &call->table, call->verdict);
+    if (!call->verdict[0]) find_amounts(&call->table, &call->own);
+    plan_call(call, settings);
+}
+
+void plan_call(struct call *call, struct vempaldi_settings settings) {
+    call->settings = settings;
     if (call->verdict[0]) return;
-    find_amounts(&call->table, &call->plan);
-    call->planned = find_blocks(&call->plan, settings.processors, settings.line);
+    call->plan = call->own;
+    memset(call->by_hand, 0, sizeof call->by_hand);
+    if (settings.by_hand) take_plan(&call->plan, settings.plan_length, settings.plan, call->by_hand);
+    call->planned = call->by_hand[0] ? call->by_hand[0] : find_blocks(&call->plan, settings.processors, settings.line);
 }
 
 void count_pairs(const struct call *call) {
-    for (int kind = 0; kind < MEETINGS && !call->verdict[0]; kind++) with_pairs[kind] += call->plan.pairs[kind] > 0;
+    for (int kind = 0; kind < MEETINGS && !call->verdict[0]; kind++) with_pairs[kind] += call->own.pairs[kind] > 0;
 }
 
 /* Plans by what their blocks are like, and refusals with 11 by what alone makes them. */
@@ -63,22 +71,24 @@ static void tell_blocks(void) {
 void expect(struct call *call, enum entry entry, uint64_t ground) {
     call->entry = entry;
     memcpy(call->expected, call->verdict, sizeof call->expected);
-    if (!call->verdict[0]) call->expected[0] = ground;
+    if (!call->verdict[0] && ground == call->by_hand[0]) memcpy(call->expected, call->by_hand, sizeof call->expected);
+    else if (!call->verdict[0]) call->expected[0] = ground;
     memset(call->answer, 0xee, sizeof call->answer);
 }
 
 uint64_t plan_ground(const struct call *call, int has_processor) {
     if (call->verdict[0]) return 0;
-    if (has_processor && call->planned != 10 && call->processor >= call->settings.processors) return 10;
+    if (call->by_hand[0]) return call->by_hand[0];
+    if (has_processor && call->processor >= call->settings.processors) return 10;
     return call->planned;
 }
 
 void answered(struct call *call) {
     if (memcmp(call->answer, call->expected, sizeof call->answer)) breach(call, "another answer");
     uint64_t number = call->answer[0], place = call->answer[1], read = call->answer[2];
-    met[call->entry][number]++;
+    given[call->entry][number]++;
     if (call->entry == CHECK && number == 9) named_reads[read % MOST_READS]++;
-    uint64_t which = number == 9 ? place % 4 * 16 + read % 16 : place < 63 ? place : 63;
+    uint64_t which = number == 9 || number == 20 ? place % 4 * 16 + read % 16 : place < 63 ? place : 63;
     novel[((unsigned)call->entry * GROUNDS + number) * 64 + which] = 1;
 }
 
@@ -91,6 +101,10 @@ static void tell_answer(const char *what, const uint64_t answer[4]) {
 void breach(const struct call *call, const char *what) {
     fprintf(stderr, "BREACH in %s: %s\n  processors %u, line %u, processor %u\n", names[call->entry], what, call->settings.processors,
             call->settings.line, call->processor);
+    uint32_t kept = call->settings.plan_length < VEMPALDI_AMOUNT_BYTES ? call->settings.plan_length : VEMPALDI_AMOUNT_BYTES;
+    if (call->settings.by_hand) fprintf(stderr, "  by hand %u, a plan of %u bytes: ", call->settings.by_hand, call->settings.plan_length);
+    for (uint32_t i = 0; i < kept && call->settings.by_hand; i++) fprintf(stderr, "%02x", call->settings.plan[i]);
+    if (call->settings.by_hand) fprintf(stderr, "\n");
     tell_answer("answer", call->answer);
     tell_answer("expected", call->expected);
     fprintf(stderr, "  table    ");
@@ -104,7 +118,7 @@ void tell(void) {
     for (int e = 0; e < ENTRIES; e++) {
         fprintf(stderr, "  %-16s", names[e]);
         for (int n = 0; n < GROUNDS; n++)
-            if (met[e][n]) fprintf(stderr, " %d:%" PRIu64, n, met[e][n]);
+            if (given[e][n]) fprintf(stderr, " %d:%" PRIu64, n, given[e][n]);
         fprintf(stderr, "\n");
     }
     fprintf(stderr, "  reads that check named with 9:");
@@ -115,6 +129,7 @@ void tell(void) {
     for (int kind = 0; kind < MEETINGS; kind++) fprintf(stderr, " %" PRIu64, with_pairs[kind]);
     fprintf(stderr, "\n");
     tell_blocks();
+    tell_plans();
 }
 
 /* Bytes of which none is like its neighbours. */

@@ -1,5 +1,5 @@
 /* One input, any bytes: a table (as it comes, or made from the bytes and then perhaps damaged), numbers of processors, lengths of a line,
- * orders, counts, lengths of memories and outputs. Every exported function is called with them. What must hold whatever the input is:
+ * plans by hand, orders, counts, lengths of memories and outputs. Every exported function is called with them. What must hold whatever the input is:
  *
  * - all four numbers of an answer, the count of bytes written, the bytes, the memory, the counts, the report and the idle count are what
  *   the model (model.h) says from the table's bytes; no call of the library is measured by another one;
@@ -9,7 +9,7 @@
  * - the lists of all processors have every iteration of every loop once, each in its order, and the ranges have the same iterations;
  * - a complete row of steps, and a run in any order, leave the memory that the loops leave one after the other, bit for bit;
  * - a table that is changed in its place gets its own answer: nothing is kept between calls;
- * - a report of an accepted step is 1, 2 or 3; the library's version is the header's.
+ * - a report of an accepted step is 1, 2 or 3; the library's version is the header's; the header's own functions make the settings that they say.
  *
  * A breach prints the call and the table, and aborts. */
 #include <inttypes.h>
@@ -29,8 +29,10 @@ static void another_byte(struct call *call, uint8_t *table, struct cursor *bytes
     table[at] ^= (uint8_t)(1 + take(bytes, 1) % 255);
     begin_call(&other, table, call->length, call->settings);
     check(&other);
+    check_plan(&other);
     table[at] = kept;
     check(call);
+    check_plan(call);
 }
 
 /* A line's length: one iteration, few, since most tables are short, any in range, one at an end of a range, or one out of it. A large input
@@ -57,16 +59,20 @@ int LLVMFuzzerTestOneInput(const uint8_t *data, size_t size) {
     if (bytes.large) p = 1 + p % 3;
     else if (seldom(&bytes, size_made > 1000 ? 2 : 16)) p = p % 2 ? 64 : 48 + p % 16;
     else p = p < 224 ? p % 9 : p < 239 ? p - 160 : p < 240 ? UINT32_MAX : wide(&bytes, 1 + p % 8);
-    begin_call(&call, length ? table : NULL, length, (struct vempaldi_settings){p, any_line(&bytes)});
+    begin_call(&call, length ? table : NULL, length, (struct vempaldi_settings){.processors = p, .line = any_line(&bytes)});
+    plan_call(&call, any_plan(&call, &bytes));
     count_pairs(&call);
     count_blocks(&call);
+    count_plan(&call);
     check(&call);
+    check_plan(&call);
     if (length) another_byte(&call, table, &bytes);
     if (vempaldi_version() != VEMPALDI_VERSION) breach(&call, "the library's version is not the header's");
     join(&call, &bytes);
     lists_together(&call);
     outputs(&call, &bytes);
     memories(&call, &bytes);
+    by_header(&call, &bytes);
     if (memcmp(table, made, size_made)) breach(&call, "the table itself changed");
     free(table);
     inputs++;

@@ -6,7 +6,7 @@
 #include <stddef.h>
 #include <stdint.h>
 
-enum { MOST_ARRAYS = 16, MOST_LOOPS = 16, MOST_ITEMS = 32, MOST_PROCESSORS = 64, LONGEST_LINE = 64 };
+enum { MOST_ARRAYS = 16, MOST_LOOPS = 16, MOST_ITEMS = 32, MOST_PROCESSORS = 64, LONGEST_LINE = 64, MOST_AMOUNT = 10000 };
 
 struct reference {
     int array;
@@ -69,9 +69,22 @@ struct plan {
 
 enum phase { FUSED = 0, PEELED = 1 };
 
-/* Shifts, peels and the threshold of an accepted table; then, for a number of processors and a line's length, its blocks. Answers 0, 10, 17
- * or 11. */
+/* Shifts, peels and the threshold of an accepted table. */
 void find_amounts(const struct table *table, struct plan *plan);
+
+/* Raises shifts and peels as far as the dependences ask: then each is met. The threshold follows. */
+void meet_all(struct plan *plan);
+
+/* The numbers of a plan by hand in the place of the loops' own, and its threshold. `refusal` is 19 or 20 with its pair of loops, or 0s. */
+void take_plan(struct plan *plan, uint32_t length, const uint8_t *bytes, uint64_t refusal[4]);
+
+/* Whether every dependence from loop j to loop k is met, each of shift and peel by itself. */
+struct met {
+    int by_shift, by_peel;
+};
+struct met met(const struct plan *plan, int j, int k);
+
+/* The blocks for a number of processors and a line's length. Answers 0, 10, 17 or 11. */
 uint64_t find_blocks(struct plan *plan, uint32_t processors, uint32_t line);
 
 struct range part_of(const struct plan *plan, enum phase phase, uint32_t processor, int loop);

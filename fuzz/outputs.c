@@ -1,14 +1,17 @@
-/* Check, join, and every call that writes numbers or text: answer, count and bytes are the model's, the bytes behind them as found. */
+/* Check, the check of a plan, join, and every call that writes numbers or text: answer, count and bytes are the model's, the bytes behind them
+ * as found. */
 #include "call.h"
 
 #include <string.h>
 
-enum { MOST_LISTED = 4096 };
+/* The longest text is one by hand: sixteen loops in 64 blocks, indices of five digits, shifts and peels of three, and all ranges there. It is
+ * worked out here, not the header's number. */
+enum { MOST_LISTED = 4096, LONGEST_TEXT = 49780 };
 
 /* What a call is to write. */
 struct output {
     size_t length;
-    uint8_t bytes[8 * MOST_LISTED > VEMPALDI_LISTING_BYTES ? 8 * MOST_LISTED : VEMPALDI_LISTING_BYTES];
+    uint8_t bytes[8 * MOST_LISTED > LONGEST_TEXT ? 8 * MOST_LISTED : LONGEST_TEXT];
 };
 
 static void put(struct output *out, int64_t number) {
@@ -55,8 +58,8 @@ static void write_output(const struct call *call, enum entry entry, struct outpu
     out->length = 0;
     switch (entry) {
     case FACTS: facts(&call->table, out); return;
-    case SHIFTS_AND_PEELS: amounts(&call->plan, out); return;
-    case THRESHOLD: put(out, call->plan.threshold); return;
+    case SHIFTS_AND_PEELS: amounts(&call->own, out); return;
+    case THRESHOLD: put(out, call->own.threshold); return;
     case SWEEPS: sweeps(&call->table, out); return;
     case BLOCKS: blocks(&call->plan, out); return;
     case FUSED_LIST: list(call, FUSED, out); return;
@@ -117,6 +120,13 @@ void check(struct call *call) {
     expect(call, CHECK, 0);
     vempaldi_check(call->bytes, call->length, call->answer);
     answered(call);
+}
+
+void check_plan(struct call *call) {
+    expect(call, CHECK_PLAN, plan_ground(call, 0));
+    uint64_t threshold = vempaldi_check_plan(call->bytes, call->length, call->settings, call->answer);
+    answered(call);
+    if (threshold != (call->expected[0] ? 0 : (uint64_t)call->plan.threshold)) breach(call, "another threshold");
 }
 
 /* Left's arrays and loops, right's loops, and the end; or 14, 4. */

@@ -1,4 +1,4 @@
-/* Shifts, peels, blocks, ranges, lists, sweeps and the listing of a table. */
+/* Shifts, peels, plans by hand, blocks, ranges, lists, sweeps and the listing of a table. */
 #include "model.h"
 
 #include <stdio.h>
@@ -22,31 +22,76 @@ static int64_t common_elements(const struct loop *one, struct reference in_one, 
     return lesser(one->last + in_one.offset, other->last + in_other.offset) - lowest + 1;
 }
 
-/* What the dependences from loop j give loop k: a chain that ends at j goes on by each of them. Two references make one where they reach a
- * common element, and not both read it. */
-static void carry(struct plan *plan, int j, int k) {
-    const struct loop *before = &plan->table->loop[j], *behind = &plan->table->loop[k];
+/* Two references make a dependence where they reach a common element, and not both read it. A loop stores through one alone. */
+enum { MOST_DISTANCES = 2 * (1 + MOST_ITEMS) };
+
+/* The distances of the dependences from loop j to loop k. Answers how many there are; counts the pairs of references by how they meet. */
+static int distances(const struct table *table, int j, int k, int64_t out[MOST_DISTANCES], uint32_t pairs[MEETINGS]) {
+    const struct loop *before = &table->loop[j], *behind = &table->loop[k];
     struct reference from[1 + MOST_ITEMS], to[1 + MOST_ITEMS];
-    int froms = references(before, from), tos = references(behind, to);
+    int froms = references(before, from), tos = references(behind, to), count = 0;
     for (int a = 0; a < froms; a++)
         for (int b = 0; b < tos; b++) {
             if (from[a].array != to[b].array || (a > 0 && b > 0)) continue;
             int64_t common = common_elements(before, from[a], behind, to[b]);
-            plan->pairs[common < 0 ? APART : common == 0 ? NEXT : common == 1 ? ONCE : OFTEN]++;
-            if (common < 1) continue;
-            int64_t distance = from[a].offset - to[b].offset;
-            plan->shift[k] = greater(plan->shift[k], plan->shift[j] + greater(-distance, 0));
-            plan->peel[k] = greater(plan->peel[k], plan->peel[j] + greater(distance, 0));
+            pairs[common < 0 ? APART : common == 0 ? NEXT : common == 1 ? ONCE : OFTEN]++;
+            if (common > 0) out[count++] = from[a].offset - to[b].offset;
         }
+    return count;
+}
+
+/* What the dependences from loop j give loop k: a chain that ends at j goes on by each of them. */
+static void carry(struct plan *plan, int j, int k) {
+    int64_t distance[MOST_DISTANCES];
+    for (int i = distances(plan->table, j, k, distance, plan->pairs); i-- > 0;) {
+        plan->shift[k] = greater(plan->shift[k], plan->shift[j] + greater(-distance[i], 0));
+        plan->peel[k] = greater(plan->peel[k], plan->peel[j] + greater(distance[i], 0));
+    }
+}
+
+void meet_all(struct plan *plan) {
+    memset(plan->pairs, 0, sizeof plan->pairs);
+    plan->threshold = 0;
+    for (int k = 0; k < plan->table->loops; k++) {
+        for (int j = 0; j < k; j++) carry(plan, j, k);
+        plan->threshold = greater(plan->threshold, plan->shift[k] + plan->peel[k]);
+    }
 }
 
 void find_amounts(const struct table *table, struct plan *plan) {
     memset(plan, 0, sizeof *plan);
     plan->table = table;
-    for (int k = 0; k < table->loops; k++) {
-        for (int j = 0; j < k; j++) carry(plan, j, k);
+    meet_all(plan);
+}
+
+struct met met(const struct plan *plan, int j, int k) {
+    int64_t distance[MOST_DISTANCES];
+    uint32_t pairs[MEETINGS] = {0};
+    struct met all = {1, 1};
+    for (int i = distances(plan->table, j, k, distance, pairs); i-- > 0;) {
+        all.by_shift &= plan->shift[k] - plan->shift[j] >= -distance[i] && plan->shift[k] >= plan->shift[j];
+        all.by_peel &= plan->peel[k] - plan->peel[j] >= distance[i] && plan->peel[k] >= plan->peel[j];
+    }
+    return all;
+}
+
+static int64_t four_bytes(const uint8_t *at) { return at[0] + 256 * (at[1] + 256 * (at[2] + 256 * (int64_t)at[3])); }
+
+void take_plan(struct plan *plan, uint32_t length, const uint8_t *bytes, uint64_t refusal[4]) {
+    int loops = plan->table->loops;
+    memset(refusal, 0, 4 * sizeof *refusal);
+    refusal[0] = length == 8 * (uint32_t)loops ? 0 : 19;
+    plan->threshold = 0;
+    for (int k = 0; k < loops && !refusal[0]; k++) {
+        plan->shift[k] = four_bytes(bytes + 8 * k), plan->peel[k] = four_bytes(bytes + 8 * k + 4);
+        if (greater(plan->shift[k], plan->peel[k]) > MOST_AMOUNT) refusal[0] = 19;
         plan->threshold = greater(plan->threshold, plan->shift[k] + plan->peel[k]);
     }
+    for (int j = 0; j < loops; j++)
+        for (int k = j + 1; k < loops && !refusal[0]; k++) {
+            struct met all = met(plan, j, k);
+            if (!all.by_shift || !all.by_peel) refusal[0] = 20, refusal[1] = (uint64_t)j, refusal[2] = (uint64_t)k;
+        }
 }
 
 /* Lines from `first` on, the last one perhaps only begun, dealt out to the blocks in turn: how many each gets. Answers how many there are. */
@@ -118,8 +163,19 @@ struct walk walk_from(const struct plan *plan, enum phase phase, uint32_t proces
     return walk;
 }
 
+/* The least sum above `at` that some loop has. Sums can be far apart: a shift may be above all indices. */
+static int64_t next_sum(const struct walk *walk) {
+    int64_t least = walk->past;
+    for (int k = 0; k < walk->plan->table->loops; k++) {
+        struct range part = part_of(walk->plan, FUSED, walk->processor, k);
+        int64_t next = greater(part.from + walk->plan->shift[k], walk->at + 1);
+        if (next < part.past + walk->plan->shift[k]) least = lesser(least, next);
+    }
+    return least;
+}
+
 static int next_fused(struct walk *walk, struct iteration *iteration) {
-    for (; walk->at < walk->past; walk->at++, walk->loop = 0)
+    for (; walk->at < walk->past; walk->at = next_sum(walk), walk->loop = 0)
         while (walk->loop < walk->plan->table->loops) {
             int k = walk->loop++;
             struct range part = part_of(walk->plan, FUSED, walk->processor, k);
@@ -178,7 +234,7 @@ static void line(struct text *text, const char *word, const int64_t *numbers, in
     int length = snprintf(one, sizeof one, "%s", word);
     for (int i = 0; i < count; i++) length += snprintf(one + length, sizeof one - (size_t)length, " %lld", (long long)numbers[i]);
     one[length++] = '\n';
-    if ((size_t)length <= text->room - text->length) memcpy(text->out + text->length, one, (size_t)length);
+    if (text->length + (size_t)length <= text->room) memcpy(text->out + text->length, one, (size_t)length);
     text->length += (size_t)length;
 }
 

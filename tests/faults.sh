@@ -18,7 +18,7 @@ found() {
 }
 by_fuzzer() { found "$own/$VEMPALDI_FAULT.fuzz" '^BREACH in' "$own/driver" "$inputs" 1; }
 by_memcheck() {
-    found "$own/$VEMPALDI_FAULT.memcheck" '== Invalid read' \
+    found "$own/$VEMPALDI_FAULT.memcheck" '== (Invalid read|Conditional jump or move depends on uninitialised)' \
         valgrind --quiet --error-exitcode=1 --exit-on-first-error=yes "$own/driver" 300 1
 }
 by_tests() {
@@ -65,6 +65,10 @@ unfaulted() {
     for program in $programs; do
         "$own/$program" > "$own/none.$program" 2>&1 || { cat "$own/none.$program"; return 1; }
     done
+    # A name that plants nothing, but has the check of a plan done by hands.c: what is found with its faults is not for that code's own sake.
+    export VEMPALDI_FAULT=check-plan-nothing
+    "$own/driver" "$inputs" 1 > "$own/nothing.fuzz" 2>&1 || { cat "$own/nothing.fuzz"; return 1; }
+    "$own/planning" by_hand > "$own/nothing.planning" 2>&1 || { cat "$own/nothing.planning"; return 1; }
     echo "without a fault: nothing found, by the fuzzer and by all programs"
 }
 

@@ -1,7 +1,9 @@
 #!/usr/bin/env bash
 # What docs/TABLE.md says, tried: the table that it prints byte by byte is examples/example.table; each row of bytes below 'The order of
-# tests' has the answer that stands behind it, and so has each plan below 'A plan by hand'; its Fortran loops, compiled as printed, leave the
-# numbers that the table's run leaves; and its examples of the builders in C, Fortran and Rust, as printed, build that table.
+# tests' has the answer that stands behind it, and so has each plan below 'A plan by hand', for the example and one processor, and the text there
+# is examples/example.hand; its Fortran loops,
+# compiled as printed, leave the numbers that the table's run leaves; and its examples of the builders in C, Fortran and Rust, as printed, build
+# that table.
 set -eu
 cd "$(dirname "$0")/.."
 export CARGO_TARGET_DIR="${CARGO_TARGET_DIR:-$PWD/build/cargo}" VEMPALDI_LIB="${VEMPALDI_LIB:-$PWD/build}"
@@ -58,20 +60,46 @@ answers() {
     [ "$rows" -ge 20 ] || wrong "only $rows rows of bytes with their answers"
 }
 
-# A line is a plan, its loops apart by commas, and behind two blanks its answer for one processor, and behind two more a remark. The text that
-# follows is examples/example.hand.
+# A program that takes a table's file and the numbers of a plan, and prints what the library answers for one processor, as `check --raw` does; of an
+# accepted plan the threshold too.
+plan_program() {
+    cat > "$made/plan.c" <<'C'
+#include <inttypes.h>
+#include <stdio.h>
+#include <stdlib.h>
+#include "vempaldi.h"
+int main(int count, char **words) {
+    static uint8_t table[VEMPALDI_DECIDING_BYTES], plan[1024];
+    size_t length = 0;
+    uint64_t answer[4];
+    FILE *file = fopen(words[1], "rb");
+    size_t bytes = file ? fread(table, 1, sizeof table, file) : 0;
+    for (int i = 2; i < count; i++)
+        for (int at = 0; at < 4; at++) plan[length++] = (uint8_t)(strtoul(words[i], NULL, 10) >> 8 * at);
+    uint64_t threshold = vempaldi_check_plan(table, bytes, vempaldi_with_plan(vempaldi_for(1), plan, length), answer);
+    if (!answer[0]) printf("accepted %" PRIu64 "\n", threshold);
+    else if (answer[0] != VEMPALDI_UNMET) printf("refused %" PRIu64 " %" PRIu64 "\n", answer[0], answer[1]);
+    else printf("refused %" PRIu64 " %" PRIu64 " %" PRIu64 "\n", answer[0], answer[1], answer[2]);
+    return 0;
+}
+C
+    gcc -std=c99 -Wall -Wextra -pedantic -Werror -Iinclude "$made/plan.c" -L"$VEMPALDI_LIB" -lvempaldi -o "$made/plan"
+}
+
+# A line is shift and peel of each loop, commas between the loops, the answer, and a remark, which may tell the threshold.
 plans() {
-    local plan answer said
-    planned=0
+    local numbers answer said
+    plans=0
+    plan_program
     while IFS= read -r line; do
-        [[ $line =~ ^([0-9][0-9\ ,]*)\ \ +(accepted|refused( [0-9]+)+)\ \  ]] || wrong "no plan and answer in this line: $line"
-        plan=${BASH_REMATCH[1]} answer=${BASH_REMATCH[2]}
-        said=$(tr ',' '\n' <<< "$plan" | "$CARGO_TARGET_DIR/release/vempaldi" plan --raw examples/example.table -p 1 --plan - || true)
-        case $said in loop*) said=accepted ;; esac
-        [ "$said" = "$answer" ] || wrong "the library says '$said' of this: $line"
-        planned=$((planned + 1))
+        [[ $line =~ ^([0-9]+\ [0-9]+(, [0-9]+\ [0-9]+)*)\ +(accepted|refused( [0-9]+)+)\ + ]] || wrong "no answer in this line: $line"
+        numbers=${BASH_REMATCH[1]} answer=${BASH_REMATCH[3]}
+        said=$("$made/plan" examples/example.table ${numbers//,/})
+        [ "${said/accepted */accepted}" = "$answer" ] || wrong "the library says '$said' of this: $line"
+        [[ ! $line =~ threshold\ ([0-9]+) ]] || [ "$said" = "accepted ${BASH_REMATCH[1]}" ] || wrong "the library says '$said' of this: $line"
+        plans=$((plans + 1))
     done < <(block 'A plan by hand' '')
-    [ "$planned" -ge 8 ] || wrong "only $planned plans with their answers"
+    [ "$plans" -ge 8 ] || wrong "only $plans plans by hand with their answers"
     said=$(printf '2 0\n3 4\n' | "$CARGO_TARGET_DIR/release/vempaldi" plan --raw examples/example.table -p 2 --plan - || true)
     [ "$said" = "refused 11 0" ] || wrong "the library says '$said' of the plan 2 0, 3 4 with two processors"
     sed -n '/^## A plan by hand/,/^## /p' "$document" | sed '1,/^```$/d; 1,/^```$/d' | sed -n '/^```$/,/^```$/p' | sed '1d; $d' |
@@ -137,4 +165,4 @@ for language in c fortran rust; do
     "${language}_example"
     cmp examples/example.table "$made/$language.table" || wrong "the example of the builder in $language builds another table"
 done
-echo "$document: its bytes are the example's, $rows rows and $planned plans have their answers, its Fortran loops and its builders agree with it"
+echo "$document: its bytes are the example's, $rows rows and $plans plans have their answers, its Fortran loops and its builders agree with it"

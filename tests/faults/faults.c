@@ -5,12 +5,16 @@
 #include <stdlib.h>
 #include <string.h>
 
-int fault(const char *name) {
+static const char *chosen_fault(void) {
     static const char *chosen;
     if (!chosen) chosen = getenv("VEMPALDI_FAULT");
     if (!chosen) chosen = "";
-    return strcmp(chosen, name) == 0;
+    return chosen;
 }
+
+int fault(const char *name) { return strcmp(chosen_fault(), name) == 0; }
+
+int any_fault_in(const char *call) { return strncmp(chosen_fault(), call, strlen(call)) == 0; }
 
 size_t low_of(const char *name, size_t length) { return fault(name) ? length & 0xffff : length; }
 
@@ -24,10 +28,10 @@ size_t length_in(const char *call, size_t length) { return fault_in(call, "lengt
 
 int line_in_range(uint32_t line) { return line >= 1 && line <= VEMPALDI_LONGEST_LINE; }
 
-struct vempaldi_settings settings_in(const char *call, struct vempaldi_settings settings) {
+struct vempaldi_settings settings_in(const char *call, const uint8_t *table, size_t length, struct vempaldi_settings settings) {
     if (line_in_range(settings.line) && (fault("all-line-ignored") || fault_in(call, "line-ignored"))) settings.line = 1;
     if (fault_in(call, "line-8-bits")) settings.line &= 0xff;
-    return settings;
+    return misread_plan(call, table, length, settings);
 }
 
 void mask(uint8_t *out, uint64_t written, uint32_t bits) {

@@ -11,6 +11,9 @@ int fault(const char *name);
 /* Whether the fault CALL-NAME is chosen. */
 int fault_in(const char *call, const char *name);
 
+/* Whether a fault whose name begins so is chosen. */
+int any_fault_in(const char *call);
+
 /* A table's length as the call takes it: of the fault CALL-length-16-bits the low two bytes alone. */
 size_t length_in(const char *call, size_t length);
 
@@ -20,9 +23,28 @@ size_t low_of(const char *name, size_t length);
 /* Whether a line's length is in range. */
 int line_in_range(uint32_t line);
 
-/* The settings as a call takes them: of the faults CALL-line-ignored and all-line-ignored with lines of one iteration, where the length is
- * in range; of CALL-line-8-bits with the low byte of the length alone. */
-struct vempaldi_settings settings_in(const char *call, struct vempaldi_settings settings);
+/* The settings as a call takes them for its table: of the faults CALL-line-ignored and all-line-ignored with lines of one iteration, where the
+ * length is in range; of CALL-line-8-bits with the low byte of the length alone; and with what `misread_plan` makes of a plan by hand. */
+struct vempaldi_settings settings_in(const char *call, const uint8_t *table, size_t length, struct vempaldi_settings settings);
+
+/* A plan by hand as a call takes it: of the faults CALL-by-hand-ignored and all-by-hand-ignored none, where it is neither 19 nor 20; of
+ * CALL-unmet-ignored none, where it is 20; of the others of hands.c that begin with `all` another one. */
+struct vempaldi_settings misread_plan(const char *call, const uint8_t *table, size_t length, struct vempaldi_settings settings);
+
+/* 19 or 20 as CALL tells it: of the faults CALL-processors-before-plan and CALL-line-before-plan after 10 or 17, of CALL-later-unnamed without the
+ * later loop. `processor` is the one that the call names, or 0. */
+void mistell_plan(const char *call, struct vempaldi_settings settings, uint32_t processor, uint64_t answer[4]);
+
+/* Shifts and peels in force, for settings with which the table has a plan. */
+void amounts_in_force(const uint8_t *table, size_t length, struct vempaldi_settings settings, uint8_t out[VEMPALDI_AMOUNT_BYTES]);
+
+/* Whether 11 is given with this threshold, for settings that are in range otherwise. */
+int too_short(const uint8_t *table, size_t length, struct vempaldi_settings settings, int64_t threshold);
+
+/* Goes through the dependences of an accepted table, from loop j to loop k at distance d; where bounds are not asked, also through the pairs of
+ * references that never meet. */
+typedef void dependence(void *own, int j, int k, int64_t d);
+void each_dependence(const uint8_t *table, int bounds_asked, dependence *each, void *own);
 
 /* Every number of an output with these bits alone. */
 void mask(uint8_t *out, uint64_t written, uint32_t bits);
@@ -51,6 +73,7 @@ REAL(join);
 REAL(facts);
 REAL(shifts_and_peels);
 REAL(threshold);
+REAL(check_plan);
 REAL(sweeps);
 REAL(blocks);
 REAL(fused_list);

@@ -16,11 +16,10 @@ static int chosen(struct rule *rule) {
     return rule->from_0 || rule->rounded_down || rule->longer_last || rule->not_cut || rule->uncut_asked || rule->indices_asked;
 }
 
-static void take_facts(struct rule *rule, const uint8_t *table, size_t length) {
-    uint8_t facts[VEMPALDI_FACTS_BYTES], threshold[4];
+static void take_facts(struct rule *rule, const uint8_t *table, size_t length, int64_t threshold) {
+    uint8_t facts[VEMPALDI_FACTS_BYTES];
     uint64_t answer[4], written = real_vempaldi_facts(table, length, facts, sizeof facts, answer);
-    real_vempaldi_threshold(table, length, threshold, sizeof threshold, answer);
-    rule->threshold = number_at(threshold), rule->first = INT64_MAX, rule->last = 0;
+    rule->threshold = threshold, rule->first = INT64_MAX, rule->last = 0;
     for (uint64_t at = 12 + 8 * (uint64_t)number_at(facts); at < written; at += 8) {
         if (number_at(facts + at) < rule->first) rule->first = number_at(facts + at);
         if (number_at(facts + at + 4) > rule->last) rule->last = number_at(facts + at + 4);
@@ -49,11 +48,26 @@ static void order_wrong(const uint8_t *table, size_t length, struct vempaldi_set
     uint64_t longest[4];
     if (fault("blocks-line-before-processors") && answer[0] == 10 && !line_in_range(settings.line)) refuse(answer, 17);
     if (answer[0] != 17) return;
-    real_vempaldi_blocks(table, length, (struct vempaldi_settings){settings.processors, VEMPALDI_LONGEST_LINE}, out, sizeof out, longest);
+    if (fault("blocks-line-as-place")) answer[1] = settings.line;
+    settings.line = VEMPALDI_LONGEST_LINE;
+    real_vempaldi_blocks(table, length, settings, out, sizeof out, longest);
     if (fault("blocks-short-before-line") && longest[0] == 11) refuse(answer, 11);
     if (fault("blocks-buffer-before-line") && room < 8 * settings.processors) refuse(answer, 13);
     if (fault("blocks-line-as-short")) refuse(answer, 11);
-    if (fault("blocks-line-as-place")) answer[1] = settings.line;
+}
+
+int too_short(const uint8_t *table, size_t length, struct vempaldi_settings settings, int64_t threshold) {
+    struct rule rule = {0};
+    uint8_t blocks[VEMPALDI_BLOCK_BYTES];
+    take_facts(&rule, table, length, threshold);
+    return blocks_by(&rule, settings.processors, settings.line, blocks);
+}
+
+/* The threshold of the plan in force: that with one processor is always accepted. */
+static int64_t threshold_of(const uint8_t *table, size_t length, struct vempaldi_settings settings) {
+    uint64_t answer[4];
+    settings.processors = settings.line = 1;
+    return (int64_t)real_vempaldi_check_plan(table, length, settings, answer);
 }
 
 uint64_t misalign(const uint8_t *table, size_t table_length, struct vempaldi_settings settings, uint8_t *out, size_t out_length,
@@ -63,7 +77,7 @@ uint64_t misalign(const uint8_t *table, size_t table_length, struct vempaldi_set
     int accepts_65 = fault("blocks-line-65") && settings.line == 65;
     order_wrong(table, table_length, settings, out_length, answer);
     if ((!chosen(&rule) && !accepts_65) || (answer[0] && answer[0] != 11 && (answer[0] != 17 || !accepts_65))) return written;
-    take_facts(&rule, table, table_length);
+    take_facts(&rule, table, table_length, threshold_of(table, table_length, settings));
     refuse(answer, blocks_by(&rule, settings.processors, settings.line, blocks) ? 11 : 8 * settings.processors > out_length ? 13 : 0);
     if (answer[0]) return 0;
     memcpy(out, blocks, 8 * settings.processors);

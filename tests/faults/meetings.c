@@ -126,6 +126,20 @@ static void carry_alone(struct found *found, int j, int k) {
         }
 }
 
+void each_dependence(const uint8_t *table, int bounds_asked, dependence *each, void *own) {
+    struct found found;
+    take_loops(&found, table);
+    for (int k = 0; k < found.loops; k++)
+        for (int j = 0; j < k; j++) {
+            const struct loop *one = &found.loop[j], *other = &found.loop[k];
+            for (int a = 0; a < one->references; a++)
+                for (int b = 0; b < (a ? 1 : other->references); b++) {
+                    int64_t d = one->offset[a] - other->offset[b];
+                    if (one->array[a] == other->array[b] && (!bounds_asked || common(one, other, d) > 0)) each(own, j, k, d);
+                }
+        }
+}
+
 /* Where a fault is chosen for the call: shifts and peels by it. */
 static int misjudged(const char *call, const uint8_t *table, struct found *found) {
     rule *meet = chosen(call);

@@ -65,15 +65,17 @@ uint64_t vempaldi_sweeps(const uint8_t *table, size_t table_length, uint8_t *out
 
 uint64_t vempaldi_blocks(const uint8_t *table, size_t table_length, struct vempaldi_settings settings, uint8_t *out, size_t out_length,
                          uint64_t answer[4]) {
-    table_length = length_in("blocks", table_length), settings = settings_in("blocks", settings);
+    table_length = length_in("blocks", table_length), settings = settings_in("blocks", table, table_length, settings);
     if (fault("blocks-processors-16-bits")) settings.processors &= 0xffff;
     if (fault("blocks-line-0") && settings.line == 0) settings.line = 1;
     if (fault("blocks-line-highest") && settings.line == UINT32_MAX) settings.line = 1;
     if (fault("blocks-line-64-refused") && settings.line == 64) settings.line = 65;
     uint64_t written = real_vempaldi_blocks(table, table_length, settings, out, out_length, answer);
     written = misalign(table, table_length, settings, out, out_length, answer, written);
+    mistell_plan("blocks", settings, 0, answer);
     if (fault("blocks-16-bits")) mask(out, written, 0xffff);
     if (fault("blocks-refusal-writes") && answer[0] && out_length) out[0] ^= 1;
+    if (fault("blocks-buffer-before-plan") && (answer[0] == 19 || answer[0] == 20) && out_length < 8) refuse(answer, 13);
     if (fault("blocks-buffer-before-short") && answer[0] == 11 && out_length < 8 * settings.processors) refuse(answer, 13);
     return written;
 }
@@ -87,12 +89,28 @@ static uint64_t line_less(uint8_t *out, uint64_t written) {
     return written - (last - before);
 }
 
+/* The text with the lines of the loops as the own plan has them, whose numbers are no longer. */
+static uint64_t own_loops(const uint8_t *table, size_t table_length, struct vempaldi_settings settings, uint8_t *out, uint64_t written) {
+    static _Thread_local uint8_t own[VEMPALDI_LISTING_BYTES];
+    uint64_t answer[4], lines, behind;
+    settings.by_hand = 0;
+    real_vempaldi_listing(table, table_length, settings, own, sizeof own, answer);
+    for (lines = 0; own[lines] != 'b';) lines++;
+    for (behind = 0; out[behind] != 'b';) behind++;
+    memcpy(out, own, lines);
+    memmove(out + lines, out + behind, written - behind);
+    return written - (behind - lines);
+}
+
 uint64_t vempaldi_listing(const uint8_t *table, size_t table_length, struct vempaldi_settings settings, uint8_t *out, size_t out_length,
                           uint64_t answer[4]) {
     uint32_t processors = settings.processors;
-    table_length = length_in("listing", table_length), settings = settings_in("listing", settings);
+    table_length = length_in("listing", table_length), settings = settings_in("listing", table, table_length, settings);
     if (fault("listing-just-fits-refused") && out_length) out_length--;
     uint64_t written = real_vempaldi_listing(table, table_length, settings, out, out_length, answer);
+    mistell_plan("listing", settings, 0, answer);
+    if (fault("listing-loops-of-own") && !answer[0]) written = own_loops(table, table_length, settings, out, written);
+    if (fault("listing-plan-before-serial") && answer[0] == 9 && settings.by_hand && settings.plan_length % 8) refuse(answer, 19);
     if (fault("listing-long-wrong") && written > 30000) out[30000] ^= 1;
     if (fault("listing-line-missing") && !answer[0]) written = line_less(out, written);
     if (fault("listing-processors-before-serial") && answer[0] == 9 && (processors < 1 || processors > 64)) refuse(answer, 10);

@@ -72,6 +72,19 @@ static int wrong_state(const uint8_t *table, size_t length, struct vempaldi_sett
     return answer[0] == 15;
 }
 
+/* Whether a step that is accepted would be 15 by the lists of the own plan. */
+static int state_of_own(const uint8_t *table, size_t length, struct vempaldi_settings settings, uint32_t processor, const uint32_t counts[64],
+                        const double *memory, size_t numbers) {
+    double *copy = copy_of(memory, numbers);
+    uint32_t own[64], report[3];
+    uint64_t answer[4];
+    memcpy(own, counts, sizeof own);
+    real_vempaldi_step(table, length, settings, processor, own, copy, numbers, report, answer);
+    free(copy);
+    settings.by_hand = 0;
+    return !answer[0] && wrong_state(table, length, settings, processor, counts);
+}
+
 /* Faults in what is told of a step that was accepted; `found` is the report as the call found it. */
 static void told_wrong(uint32_t counts[64], uint32_t processor, uint32_t report[3], const uint32_t found[3]) {
     if (fault("step-index-16-bits")) report[2] &= 0xffff;
@@ -88,12 +101,19 @@ void vempaldi_step(const uint8_t *table, size_t table_length, struct vempaldi_se
                    double *memory, size_t memory_length, uint32_t report[3], uint64_t answer[4]) {
     double *before = copy_of(memory, memory_length);
     uint32_t processors = settings.processors, above = processors < 64 ? counts[63] : 0, found[3] = {report[0], report[1], report[2]};
-    settings = settings_in("step", settings);
-    table_length = length_in("step", table_length), memory_length = low_of("step-memory-16-bits", memory_length);
+    table_length = length_in("step", table_length), settings = settings_in("step", table, table_length, settings);
+    memory_length = low_of("step-memory-16-bits", memory_length);
     if (fault("step-processor-16-bits")) processor &= 0xffff;
     if (fault("step-takes-count-16-bits") && processor < 64) counts[processor] &= 0xffff;
     if (fault("step-last-count-not-looked-at") && processors < 64) counts[63] = 0;
+    if (fault("step-state-of-own") && state_of_own(table, table_length, settings, processor, counts, memory, memory_length)) {
+        refuse(answer, 15);
+        free(before);
+        return;
+    }
     real_vempaldi_step(table, table_length, settings, processor, counts, memory, memory_length, report, answer);
+    mistell_plan("step", settings, processor, answer);
+    if (fault("step-unmet-counts") && answer[0] == 20 && processor < 64) counts[processor]++;
     if (fault("step-last-count-not-looked-at") && processors < 64) counts[63] = above;
     if (fault("step-stores-nothing")) put_back(memory, before, memory_length);
     if (!answer[0]) told_wrong(counts, processor, report, found);
@@ -102,6 +122,8 @@ void vempaldi_step(const uint8_t *table, size_t table_length, struct vempaldi_se
     if (fault("step-refused-reports") && answer[0]) memset(report, 0, 12), report[1] = 1;
     if (fault("step-state-before-memory") && answer[0] == 12 && wrong_state(table, table_length, settings, processor, counts))
         refuse(answer, 15);
+    int plan = answer[0] == 19 || answer[0] == 20;
+    if (fault("step-memory-before-plan") && plan && memory_length != elements_of(table, table_length)) refuse(answer, 12);
     if (fault("step-memory-before-line") && answer[0] == 17 && memory_length != elements_of(table, table_length)) refuse(answer, 12);
     if (fault("all-nan-sign")) other_sign(memory, before, memory_length);
     free(before);
@@ -111,8 +133,11 @@ uint64_t vempaldi_run(const uint8_t *table, size_t table_length, struct vempaldi
                       size_t order_length, double *memory, size_t memory_length, uint64_t answer[4]) {
     double *before = copy_of(memory, memory_length);
     table_length = length_in("run", table_length), memory_length = low_of("run-memory-16-bits", memory_length);
-    order_length = low_of("run-order-16-bits", order_length), settings = settings_in("run", settings);
+    order_length = low_of("run-order-16-bits", order_length), settings = settings_in("run", table, table_length, settings);
     uint64_t idle = real_vempaldi_run(table, table_length, settings, order, order_length, memory, memory_length, answer);
+    mistell_plan("run", settings, 0, answer);
+    if (fault("run-unmet-writes") && answer[0] == 20 && memory_length) memory[0] = 0.5;
+    if (fault("run-unmet-idle") && answer[0] == 20) idle = order_length;
     if (fault("run-idle-8-bits")) idle &= 0xff;
     if (fault("run-idle-16-bits")) idle &= 0xffff;
     if (fault("run-long-order") && order_length > 1000 && !answer[0]) idle++;
@@ -121,6 +146,8 @@ uint64_t vempaldi_run(const uint8_t *table, size_t table_length, struct vempaldi
         idle = 0;
         for (size_t i = 0; i < order_length; i++) idle += order[i] >= settings.processors;
     }
+    int plan = answer[0] == 19 || answer[0] == 20;
+    if (fault("run-memory-before-plan") && plan && memory_length != elements_of(table, table_length)) refuse(answer, 12);
     if (fault("run-memory-before-line") && answer[0] == 17 && memory_length != elements_of(table, table_length)) refuse(answer, 12);
     if (fault("run-stores-nothing")) put_back(memory, before, memory_length);
     if (fault("run-writes-order") && order_length) ((uint8_t *)order)[0] ^= 1;

@@ -1,7 +1,8 @@
 //! Blocks, and the ranges of each loop in each block.
 
+use crate::by_hand;
 use crate::outcome::Refusal;
-use crate::planner::{amounts, threshold, Amounts};
+use crate::planner::{threshold, Amounts};
 use crate::settings::Settings;
 use crate::table::Table;
 
@@ -36,27 +37,42 @@ pub struct Plan {
     bounds: Vec<Range>,
 }
 
-/// The plan of a table, or ground 10, 17 or 11.
+/// The plan of a table, or ground 19, 20, 10, 17 or 11.
 pub fn plan(table: &Table, settings: Settings) -> Result<Plan, Refusal> {
+    plan_naming(table, settings, None)
+}
+
+/// The same for a call that names a processor: ground 10 is asked of its
+/// number behind P.
+pub fn plan_naming(table: &Table, settings: Settings, named: Option<u32>) -> Result<Plan, Refusal> {
+    let amounts = by_hand::in_force(table, &settings)?;
     if !(1..=MOST_PROCESSORS).contains(&settings.processors) {
         return Err(Refusal::whole(PROCESSORS));
+    }
+    if let Some(processor) = named {
+        number_below(processor, settings.processors)?;
     }
     if !(1..=LONGEST_LINE).contains(&settings.line) {
         return Err(Refusal::whole(LINE));
     }
-    let amounts = amounts(table);
+    let plan = laid(table, settings, amounts).ok_or(Refusal::whole(SHORT))?;
+    if plan.long_enough(threshold(&plan.amounts)) {
+        Ok(plan)
+    } else {
+        Err(Refusal::whole(SHORT))
+    }
+}
+
+/// Blocks with these shifts and peels, for settings that are in range, if
+/// there are lines enough.
+pub fn laid(table: &Table, settings: Settings, amounts: Vec<Amounts>) -> Option<Plan> {
     let indices = indices(table);
-    let count = i64::from(settings.processors);
-    if lines(indices, settings.line) < count {
-        return Err(Refusal::whole(SHORT));
+    if lines(indices, settings.line) < i64::from(settings.processors) {
+        return None;
     }
     let blocks = split(indices, settings);
-    let least = threshold(&amounts);
-    if count >= 2 && blocks.iter().any(|block| block.count() < least) {
-        return Err(Refusal::whole(SHORT));
-    }
     let bounds = table.loops.iter().map(|one| bounds(one.first, one.last)).collect();
-    Ok(Plan { amounts, blocks, bounds })
+    Some(Plan { amounts, blocks, bounds })
 }
 
 /// Ground 10 for a processor's own number.
@@ -104,6 +120,11 @@ fn split(indices: Range, settings: Settings) -> Vec<Range> {
 }
 
 impl Plan {
+    /// Whether no block has fewer indices than `least`, where that counts.
+    pub fn long_enough(&self, least: i64) -> bool {
+        self.blocks.len() < 2 || self.blocks.iter().all(|block| block.count() >= least)
+    }
+
     /// What processor b runs of loop k before the barrier.
     pub fn fused(&self, b: usize, k: usize) -> Range {
         let own = self.bounds[k];

@@ -97,6 +97,74 @@ pub const TEN_ALIGNED: [Aligned; 7] = [
     (11, 0, Err(17)),
 ];
 
+/// A plan by hand as shift and peel of each loop, the number of processors,
+/// and the plan's threshold or the answer.
+pub type ByHand = (&'static [(u32, u32)], u32, Result<u64, [u64; 4]>);
+
+/// Plans by hand for the example, of which loop 1 reads what loop 0 stores one
+/// index before and one behind.
+pub const EXAMPLE_BY_HAND: [ByHand; 22] = [
+    (&[(0, 0), (1, 1)], 1, Ok(2)),
+    (&[(0, 0), (1, 1)], 5, Ok(2)),
+    (&[(0, 0), (1, 1)], 6, Err([11, 0, 0, 0])),
+    // Five indices a block.
+    (&[(0, 0), (2, 3)], 2, Ok(5)),
+    (&[(0, 0), (3, 3)], 2, Err([11, 0, 0, 0])),
+    (&[(3, 2), (4, 3)], 2, Err([11, 0, 0, 0])),
+    (&[(2, 0), (3, 4)], 1, Ok(7)),
+    (&[(2, 0), (3, 4)], 2, Err([11, 0, 0, 0])),
+    // The threshold is of loop 0.
+    (&[(9, 0), (10, 1)], 1, Ok(11)),
+    (&[(0, 4), (1, 5)], 1, Ok(6)),
+    (&[(9_999, 9_999), (10_000, 10_000)], 1, Ok(20_000)),
+    // One below in the shift, in the peel, and by much.
+    (&[(3, 2), (3, 3)], 1, Err([20, 0, 1, 0])),
+    (&[(0, 1), (1, 1)], 1, Err([20, 0, 1, 0])),
+    (&[(10_000, 0), (10_000, 1)], 1, Err([20, 0, 1, 0])),
+    (&[(0, 0), (10_001, 1)], 1, Err([19, 0, 0, 0])),
+    (&[(0, 10_001), (1, 1)], 1, Err([19, 0, 0, 0])),
+    (&[(0, 0), (1, u32::MAX)], 1, Err([19, 0, 0, 0])),
+    (&[(0, 0)], 1, Err([19, 0, 0, 0])),
+    (&[], 1, Err([19, 0, 0, 0])),
+    (&[(0, 0), (1, 1), (1, 1)], 1, Err([19, 0, 0, 0])),
+    // 19 and 20 before 10.
+    (&[(0, 0)], 0, Err([19, 0, 0, 0])),
+    (&[(0, 0), (0, 1)], 65, Err([20, 0, 1, 0])),
+];
+
+/// The example with the plan 0 0, 2 3 for two processors.
+pub const EXAMPLE_BY_HAND_LISTING: &str = "\
+loop 0 0 0
+loop 1 2 3
+block 0 1 5
+block 1 6 10
+fused 0 0 1 5
+fused 0 1 1 3
+fused 1 0 6 10
+fused 1 1 9 10
+peeled 0 1 4 8
+sweeps 6 5
+";
+
+/// Four loops with dependences from loop 1 to loop 2 and from loop 0 to loop
+/// 3, both of the backward amount 1.
+pub fn crossed() -> Vec<u8> {
+    loops_reading(&[&[], &[], &[(1, 1)], &[(0, 1)]])
+}
+
+/// Plans by hand for these.
+pub const CROSSED_BY_HAND: [ByHand; 6] = [
+    (&[(0, 0), (0, 0), (1, 0), (1, 0)], 1, Ok(1)),
+    // Of two pairs that of the lowest earlier loop, though 2 is the lower
+    // later one.
+    (&[(0, 0), (0, 0), (0, 0), (0, 0)], 1, Err([20, 0, 3, 0])),
+    (&[(0, 0), (0, 0), (0, 0), (1, 0)], 1, Err([20, 1, 2, 0])),
+    (&[(5, 0), (0, 0), (1, 0), (5, 0)], 1, Err([20, 0, 3, 0])),
+    (&[(0, 2), (0, 0), (1, 0), (1, 1)], 1, Err([20, 0, 3, 0])),
+    // No loop but 2 depends on loop 1.
+    (&[(0, 0), (7, 9), (8, 9), (1, 0)], 1, Ok(17)),
+];
+
 /// Loops over 10 to 49 and arrays of 60: loop k stores array k and reads what
 /// `reads` gives for it, summed.
 pub fn loops_reading(reads: &[&[(u8, i16)]]) -> Vec<u8> {

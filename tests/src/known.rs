@@ -1,6 +1,7 @@
 //! Known results of planning and running, typed.
 
 use crate::blocks::{plan, Range};
+use crate::by_hand;
 use crate::encoder::Encoder;
 use crate::examples::*;
 use crate::facts::facts;
@@ -117,6 +118,24 @@ fn blocks_are_on_whole_lines() {
     }
     // Lines count from the least first, which is 10 here; 40 indices.
     assert_eq!(blocks_of(&three_loops(), 3, 16), Ok(vec![(10, 25), (26, 41), (42, 49)]));
+}
+
+#[test]
+fn plans_by_hand_have_their_typed_answers() {
+    for (table, typed) in [(EXAMPLE.to_vec(), &EXAMPLE_BY_HAND[..]), (crossed(), &CROSSED_BY_HAND)]
+    {
+        for &(plan, processors, wanted) in typed {
+            let settings = Settings::of(processors).with_plan(&by_hand::typed(plan));
+            let found = outputs::check_plan(&table, settings).map_err(|one| one.answer());
+            assert_eq!(found, wanted, "{plan:?}, P = {processors}");
+        }
+    }
+}
+
+#[test]
+fn the_example_has_its_listing_by_hand() {
+    let settings = Settings::of(2).with_plan(&by_hand::typed(&[(0, 0), (2, 3)]));
+    assert_eq!(lines(&EXAMPLE, settings), Ok(EXAMPLE_BY_HAND_LISTING.to_string()));
 }
 
 #[test]

@@ -33,6 +33,12 @@ extern "C" {
         out_len: usize,
         answer: *mut Answer,
     ) -> u64;
+    fn vempaldi_check_plan(
+        table: *const u8,
+        table_len: usize,
+        settings: Settings,
+        answer: *mut Answer,
+    ) -> u64;
     fn vempaldi_blocks(
         table: *const u8,
         table_len: usize,
@@ -106,6 +112,16 @@ pub fn threshold(table: &[u8], out: &mut [u8]) -> (Answer, u64) {
 
 pub fn sweeps(table: &[u8], out: &mut [u8]) -> (Answer, u64) {
     of_table(vempaldi_sweeps, table, out)
+}
+
+/// The answer, and the threshold of the plan in force.
+pub fn check_plan(table: &[u8], settings: Settings) -> (Answer, u64) {
+    let mut answer = UNWRITTEN;
+    // SAFETY: the pointer and length are those of a live slice, and the
+    // answer is lent for this call alone.
+    let threshold =
+        unsafe { vempaldi_check_plan(table.as_ptr(), table.len(), settings, &mut answer) };
+    (answer, threshold)
 }
 
 pub fn blocks(table: &[u8], settings: Settings, out: &mut [u8]) -> (Answer, u64) {

@@ -136,7 +136,7 @@ const fn short(short: fn(&Sizes) -> bool) -> Rule {
 }
 
 fn outcome(asked: &Asked, rule: &Rule) -> Outcome {
-    let Settings { processors, line } = asked.settings;
+    let Settings { processors, line, .. } = asked.settings;
     for ask in rule.order {
         let (holds, ground) = match ask {
             Ask::Processors => (!(1..=MOST_PROCESSORS).contains(&processors), 10),

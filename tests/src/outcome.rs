@@ -7,12 +7,14 @@ pub type Answer = [u64; 4];
 pub const ACCEPTED: Answer = [0; 4];
 
 const SERIAL: u64 = 9;
+const UNMET: u64 = 20;
 
 #[derive(Clone, Copy, Debug, PartialEq, Eq)]
 pub struct Refusal {
     pub number: u64,
     pub place: u64,
-    /// For ground 9 a read of the loop and 0; for the others 0 and 0.
+    /// For ground 9 a read of the loop and 0, for 20 the later loop and 0;
+    /// for the others 0 and 0.
     pub named: [u64; 2],
 }
 
@@ -30,6 +32,11 @@ impl Refusal {
     /// Ground 9, with its loop and the read of that loop.
     pub fn serial(place: usize, read: usize) -> Refusal {
         Refusal { named: [read as u64, 0], ..Refusal::new(SERIAL, place) }
+    }
+
+    /// Ground 20, with the earlier loop and the later one.
+    pub fn unmet(earlier: usize, later: usize) -> Refusal {
+        Refusal { named: [later as u64, 0], ..Refusal::new(UNMET, earlier) }
     }
 
     pub fn answer(&self) -> Answer {

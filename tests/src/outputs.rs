@@ -1,6 +1,6 @@
 //! What each public entry of planning writes, for an output of `room` bytes.
 
-use crate::blocks::{number_below, plan, Plan, Range};
+use crate::blocks::{plan, plan_naming, Plan, Range};
 use crate::facts;
 use crate::listing;
 use crate::lists::{self, Iteration};
@@ -29,6 +29,12 @@ pub fn threshold(table: &[u8], room: usize) -> Output {
     fit(encode([planner::threshold(&amounts)]), room)
 }
 
+/// The threshold of the plan in force. The call has no output.
+pub fn check_plan(table: &[u8], settings: Settings) -> Result<u64, Refusal> {
+    let plan = plan(&read(table)?, settings)?;
+    Ok(planner::threshold(&plan.amounts) as u64)
+}
+
 pub fn blocks(table: &[u8], settings: Settings, room: usize) -> Output {
     let plan = plan(&read(table)?, settings)?;
     fit(encode(plan.blocks.iter().flat_map(|block| [block.a, block.e])), room)
@@ -50,7 +56,7 @@ pub fn peeled_ranges(table: &[u8], settings: Settings, processor: u32, room: usi
     of_processor(table, settings, processor, room, |plan, b| ranges(plan, b, Plan::peeled))
 }
 
-/// Ground 10 is asked of both numbers before grounds 17 and 11.
+/// A call for one processor's part of the plan.
 fn of_processor(
     table: &[u8],
     settings: Settings,
@@ -58,9 +64,7 @@ fn of_processor(
     room: usize,
     part: impl Fn(&Plan, usize) -> Vec<i64>,
 ) -> Output {
-    let table = read(table)?;
-    number_below(processor, settings.processors)?;
-    let plan = plan(&table, settings)?;
+    let plan = plan_naming(&read(table)?, settings, Some(processor))?;
     fit(encode(part(&plan, processor as usize)), room)
 }
 

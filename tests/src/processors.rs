@@ -9,10 +9,15 @@ use crate::table::Table;
 /// length, by division alone. The last block has the fewest lines, L / P, and
 /// lacks the indices by which the last line goes beyond the greatest last.
 pub fn most(table: &Table, line: u32) -> u32 {
+    most_with(table, line, threshold(&amounts(table)))
+}
+
+/// The same for a plan by hand with this threshold.
+pub fn most_with(table: &Table, line: u32, threshold: i64) -> u32 {
     let indices = indices(table);
     let lines = lines(indices, line);
     let line = i64::from(line);
-    let needed = threshold(&amounts(table)) + lines * line - indices.count();
+    let needed = threshold + lines * line - indices.count();
     let least = ((needed + line - 1) / line).max(1);
     (lines / least).clamp(1, i64::from(MOST_PROCESSORS)) as u32
 }

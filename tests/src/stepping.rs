@@ -1,6 +1,6 @@
 //! Steps, and the run in a caller's order.
 
-use crate::blocks::{number_below, plan, MOST_PROCESSORS};
+use crate::blocks::{number_below, plan_naming, MOST_PROCESSORS};
 use crate::interpreter::{beginnings, fits, iteration};
 use crate::lists::{lists, Iteration, Lists};
 use crate::outcome::Refusal;
@@ -29,10 +29,16 @@ pub struct Schedule {
 }
 
 impl Schedule {
-    /// Reads a table and plans it; grounds 1 to 9, 10 of P alone, 17 and 11.
+    /// Reads a table and plans it; grounds 1 to 9, 19, 20, 10 of P alone, 17
+    /// and 11.
     pub fn new(bytes: &[u8], settings: Settings) -> Result<Schedule, Refusal> {
+        Schedule::naming(bytes, settings, None)
+    }
+
+    /// The same for a call that names a processor.
+    fn naming(bytes: &[u8], settings: Settings, named: Option<u32>) -> Result<Schedule, Refusal> {
         let table = read(bytes)?;
-        let lists = lists(&plan(&table, settings)?);
+        let lists = lists(&plan_naming(&table, settings, named)?);
         let beginnings = beginnings(&table);
         Ok(Schedule { table, settings, lists, beginnings })
     }
@@ -124,9 +130,7 @@ impl Schedule {
     }
 }
 
-/// One public step: every ground in its order. Ground 10 of the stepped
-/// number stands before grounds 17 and 11, so it is asked before the plan is
-/// made.
+/// One public step: every ground in its order.
 pub fn step(
     bytes: &[u8],
     settings: Settings,
@@ -134,9 +138,8 @@ pub fn step(
     counts: &mut Counts,
     memory: &mut [f64],
 ) -> Result<Report, Refusal> {
-    read(bytes)?;
-    number_below(processor, settings.processors)?;
-    Schedule::new(bytes, settings)?.checked_step(processor, counts, memory)
+    let schedule = Schedule::naming(bytes, settings, Some(processor))?;
+    schedule.checked_step(processor, counts, memory)
 }
 
 /// One public run in a caller's order.

@@ -3,8 +3,8 @@
 
 #[derive(Default)]
 pub struct Tally {
-    /// By number; the highest is 17.
-    counts: [u64; 18],
+    /// By number; the highest is 20.
+    counts: [u64; 21],
 }
 
 impl Tally {

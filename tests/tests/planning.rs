@@ -1,7 +1,9 @@
 //! Compares the library's plans with the second planner's: listings, lists,
-//! facts, ranges, and every entry with buffers that are exact, too short and
+//! facts, ranges, plans by hand, and every entry with buffers that are exact, too short and
 //! longer. Arguments name the parts to run; without any, all are.
 
+#[path = "planning/by_hand.rs"]
+mod by_hand;
 #[path = "planning/entries.rs"]
 mod entries;
 #[path = "planning/large.rs"]
@@ -25,6 +27,7 @@ fn main() {
         ("large", large::compare_all),
         ("meetings", meetings::compare_all),
         ("lines", lines::compare_all),
+        ("by_hand", by_hand::compare_all),
         ("listings", listings::compare_all),
         ("entries", entries::compare_all),
         ("numbers", numbers::compare_all),

@@ -3,6 +3,8 @@
 //! state, and runs in a caller's order. Arguments name the parts to run;
 //! without any, all are.
 
+#[path = "running/hands.rs"]
+mod hands;
 #[path = "running/large.rs"]
 mod large;
 #[path = "running/lines.rs"]

@@ -2,6 +2,9 @@
 //! kind of work, the time of both and their factor. It asserts nothing.
 
 #[cfg(feature = "planning")]
+#[path = "bench/by_hand.rs"]
+mod by_hand;
+#[cfg(feature = "planning")]
 #[path = "bench/growth.rs"]
 mod growth;
 #[cfg(feature = "planning")]

@@ -10,7 +10,7 @@ use vempaldi_checks::lent;
 use vempaldi_checks::library_planning as library;
 use vempaldi_checks::limits;
 use vempaldi_checks::line_lengths;
-use vempaldi_checks::outcome::{hex, Answer};
+use vempaldi_checks::outcome::{agrees, hex, Answer};
 use vempaldi_checks::outputs::{self, Output};
 use vempaldi_checks::processors;
 use vempaldi_checks::random::Random;
@@ -29,6 +29,13 @@ pub struct Entry<'a> {
     name: &'static str,
     expected: Expected<'a>,
     call: Call<'a>,
+}
+
+impl Entry<'_> {
+    /// Whether it writes every iteration.
+    pub fn is_list(&self) -> bool {
+        self.name.ends_with("list")
+    }
 }
 
 pub fn compare_all() {
@@ -93,7 +100,32 @@ fn mixed(tally: &mut Tally, seed: u64, shape: &Shape, count: u64) {
     }
 }
 
+/// Every entry that plans and has an output.
+pub fn of_plan(table: &[u8], settings: Settings, processor: u32) -> Vec<Entry<'_>> {
+    let whole = [blocks(table, settings), listing(table, settings)];
+    whole.into_iter().chain(of_processor(table, settings, processor)).collect()
+}
+
+/// The check of a plan, which has no output: its answer and the threshold.
+pub fn check_plan(tally: &mut Tally, table: &[u8], settings: Settings) {
+    let expected = outputs::check_plan(table, settings);
+    let before = table.to_vec();
+    let (answer, told) = library::check_plan(table, settings);
+    assert!(black_box(table) == before, "check of a plan: the table itself changed");
+    let wanted = *expected.as_ref().unwrap_or(&0);
+    if !agrees(&answer, expected.as_ref().err()) || told != wanted {
+        eprintln!("check of a plan: the library and the second planner disagree");
+        eprintln!("  table    {}", hex(table));
+        eprintln!("  {settings:?}");
+        eprintln!("  library  {answer:?}, threshold {told}");
+        eprintln!("  expected {expected:?}");
+        std::process::exit(1);
+    }
+    tally.add(answer[0]);
+}
+
 pub fn every_entry(tally: &mut Tally, table: &[u8], settings: Settings, processor: u32) {
+    check_plan(tally, table, settings);
     for entry in of_table(table, settings) {
         every_room(tally, table, &entry);
     }
@@ -128,17 +160,25 @@ fn of_table(table: &[u8], settings: Settings) -> [Entry<'_>; 6] {
             expected: Box::new(|room| outputs::sweeps(table, room)),
             call: Box::new(|out| library::sweeps(table, out)),
         },
-        Entry {
-            name: "blocks",
-            expected: Box::new(move |room| outputs::blocks(table, settings, room)),
-            call: Box::new(move |out| library::blocks(table, settings, out)),
-        },
-        Entry {
-            name: "listing",
-            expected: Box::new(move |room| outputs::listing(table, settings, room)),
-            call: Box::new(move |out| library::listing(table, settings, out)),
-        },
+        blocks(table, settings),
+        listing(table, settings),
     ]
+}
+
+fn blocks(table: &[u8], settings: Settings) -> Entry<'_> {
+    Entry {
+        name: "blocks",
+        expected: Box::new(move |room| outputs::blocks(table, settings, room)),
+        call: Box::new(move |out| library::blocks(table, settings, out)),
+    }
+}
+
+pub fn listing(table: &[u8], settings: Settings) -> Entry<'_> {
+    Entry {
+        name: "listing",
+        expected: Box::new(move |room| outputs::listing(table, settings, room)),
+        call: Box::new(move |out| library::listing(table, settings, out)),
+    }
 }
 
 /// The ranges of a processor, fused and peeled.

@@ -5,6 +5,7 @@
 use crate::plans::Planned;
 use crate::rows::numbers;
 use crate::stop::{first_difference, same_bits, stop};
+use vempaldi_checks::by_hand;
 use vempaldi_checks::encoder::encode;
 use vempaldi_checks::examples::EXAMPLE;
 use vempaldi_checks::large;
@@ -26,6 +27,14 @@ pub fn compare_all() {
     let mut steps = 0;
     for (processors, line) in [(1, 1), (2, 64), (64, 63)] {
         let planned = planned_for(2, Settings::new(processors, line));
+        steps += near_the_ends(&planned, &start);
+        runs(&mut random, &planned, &start);
+    }
+    // The highest numbers by hand. Loop 1 is to be peeled by two more.
+    for (processors, plan) in [(1, [(9, 0), (10_000, 2)]), (3, [(10_000, 9_998), (10_000, 10_000)])]
+    {
+        let settings = Settings::of(processors).with_plan(&by_hand::typed(&plan));
+        let planned = planned_for(2, settings);
         steps += near_the_ends(&planned, &start);
         runs(&mut random, &planned, &start);
     }

@@ -25,7 +25,7 @@ impl Default for Lines {
 
 impl Lines {
     pub fn add(&mut self, schedule: &Schedule) {
-        let Settings { processors, line } = schedule.settings;
+        let Settings { processors, line, .. } = schedule.settings;
         if processors < 2 || line < 2 {
             return;
         }

@@ -1,7 +1,7 @@
 //! Runs in a caller's order: the memory, the idle count, and that both are
 //! those of the row of steps.
 
-use crate::plans::{planned, Planned};
+use crate::plans::{planned, planned_by_hand, Planned};
 use crate::stop::{first_difference, same_bits, stop};
 use std::hint::black_box;
 use vempaldi_checks::collisions;
@@ -13,10 +13,11 @@ use vempaldi_checks::library_running as library;
 use vempaldi_checks::line_lengths;
 use vempaldi_checks::memories;
 use vempaldi_checks::outcome::{agrees, ACCEPTED};
+use vempaldi_checks::plans_by_hand;
 use vempaldi_checks::processors;
 use vempaldi_checks::random::Random;
 use vempaldi_checks::settings::Settings;
-use vempaldi_checks::stepping::run;
+use vempaldi_checks::stepping::{run, Schedule};
 use vempaldi_checks::tables::{self, Shape};
 use vempaldi_checks::tally::Tally;
 
@@ -44,6 +45,48 @@ pub fn compare_all() {
     tally.print("runs in a caller's order");
     println!("  {idle} idle bytes in all");
     tally.require(&[0, 1, 3, 4, 5, 6, 7, 8, 9, 10, 11, 12, 17], 50);
+    by_hand();
+}
+
+/// The same with plans by hand, some of which are refused.
+fn by_hand() {
+    let mut random = Random::new(18);
+    let (mut tally, mut shown) = (Tally::new(), 0);
+    for turn in 0..PLANS {
+        let planned = planned_by_hand(&mut random);
+        let order = any_order(&mut random, &planned);
+        let Schedule { table, settings, .. } = &planned.schedule;
+        let start = memories::any(&mut random, table.elements() as usize);
+        let idle = compare(&mut tally, &planned.bytes, *settings, &order, &start);
+        same_as_plain(&planned, &order, &start);
+        let own = Schedule::new(&planned.bytes, settings.own()).expect("the own has a plan");
+        shown += u64::from(idle != own.run(&order, &mut start.clone()));
+        another_plan(&mut tally, &mut random, &planned, &order);
+        if turn % 4 == 0 {
+            same_as_row(&planned, &order, &start);
+            refused(&mut tally, &mut random, &planned, &order);
+        }
+    }
+    tally.print("runs in a caller's order by hand");
+    println!("  without the plan {shown} would have another idle count");
+    tally.require(&[0, 1, 3, 4, 5, 6, 7, 8, 9, 10, 11, 12, 17, 19, 20], 50);
+    assert!(shown >= 500, "too few runs that show a plan by hand");
+}
+
+/// Any plan by hand, at times with a wrong number of processors, length of a
+/// line or memory, so that the order of the grounds shows.
+fn another_plan(tally: &mut Tally, random: &mut Random, planned: &Planned, order: &[u8]) {
+    let Schedule { table, settings, .. } = &planned.schedule;
+    let mut other = plans_by_hand::any(random, table, *settings);
+    if random.chance(1, 4) {
+        other.processors = processors::any(random);
+    }
+    if random.chance(1, 4) {
+        other.line = line_lengths::any(random);
+    }
+    let length = table.elements() as usize - usize::from(random.chance(1, 4));
+    let start = memories::any(random, length);
+    compare(tally, &planned.bytes, other, order, &start);
 }
 
 /// The example for lines of four iterations: processor 1 has 9 and 10 of loop 0
@@ -179,7 +222,8 @@ fn refused(tally: &mut Tally, random: &mut Random, planned: &Planned, order: &[u
     compare(tally, &colliding, right, order, &start);
     let cut = &planned.bytes[..random.below(planned.bytes.len())];
     compare(tally, cut, right, order, &start);
-    let wrong = Settings::new(processors::any(random), line_lengths::any(random));
+    let (processors, line) = (processors::any(random), line_lengths::any(random));
+    let wrong = Settings { processors, line, ..right };
     compare(tally, &planned.bytes, wrong, order, &start);
     let line = line_lengths::bad(random);
     compare(tally, &planned.bytes, Settings { line, ..right }, order, &start);

@@ -1,9 +1,12 @@
 //! Random tables with settings for which they have a plan.
 
+use vempaldi_checks::by_hand;
 use vempaldi_checks::encoder::encode;
 use vempaldi_checks::line_lengths;
 use vempaldi_checks::lined;
 use vempaldi_checks::meeting;
+use vempaldi_checks::planner::threshold;
+use vempaldi_checks::plans_by_hand;
 use vempaldi_checks::processors;
 use vempaldi_checks::random::Random;
 use vempaldi_checks::settings::Settings;
@@ -38,6 +41,27 @@ pub fn planned(random: &mut Random) -> Planned {
         let processors = random.between(least, most) as u32;
         let bytes = encode(&table);
         if let Ok(schedule) = Schedule::new(&bytes, Settings::new(processors, line)) {
+            return Planned { bytes, schedule };
+        }
+    }
+}
+
+/// The same with plans by hand. For one processor they may be far above all
+/// indices.
+pub fn planned_by_hand(random: &mut Random) -> Planned {
+    loop {
+        let (table, line) = a_table(random);
+        let high = random.chance(1, 6);
+        let made = if high { plans_by_hand::high } else { plans_by_hand::good };
+        let mut settings = made(random, &table, Settings::new(1, line));
+        let plan = by_hand::in_force(&table, &settings).expect("a good plan");
+        let most = i64::from(processors::most_with(&table, line, threshold(&plan)));
+        if most == 1 && !high && random.chance(7, 8) {
+            continue;
+        }
+        settings.processors = random.between(most.min(2), most) as u32;
+        let bytes = encode(&table);
+        if let Ok(schedule) = Schedule::new(&bytes, settings) {
             return Planned { bytes, schedule };
         }
     }

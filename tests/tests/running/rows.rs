@@ -1,8 +1,10 @@
-//! Complete rows of steps: every report, every count and the memory after
-//! every call, and at the end the memory of the plain run.
+//! Complete rows of steps, by the loops' own numbers and by hand: every report,
+//! every count and the memory after every call, and at the end the memory of
+//! the plain run.
 
+use crate::hands::Hands;
 use crate::lines::Lines;
-use crate::plans::{planned, Planned};
+use crate::plans::{planned, planned_by_hand, Planned};
 use crate::schedulers::{self, Scheduler};
 use crate::stop::{first_difference, same_bits, stop};
 use vempaldi_checks::interpreter::plain_run;
@@ -16,6 +18,7 @@ use vempaldi_checks::stepping::{Counts, Report};
 const PLANS: u64 = 6_000;
 const LEAST_OF_EACH: u64 = 10_000;
 const LEAST_LINED: u64 = 1_000;
+const LEAST_BY_HAND: u64 = 300;
 
 #[derive(Default)]
 struct Calls {
@@ -33,6 +36,11 @@ struct Calls {
 }
 
 pub fn compare_all() {
+    own();
+    by_hand();
+}
+
+fn own() {
     let mut random = Random::new(11);
     let mut calls = Calls::default();
     for _ in 0..PLANS {
@@ -42,22 +50,46 @@ pub fn compare_all() {
         calls.lines.add(&planned.schedule);
         let parallel = processors > 1;
         calls.apart += u64::from(parallel && bounds_matter(&planned.schedule.table));
-        for scheduler in schedulers::every(&mut random, processors) {
-            row(&mut calls, &mut random, &planned, scheduler);
-        }
+        every_row(&mut calls, &mut random, &planned);
     }
-    println!(
-        "rows of steps: {} complete rows; {} iterations, {} waiting, {} finished, {} refused",
-        calls.rows, calls.done, calls.waiting, calls.finished, calls.refused
-    );
+    calls.print("rows of steps");
     println!("  {} of {PLANS} plans for 64 processors", calls.widest);
     println!("  {} for two processors and more with loops that bounds keep apart", calls.apart);
     calls.lines.print();
     calls.lines.require(LEAST_LINED);
     assert!(calls.widest >= 50, "too few plans for 64 processors");
     assert!(calls.apart >= 500, "too few plans of loops that never meet");
-    for count in [calls.rows, calls.done, calls.waiting, calls.finished, calls.refused] {
-        assert!(count >= LEAST_OF_EACH, "too few calls of one kind");
+}
+
+fn by_hand() {
+    let mut random = Random::new(16);
+    let (mut calls, mut hands) = (Calls::default(), Hands::default());
+    for _ in 0..PLANS {
+        let planned = planned_by_hand(&mut random);
+        hands.add(&planned);
+        every_row(&mut calls, &mut random, &planned);
+    }
+    calls.print("rows of steps by hand");
+    hands.print();
+    hands.require(LEAST_BY_HAND);
+}
+
+fn every_row(calls: &mut Calls, random: &mut Random, planned: &Planned) {
+    for scheduler in schedulers::every(random, planned.schedule.processors()) {
+        row(calls, random, planned, scheduler);
+    }
+}
+
+impl Calls {
+    /// Prints what was called; ends the program where it was too little.
+    fn print(&self, name: &str) {
+        println!(
+            "{name}: {} complete rows; {} iterations, {} waiting, {} finished, {} refused",
+            self.rows, self.done, self.waiting, self.finished, self.refused
+        );
+        for count in [self.rows, self.done, self.waiting, self.finished, self.refused] {
+            assert!(count >= LEAST_OF_EACH, "too few calls of one kind");
+        }
     }
 }
 

@@ -1,7 +1,7 @@
 //! Single steps from any counts, with wrong numbers, memories and tables: one
 //! wrong thing at a time and several at once.
 
-use crate::plans::{planned, Planned};
+use crate::plans::{planned, planned_by_hand, Planned};
 use crate::rows::numbers;
 use crate::stop::{first_difference, same_bits, stop};
 use vempaldi_checks::collisions;
@@ -10,11 +10,12 @@ use vempaldi_checks::encoder::encode;
 use vempaldi_checks::library_running as library;
 use vempaldi_checks::line_lengths;
 use vempaldi_checks::memories;
-use vempaldi_checks::outcome::agrees;
+use vempaldi_checks::outcome::{agrees, Refusal};
+use vempaldi_checks::plans_by_hand;
 use vempaldi_checks::processors;
 use vempaldi_checks::random::Random;
 use vempaldi_checks::settings::Settings;
-use vempaldi_checks::stepping::{step, Counts};
+use vempaldi_checks::stepping::{step, Counts, Report};
 use vempaldi_checks::tally::Tally;
 
 const PLANS: u64 = 10_000;
@@ -41,6 +42,64 @@ pub fn compare_all() {
     }
     tally.print("single steps");
     tally.require(&[0, 1, 3, 4, 5, 6, 7, 8, 9, 10, 11, 12, 15, 17], 50);
+    by_hand();
+}
+
+/// The same with plans by hand, some of which are refused.
+fn by_hand() {
+    let mut random = Random::new(17);
+    let (mut tally, mut ignored) = (Tally::new(), Ignored::default());
+    for _ in 0..PLANS {
+        let planned = planned_by_hand(&mut random);
+        for _ in 0..CALLS {
+            let mut call = any_call(&mut random, &planned);
+            if random.chance(1, 5) {
+                let table = &planned.schedule.table;
+                call.settings = plans_by_hand::any(&mut random, table, call.settings);
+            }
+            ignored.add(&call);
+            compare(&mut tally, call);
+        }
+    }
+    tally.print("single steps by hand");
+    tally.require(&[0, 1, 3, 4, 5, 6, 7, 8, 9, 10, 11, 12, 15, 17, 19, 20], 50);
+    ignored.print_and_require(500);
+}
+
+/// Steps that would come to something else if the plan by hand were ignored:
+/// another iteration, 15 or not, waiting or not.
+#[derive(Default)]
+struct Ignored {
+    performed: u64,
+    state: u64,
+    waiting: u64,
+}
+
+impl Ignored {
+    fn add(&mut self, call: &Call) {
+        let come = |settings| {
+            let (mut counts, mut memory) = (call.counts, call.memory.clone());
+            step(&call.table, settings, call.processor, &mut counts, &mut memory)
+        };
+        let (by_hand, own) = (come(call.settings), come(call.settings.own()));
+        let state =
+            |one: &Result<Report, Refusal>| one.as_ref().is_err_and(|refusal| refusal.number == 15);
+        let performs = |one: &Result<Report, Refusal>| matches!(one, Ok(Report::Done(_)));
+        let both = performs(&by_hand) && performs(&own);
+        self.performed += u64::from(both && by_hand != own);
+        self.state += u64::from(state(&by_hand) != state(&own));
+        let done = by_hand.is_ok() && own.is_ok();
+        self.waiting += u64::from(done && performs(&by_hand) != performs(&own));
+    }
+
+    fn print_and_require(&self, least: u64) {
+        let Ignored { performed, state, waiting } = self;
+        println!("  without the plan {performed} would perform another iteration, {state} would");
+        println!("  be 15 or not, {waiting} would wait or be finished, or not");
+        for count in [performed, state, waiting] {
+            assert!(*count >= least, "too few steps that show a plan by hand");
+        }
+    }
 }
 
 fn any_call(random: &mut Random, planned: &Planned) -> Call {

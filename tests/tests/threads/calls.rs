@@ -39,12 +39,16 @@ const fn entry(name: &'static str, call: fn(&Given) -> Came) -> Entry {
     Entry { name, call }
 }
 
-pub const ENTRIES: [Entry; 15] = [
+pub const ENTRIES: [Entry; 16] = [
     entry("check", |g| Came { answer: library::check(g.table), sum: 0 }),
     entry("join", |g| output(g, |out| library::join(g.table, g.table, out))),
     entry("facts", |g| output(g, |out| planning::facts(g.table, out))),
     entry("shifts and peels", |g| output(g, |out| planning::shifts_and_peels(g.table, out))),
     entry("threshold", |g| output(g, |out| planning::threshold(g.table, out))),
+    entry("check plan", |g| {
+        let (answer, threshold) = planning::check_plan(g.table, g.settings);
+        Came { answer, sum: threshold }
+    }),
     entry("sweeps", |g| output(g, |out| planning::sweeps(g.table, out))),
     entry("blocks", |g| output(g, |out| planning::blocks(g.table, g.settings, out))),
     entry("listing", |g| output(g, |out| planning::listing(g.table, g.settings, out))),

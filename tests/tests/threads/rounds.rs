@@ -6,9 +6,11 @@ use vempaldi_checks::damage;
 use vempaldi_checks::encoder::encode;
 use vempaldi_checks::line_lengths;
 use vempaldi_checks::memories;
+use vempaldi_checks::plans_by_hand;
 use vempaldi_checks::processors;
 use vempaldi_checks::random::Random;
 use vempaldi_checks::settings::Settings;
+use vempaldi_checks::table::Table;
 use vempaldi_checks::tables::{self, Shape, SMALL};
 
 /// The steps of a round.
@@ -20,6 +22,8 @@ const WIDE: Shape = Shape { arrays: 3, loops: 3, items: 4, length: 150, offset: 
 
 pub struct Made {
     bytes: Vec<u8>,
+    /// The table before any damage, for which plans by hand are made.
+    table: Table,
     elements: usize,
     /// A line's length, and the most processors for which there is a plan.
     line: u32,
@@ -44,7 +48,7 @@ fn made(random: &mut Random) -> Made {
         3 => encode(&collisions::table(random)),
         _ => bytes,
     };
-    Made { bytes, elements, line, most }
+    Made { bytes, table, elements, line, most }
 }
 
 /// A round for each table of one's own, every fourth with a common one in
@@ -72,6 +76,9 @@ fn given<'a>(random: &mut Random, made: &'a Made) -> Given<'a> {
         counts: [0; 64],
         named: (0..STEPS).map(|_| random.below(processors) as u32).collect(),
     };
+    if random.chance(1, 3) {
+        given.settings = plans_by_hand::any(random, &made.table, given.settings);
+    }
     match random.below(20) {
         0 => given.settings.processors = processors::any(random),
         1 => given.settings.line = line_lengths::any(random),

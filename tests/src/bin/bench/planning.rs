@@ -1,6 +1,7 @@
 //! Planning for 16 processors: shifts, peels, blocks and ranges, which is the
 //! work of the listing. Lines have one iteration where nothing else is said.
 
+use crate::by_hand;
 use std::hint::black_box;
 use vempaldi_checks::blocks::plan;
 use vempaldi_checks::bodies::{self, Setting};
@@ -14,9 +15,9 @@ use vempaldi_checks::settings::Settings;
 use vempaldi_checks::table::*;
 use vempaldi_checks::tables;
 
-const SIXTEEN: Settings = Settings { processors: 16, line: 1 };
+const SIXTEEN: Settings = Settings::of(16);
 /// What a cache line of 64 bytes holds.
-const LINED: Settings = Settings { processors: 16, line: 8 };
+const LINED: Settings = Settings::new(16, 8);
 const TABLES: usize = 400;
 const ROUNDS: usize = 20;
 /// Longer than any listing.
@@ -48,6 +49,9 @@ pub fn measure() {
     let name = "fused and peeled ranges of all 16 processors, full tables";
     compare_ranges(name, &full, SIXTEEN);
     in_lines(&mixed, &full);
+    by_hand::measure("400 mixed tables", &mixed, SIXTEEN);
+    by_hand::measure("full tables, each array stored once", &full, SIXTEEN);
+    by_hand::measure("full tables, two arrays shared", &dense, SIXTEEN);
 }
 
 /// The same tables with blocks on lines of eight iterations.

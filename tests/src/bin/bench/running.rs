@@ -14,9 +14,9 @@ use vempaldi_checks::stepping::run;
 use vempaldi_checks::table::Loop;
 use vempaldi_checks::tables;
 
-const SIXTEEN: Settings = Settings { processors: 16, line: 1 };
+const SIXTEEN: Settings = Settings::of(16);
 /// What a cache line of 64 bytes holds.
-const LINED: Settings = Settings { processors: 16, line: 8 };
+const LINED: Settings = Settings::new(16, 8);
 
 pub fn measure() {
     let table = two_loops(50_000);
