@@ -18,6 +18,8 @@ pub mod LegalLaws
 pub mod Unmet
 -- that it is the first; where there is none, the numbers are legal
 pub mod UnmetLaws
+-- by computation
+pub mod UnmetKnown
 -- the largest of several numbers
 pub mod Maximum
 -- laws of it
