@@ -233,7 +233,7 @@ void vempaldi_plain_run(const uint8_t *table, size_t table_length, double *memor
 
 /* One step of one processor. The first step of a row gets 64 counts of 0; each later one the counts and the memory as the step before
  * left them, and the same settings. Once every iteration has been reported, in whatever order the processors were named, the memory is
- * bit for bit what vempaldi_plain_run leaves from the same start, for every P and W that is accepted.
+ * bit for bit what vempaldi_plain_run leaves from the same start, for every P, W and plan by hand that is accepted.
  * An iteration writes the memory (one element), this processor's count (one more) and the report. Waiting and finished write the
  * report alone: its kind, 0, 0. Refuses with 1 to 9, 19, 20, 10 (of P, then of `processor`), 17, 11, 12, 15.
  * Two threads must not step the same memory at the same time. */
