@@ -2,26 +2,25 @@
 use Prim.Native.Nat.{ℕ, _+_, _*_, _/_, _%_, _≤_, _<_}
 use native.Mathlib.Omega.{arith}
 use native.Mathlib.Decide.{decLt}
-use mathlib.Core.Path.{_≡_, refl, sym, ap, subst, _∙_}
-use mathlib.Core.Logic.{_⊎_, inl, inr, ⊎-elim, _↔_, _≢_}
+use mathlib.Core.Path.{_≡_, refl, ap, subst, _∙_}
+use mathlib.Core.Logic.{_⊎_, inl, inr, ⊎-elim, _≢_}
 use mathlib.Core.Bool.{Bool, true, false, false≢true, not, _||_}
-use mathlib.Core.List.{List}
-use lib.Dec.{eqb, ltb}
+use lib.Dec.{eqb}
 use lib.ListN.{getD}
-use borrow.Author.Tests.{eqb-true, eq-eqb, ne-eqb, lt-ltb}
+use borrow.Author.Tests.{eq-eqb, ne-eqb}
 use Rattle.model.specs.declared.Reference.{Reference}
 use Rattle.model.specs.Table.{Table, count}
 use Rattle.chains.specs.Dependence.{backward, forward}
 use Rattle.chains.specs.Graph.{Dependence}
 use Rattle.chains.specs.TableGraph.{graph}
 use Rattle.chains.specs.Tables.{allRefs-refs, allRefs-below}
-use Rattle.chains.specs.Unmet.{missed, Unmet, FirstUnmet}
+use Rattle.chains.specs.Unmet.{missed, Unmet}
 use Rattle.chains.specs.UnmetLaws.{missed-is, first-unmet, unmet-first}
 use Rattle.blocks.specs.SumLaws.{some-which, some-here}
 use Rattle.amounts.specs.declared.Amounts.{Amounts}
 use Rattle.legality.specs.Written.{numberAt, amountsIn}
 use Rattle.legality.specs.WrittenLaws.{filled-here, filled-past}
-use Rattle.legality.specs.ByHand.{tooLarge, firstUnmet}
+use Rattle.legality.specs.ByHand.{largeAt, tooLarge, firstUnmet}
 use Rattle.plans.specs.Plans.{Settings}
 use Rattle.answers.specs.Statements.{handShift, handPeel, NotAPlan, NotMet, FirstNotMet}
 use Rattle.answers.specs.Tests.{Decides, either, below}
@@ -41,13 +40,10 @@ module _ (t : Table) (few : count t ≤ 16) (w : Settings) where
   peel-here k l = let e : 2 * k + 0 + 1 ≡ 2 * k + 1 = omega arith in filled-here _ (count t) k few l ∙ ap (numberAt (w .plan)) e
 
   -- 19
-  abbrev LargeAt : ℕ → Bool
-  LargeAt k = ltb 10000 (getD (numbers .shifts) k 0) || ltb 10000 (getD (numbers .peels) k 0)
-
   large-is : Decides (tooLarge numbers) ((k : ℕ) × (k < count t) × ((10000 < handShift w k) ⊎ (10000 < handPeel w k)))
   large-is = (given, made)
     where
-      at : (k : ℕ) → Dec (k < count t) → LargeAt k ≡ true → (k < count t) × ((10000 < handShift w k) ⊎ (10000 < handPeel w k))
+      at : (k : ℕ) → Dec (k < count t) → largeAt numbers k ≡ true → (k < count t) × ((10000 < handShift w k) ⊎ (10000 < handPeel w k))
       at k (yes l) e = (
         l,
         ⊎-elim (λ h. inl (omega (arith, h, shift-here k l))) (λ h. inr (omega (arith, h, peel-here k l)))
@@ -59,11 +55,11 @@ module _ (t : Table) (few : count t ≤ 16) (w : Settings) where
           (either _ _ (below 10000 (getD (numbers .shifts) k 0)) (below 10000 (getD (numbers .peels) k 0)) .0 e))
 
       given : tooLarge numbers ≡ true → (k : ℕ) × (k < count t) × ((10000 < handShift w k) ⊎ (10000 < handPeel w k))
-      given e = let (k, l, f) = some-which 16 LargeAt e in let (i, h) = at k (decLt k (count t)) f in (k, i, h)
+      given e = let (k, l, f) = some-which 16 (largeAt numbers) e in let (i, h) = at k (decLt k (count t)) f in (k, i, h)
 
       made : ((k : ℕ) × (k < count t) × ((10000 < handShift w k) ⊎ (10000 < handPeel w k))) → tooLarge numbers ≡ true
       made (k, l, h) =
-          some-here 16 k LargeAt (omega arith)
+          some-here 16 k (largeAt numbers) (omega arith)
           (either _ _ (below 10000 (getD (numbers .shifts) k 0)) (below 10000 (getD (numbers .peels) k 0)) .1
           (⊎-elim (λ g. inl (omega (arith, shift-here k l))) (λ g. inr (omega (arith, peel-here k l))) h))
 

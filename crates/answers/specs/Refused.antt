@@ -4,7 +4,7 @@ use Prim.Native.Nat.{ℕ, _*_, _≤_}
 use native.Mathlib.Omega.{arith}
 use mathlib.Core.Path.{_≡_, refl, sym, ap, subst, _∙_}
 use native.Mathlib.Decide.{ℕ-discrete}
-use mathlib.Core.Bool.{Bool, true, false, false≢true, not, _||_, or-true}
+use mathlib.Core.Bool.{Bool, true, false, false≢true, not, or-true}
 use mathlib.Core.List.{List, [], _∷_}
 use lib.Dec.{eqb, ltb}
 use lib.ListN.{length}
@@ -35,7 +35,7 @@ use Rattle.turns.specs.Reach.{Turn, does, halts, stops, turn-is}
 use Rattle.turns.specs.Meaning.{turn-said}
 use Rattle.stepping.specs.Step.{workOf, elements, steppedBy, step}
 use Rattle.stepping.specs.Run.{runAnswer}
-use Rattle.answers.specs.Statements.{Given, NotAPlan, BadProcessors, BadNumber, BadLine, Short, OtherLength, NoRoom, BadState}
+use Rattle.answers.specs.Statements.{Given, NotAPlan, BadProcessors, BadNumber, BadLine, OtherLength, NoRoom, BadState}
 use Rattle.answers.specs.Tests.{Decides, ten, ten-named, eleven, fifteen, seventeen}
 use Rattle.answers.specs.HandTests.{numbers, nineteen-is, twenty-given}
 use Rattle.answers.specs.Refusing.{Then, before, here, ReadRefused, HandRefused, read, nineteen, twenty, CountRefused, LineRefused, FitRefused, PlanRefused, NamedRefused, MemoryRefused, OutputRefused, StepRefused, Nonzero}

@@ -5,13 +5,13 @@ use native.Mathlib.Omega.{arith}
 use native.Mathlib.Decide.{ℕ-discrete, decLt}
 use mathlib.Core.Path.{_≡_, refl, sym, ap, subst, _∙_}
 use mathlib.Core.Logic.{_≢_}
-use mathlib.Core.Bool.{Bool, true, false}
+use mathlib.Core.Bool.{Bool, false}
 use mathlib.Core.List.{List, [], _∷_, _++_, append-assoc}
 use lib.ListN.{length, getD, List·getD-eq-default}
 use lib.Dec.{eqb, ltb}
 use borrow.Author.Tests.{eq-eqb, ne-eqb}
 use Rattle.refusals.specs.Refusals.{met}
-use Rattle.refusals.specs.Answers.{accepted, refused, _if_else_}
+use Rattle.refusals.specs.Answers.{accepted, refused}
 use Rattle.refusals.specs.AnswerLaws.{if-accepted, after-accepted}
 use Rattle.model.specs.Table.{Table, count}
 use Rattle.serial.specs.Serial.{table}

@@ -9,12 +9,12 @@ use mathlib.Core.List.{List, [], _∷_, _++_}
 use mathlib.Core.List.{List·Memᴰ as Mem, List·Memᴰ·head as mhere, List·Memᴰ·tail as mthere, List·Memᴰ·cases-cons as cases-cons, List·Memᴰ·not-nil as not-nil}
 use lib.Dec.{eqb, ltb}
 use lib.ListN.{getD}
-use borrow.Author.Tests.{ltb-true, lt-ltb, ltb-false, eqb-true, eq-eqb}
+use borrow.Author.Tests.{ltb-true, lt-ltb, eqb-true, eq-eqb}
 use Rattle.model.specs.declared.Reference.{Reference}
-use Rattle.overlap.specs.Booleans.{both-true, either-true}
+use Rattle.overlap.specs.Booleans.{both-true, either-true, not-true}
 use Rattle.chains.specs.Graph.{Graph, Dependence}
 use Rattle.chains.specs.Dependence.{backward, forward}
-use Rattle.chains.specs.Legal.{Legal, LegalPlan}
+use Rattle.chains.specs.Legal.{LegalPlan}
 use Rattle.chains.specs.Walk.{Below}
 use Rattle.chains.specs.Unmet.{someOf, leastFrom, missed, lacks, unmet, leastUnmet, Unmet, FirstUnmet}
 
@@ -86,10 +86,6 @@ module _ (f : ℕ → Bool) where
       go : (b : Bool) → leastFrom n (suc k) f ≤ suc k + n → cond b k (leastFrom n (suc k) f) ≤ k + suc n
       go true l = omega arith
       go false l = omega arith
-
-not-true : (b : Bool) → (b ≡ true → ⊥) → b ≡ false
-not-true true n = absurd (n refl)
-not-true false n = refl
 
 -- THE STATEMENTS
 module _ {R : Type 0} (g : Graph R) (miss : R → R → Bool) where

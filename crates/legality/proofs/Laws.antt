@@ -3,43 +3,37 @@ use Prim.Native.Nat.{ℕ, suc, _+_, _-_, _*_, _/_, _%_, _≤_, _<_}
 use native.Mathlib.Omega.{arith}
 use native.Mathlib.Decide.{ℕ-discrete, decLt}
 use native.Mathlib.Nat.{mul-suc, mul-le-mul, mul-le-mul-left}
-use native.Mathlib.Numerals.{add-one}
 use mathlib.Core.Path.{_≡_, refl, sym, ap, subst, _∙_}
 use mathlib.Core.Logic.{_≢_, _⊎_, inl, inr, ⊎-elim}
 use mathlib.Core.Bool.{Bool, true, false, false≢true, _&&_, _||_, or-false, or-true, and-false}
-use mathlib.Core.List.{List, [], _∷_, _++_}
+use mathlib.Core.List.{List, [], _∷_}
 use mathlib.Core.List.{List·Memᴰ as Mem, List·Memᴰ·head as mhere, List·Memᴰ·cases-cons as cases-cons, List·Memᴰ·not-nil as not-nil}
 use lib.Dec.{ltb}
-use lib.ListN.{length, getD, set, List·getD-eq-default}
-use borrow.Author.Tests.{ltb-false, lt-ltb, le-ltb, eq-eqb, ne-eqb}
-use Rattle.overlap.specs.Booleans.{both-true, either-true, same-test}
+use lib.ListN.{getD, set}
+use borrow.Author.Tests.{lt-ltb, le-ltb, eq-eqb, ne-eqb}
+use Rattle.overlap.specs.Booleans.{both-true, either-true, not-true, same-test}
 use Rattle.model.specs.declared.Reference.{Reference}
 use Rattle.model.specs.Table.{Item, read, constant, operation, Table, count}
-use Rattle.model.specs.References.{reads, refs, touch, Touch}
+use Rattle.model.specs.References.{reads, refs, touch}
 use Rattle.reader.specs.Store.{startAt, kindAt, arrayAt, itemsFrom, tableIn}
 use Rattle.reader.specs.Held.{Held, count-held, few-loops, opening-held}
 use Rattle.chains.specs.Dependence.{meetIn, dependence}
 use Rattle.chains.specs.DependenceLaws.{touch-is, dependence-meets, dependence-bounds, none-untouched, earlier}
 use Rattle.chains.specs.TableGraph.{graph}
 use Rattle.chains.specs.Tables.{refs-number, refs-allRefs, allRefs-refs, allRefs-below}
-use Rattle.chains.specs.Unmet.{someOf, leastFrom, missed, lacks, unmet, Unmet}
+use Rattle.chains.specs.Unmet.{someOf, leastFrom, missed, Unmet}
 use Rattle.chains.specs.UnmetLaws.{some-of, of-some, some-append, least-found, least-none, least-is, least-most, below-least, unmet-is, unmet-later, unmet-first, unmet-none}
-use Rattle.amounts.specs.Rows.{refIn, readsIn, row-read, row-other, reads-next, reads-end, refs-in, past-few, row-in, start-in}
+use Rattle.amounts.specs.Rows.{refIn, readsIn, row-read, row-other, reads-next, reads-end, refs-in, row-in, start-in}
 use Rattle.amounts.specs.Walked.{ReferenceFits}
 use Rattle.amounts.specs.declared.Amounts.{Amounts}
-use Rattle.blocks.specs.Sums.{column}
-use Rattle.blocks.specs.SumLaws.{neither, some-each, some-none, some-here}
+use Rattle.blocks.specs.SumLaws.{some-none, some-here}
 use Rattle.refusals.specs.declared.Refusal.{Refusal}
 use Rattle.refusals.specs.Refusals.{none, met, naming}
 use Rattle.refusals.specs.Answers.{accepted, refused, refusalOf}
 use Rattle.legality.specs.Written.{numberAt, filled, amountsIn}
 use Rattle.legality.specs.WrittenLaws.{filled-next}
-use Rattle.legality.specs.ByHand.{tooLarge, firstUnmet, judged, byHand}
-use Rattle.legality.specs.Code.{Within, missing, lacking, between, Storing, withRow, withLoop, unmetIn, leastUnmetIn, numberless, Tells}
-
-pub not-true : (b : Bool) → (b ≡ true → ⊥) → b ≡ false
-not-true true n = absurd (n refl)
-not-true false n = refl
+use Rattle.legality.specs.ByHand.{largeAt, tooLarge, firstUnmet, judged, byHand}
+use Rattle.legality.specs.Code.{missing, lacking, between, withRow, withLoop, unmetIn, leastUnmetIn, numberless, Tells}
 
 -- TWO REFERENCES
 module _ (s p : List ℕ) (x y : Reference) (a b d : ℕ) (a-is : a ≡ getD s (y .number) 0) (b-is : b ≡ getD s (x .number) 0) (d-is : d ≡ y .offset - x .offset) where
@@ -324,26 +318,23 @@ module _ {c : List ℕ} (h : Held c) where
         near i m u = omega (arith, allRefs-refs t (u .x) (u .dependence .from) .0, u .from)
 
 -- NUMBERS that are too large, and such that are not
-abbrev pub LargeAt : Amounts → ℕ → Bool
-LargeAt a k = ltb 10000 (column (a .shifts) k) || ltb 10000 (column (a .peels) k)
-
 pub large-shift : (a : Amounts) (k : ℕ) → k < 16 → 10000 < getD (a .shifts) k 0 → true ≡ tooLarge a
-large-shift a k l m = sym (some-here 16 k (LargeAt a) l (let e = lt-ltb 10000 (getD (a .shifts) k 0) m in rw e))
+large-shift a k l m = sym (some-here 16 k (largeAt a) l (let e = lt-ltb 10000 (getD (a .shifts) k 0) m in rw e))
 
 pub large-peel : (a : Amounts) (k : ℕ) → k < 16 → 10000 < getD (a .peels) k 0 → true ≡ tooLarge a
 large-peel a k l m =
-    sym (some-here 16 k (LargeAt a) l (let e = lt-ltb 10000 (getD (a .peels) k 0) m in rw e (or-true (ltb 10000 (getD (a .shifts) k 0)))))
+    sym (some-here 16 k (largeAt a) l (let e = lt-ltb 10000 (getD (a .peels) k 0) m in rw e (or-true (ltb 10000 (getD (a .shifts) k 0)))))
 
-pub large-next : (a : Amounts) (k : ℕ) → ((i : ℕ) → i < k → LargeAt a i ≡ false) → getD (a .shifts) k 0 ≤ 10000 → getD (a .peels) k 0 ≤ 10000
-    → (i : ℕ) → i < k + 1 → LargeAt a i ≡ false
+pub large-next : (a : Amounts) (k : ℕ) → ((i : ℕ) → i < k → largeAt a i ≡ false) → getD (a .shifts) k 0 ≤ 10000 → getD (a .peels) k 0 ≤ 10000
+    → (i : ℕ) → i < k + 1 → largeAt a i ≡ false
 large-next a k f l m i u = go (ℕ-discrete i k)
   where
-    go : Dec (i ≡ k) → LargeAt a i ≡ false
+    go : Dec (i ≡ k) → largeAt a i ≡ false
     go (yes q) = let d = le-ltb 10000 (getD (a .shifts) k 0) l in let e = le-ltb 10000 (getD (a .peels) k 0) m in rw (q, d, e)
     go (no q) = f i (omega arith)
 
-pub large-end : (a : Amounts) (k : ℕ) → 16 ≤ k → ((i : ℕ) → i < k → LargeAt a i ≡ false) → false ≡ tooLarge a
-large-end a k l f = sym (some-none 16 (LargeAt a) (λ i u. f i (omega arith)))
+pub large-end : (a : Amounts) (k : ℕ) → 16 ≤ k → ((i : ℕ) → i < k → largeAt a i ≡ false) → false ≡ tooLarge a
+large-end a k l f = sym (some-none 16 (largeAt a) (λ i u. f i (omega arith)))
 
 -- WHAT THEY ARE REFUSED WITH
 module _ (t : Table) (a : Amounts) where

@@ -13,9 +13,12 @@ use Rattle.blocks.specs.Sums.{some, column}
 use Rattle.amounts.specs.declared.Amounts.{Amounts}
 use Rattle.legality.specs.Written.{amountsIn}
 
--- some shift or peel is above 10,000
+-- the shift or the peel of loop k is above 10,000; that of some loop is
+abbrev pub largeAt : Amounts → ℕ → Bool
+largeAt a k = ltb 10000 (column (a .shifts) k) || ltb 10000 (column (a .peels) k)
+
 abbrev pub tooLarge : Amounts → Bool
-tooLarge a = some 16 (λ k. ltb 10000 (column (a .shifts) k) || ltb 10000 (column (a .peels) k))
+tooLarge a = some 16 (largeAt a)
 
 -- shifts and peels for the table t
 module _ (t : Table) (a : Amounts) where

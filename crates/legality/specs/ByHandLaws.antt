@@ -1,30 +1,28 @@
 -- Laws of plans by hand: what an accepted one is, and of legal numbers that they are accepted.
-use Prim.Native.Nat.{ℕ, _+_, _*_, _/_, _%_, _≤_, _<_}
+use Prim.Native.Nat.{ℕ, _*_, _/_, _%_, _≤_, _<_}
 use native.Mathlib.Omega.{arith}
 use native.Mathlib.Decide.{decLt}
-use mathlib.Core.Path.{_≡_, refl, sym, ap, subst, _∙_}
-use mathlib.Core.Logic.{_⊎_, ⊎-elim}
-use mathlib.Core.Bool.{Bool, true, false, not, _||_}
+use mathlib.Core.Path.{_≡_, refl, sym, subst}
+use mathlib.Core.Bool.{Bool, true, false, not}
 use mathlib.Core.List.{List}
 use lib.Dec.{eqb, ltb}
 use lib.ListN.{length, getD, List·getD-eq-default}
 use borrow.Author.Tests.{eqb-true, eq-eqb, ltb-false, le-ltb}
 use Rattle.refusals.specs.declared.Refusal.{Refusal}
 use Rattle.refusals.specs.Refusals.{met, naming}
-use Rattle.refusals.specs.Answers.{accepted, refused, _if_else_, Only}
+use Rattle.refusals.specs.Answers.{accepted, refused, Only}
 use Rattle.refusals.specs.AnswerLaws.{if-accepted, if-only, accepted-only}
 use Rattle.model.specs.Table.{Table, count}
 use Rattle.chains.specs.TableGraph.{graph}
 use Rattle.chains.specs.Tables.{allRefs-below}
 use Rattle.chains.specs.Legal.{LegalPlan}
-use Rattle.chains.specs.Unmet.{missed, leastUnmet}
+use Rattle.chains.specs.Unmet.{missed}
 use Rattle.chains.specs.UnmetLaws.{least-small, none-unmet, unmet-none, met-legal, legal-met}
-use Rattle.blocks.specs.Sums.{column}
 use Rattle.blocks.specs.SumLaws.{neither, some-each, some-none}
 use Rattle.amounts.specs.declared.Amounts.{Amounts}
-use Rattle.legality.specs.Written.{numberAt, filled, amountsIn}
+use Rattle.legality.specs.Written.{amountsIn}
 use Rattle.legality.specs.WrittenLaws.{filled-length}
-use Rattle.legality.specs.ByHand.{tooLarge, firstUnmet, judged, byHand}
+use Rattle.legality.specs.ByHand.{largeAt, tooLarge, firstUnmet, judged, byHand}
 use Rattle.legality.specs.Code.{Within}
 
 not-false : (b : Bool) → not b ≡ false → b ≡ true
@@ -33,9 +31,6 @@ not-false false e = sym e
 
 -- numbers that are not too large, and the other way round
 module _ (a : Amounts) where
-  abbrev largeAt : ℕ → Bool
-  largeAt k = ltb 10000 (column (a .shifts) k) || ltb 10000 (column (a .peels) k)
-
   pub not-large : length (a .shifts) ≡ 16 → length (a .peels) ≡ 16 → tooLarge a ≡ false → Within (a .shifts) (a .peels)
   not-large l m e = record { shifts-long = l; peels-long = m; shifts-small = λ k. small k .0; peels-small = λ k. small k .1 }
     where
@@ -44,14 +39,14 @@ module _ (a : Amounts) where
         where
           go : Dec (k < 16) → (getD (a .shifts) k 0 ≤ 10000) × (getD (a .peels) k 0 ≤ 10000)
           go (yes i) =
-              let (u, v) = neither (ltb 10000 (getD (a .shifts) k 0)) (ltb 10000 (getD (a .peels) k 0)) (some-each 16 k largeAt e i) in
+              let (u, v) = neither (ltb 10000 (getD (a .shifts) k 0)) (ltb 10000 (getD (a .peels) k 0)) (some-each 16 k (largeAt a) e i) in
               (ltb-false _ _ u, ltb-false _ _ v)
           go (no i) =
               (omega (arith, List·getD-eq-default (a .shifts) 0 {n = k} (omega arith)), omega (arith, List·getD-eq-default (a .peels) 0 {n = k} (omega arith)))
 
   pub within-fine : ((k : ℕ) → getD (a .shifts) k 0 ≤ 10000) → ((k : ℕ) → getD (a .peels) k 0 ≤ 10000) → tooLarge a ≡ false
   within-fine s p =
-      some-none 16 largeAt (λ k l. let d = le-ltb 10000 (getD (a .shifts) k 0) (s k) in let e = le-ltb 10000 (getD (a .peels) k 0) (p k) in rw (d, e))
+      some-none 16 (largeAt a) (λ k l. let d = le-ltb 10000 (getD (a .shifts) k 0) (s k) in let e = le-ltb 10000 (getD (a .peels) k 0) (p k) in rw (d, e))
 
 -- THE LAW of an accepted plan by hand: 8 bytes a loop, no number above 10,000, every dependence met
 pub record HandFits (t : Table) (n : ℕ) (bs : List ℕ) (a : Amounts) : Type 0 where

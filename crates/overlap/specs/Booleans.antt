@@ -11,6 +11,10 @@ pub either-true : (a b : Bool) → (a || b) ≡ true → (a ≡ true) ⊎ (b ≡
 either-true true b e = inl refl
 either-true false b e = inr e
 
+pub not-true : (b : Bool) → (b ≡ true → ⊥) → b ≡ false
+not-true true n = absurd (n refl)
+not-true false n = refl
+
 -- two tests that hold together are one
 pub same-test : (a b : Bool) → (a ≡ true → b ≡ true) → (b ≡ true → a ≡ true) → a ≡ b
 same-test true b f g = sym (f refl)

@@ -1,42 +1,32 @@
 use mathlib.Core.Path.{_∙_, sym}
-use Rattle.reader.specs.Store.{tableIn}
-use mathlib.Core.Path.{_∙_, sym, ap}
 use native.Mathlib.Omega.{arith}
 use denote.Ref.{now}
-use Rattle.amounts.specs.Rows.{past-few, start-in}
+use Rattle.amounts.specs.Rows.{past-few}
 use Rattle.legality.proofs.Laws.{read-fits, touch-stores, row-here, row-none, row-apart}
 use borrow.Author.Needs.{needs}
 use Rattle.legality.proofs.lacks_row.Statement.{statement}
 use Rattle.legality.proofs.lacks_row.Tie as tie
-use Rattle.legality.proofs.lacks_row.Reads as reads
-use Rattle.legality.proofs.lacks_row.Lts as lts
-use Rattle.amounts.proofs.reference_at.Reads as reference-at-reads
-use Rattle.arithmetic.proofs.wide.Reads as wide-reads
-use Rattle.legality.proofs.lacks_between.Reads as lacks-between-reads
-use Rattle.reader.proofs.array_at.Reads as array-at-reads
-use Rattle.reader.proofs.kind_at.Reads as kind-at-reads
 
--- src/lib.rt:134:13
 array-at-requires : tie.Need-array-at-requires
 array-at-requires c κs = let p = c .pre in omega (arith, p .1 .2, past-few (p .0 .0) _ (p .1 .0 .there))
 
--- src/lib.rt:134:8
-wide-requires : tie.Need-wide-requires
-wide-requires c κs = search needs
-
--- src/lib.rt:135:9
 returns : tie.Need-returns
-returns c = let b = c .before .before .before .before in let a = b .args in row-apart (b .pre .0 .0) (now (a .shifts)) (now (a .peels)) (a .x) (a .k) (a .r) (λ e. c .if1 .taken (c .before .before .wide .ensures .0 ∙ c .before .before .before .array-at .ensures ∙ sym e))
+returns c =
+    let b = c .before .before .before .before in
+    let a = b .args in
+    row-apart (b .pre .0 .0) (now (a .shifts)) (now (a .peels)) (a .x) (a .k) (a .r)
+    (λ e. c .if1 .taken (c .before .before .wide .ensures .0 ∙ c .before .before .before .array-at .ensures ∙ sym e))
 
--- src/lib.rt:137:8
 kind-at-requires : tie.Need-kind-at-requires
-kind-at-requires c κs = let p = c .before .before .before .before .pre in omega (arith, p .1 .2, past-few (p .0 .0) _ (p .1 .0 .there))
+kind-at-requires c κs =
+    let p = c .before .before .before .before .pre in
+    omega (arith, p .1 .2, past-few (p .0 .0) _ (p .1 .0 .there))
 
--- src/lib.rt:138:13
 reference-at-requires : tie.Need-reference-at-requires
-reference-at-requires c κs = let p = c .before .before .before .before .before .before .pre in omega (arith, p .1 .2, past-few (p .0 .0) _ (p .1 .0 .there))
+reference-at-requires c κs =
+    let p = c .before .before .before .before .before .before .pre in
+    omega (arith, p .1 .2, past-few (p .0 .0) _ (p .1 .0 .there))
 
--- src/lib.rt:139:9
 lacks-between-requires : tie.Need-lacks-between-requires
 lacks-between-requires c κs = let b = c .before .before .before .before .before .before .before in
     let a = b .args in
@@ -46,19 +36,21 @@ lacks-between-requires c κs = let b = c .before .before .before .before .before
     rw (c .reference-at .ensures)
     (p .0, (p .1 .0 .fits, read-fits (p .0 .0) (a .k) (p .1 .0 .there) (a .r) (p .1 .2) kind, p .1 .0 .other, touch-stores (a .x) _ (p .1 .0 .stores) array))
 
--- src/lib.rt:139:9
 returns-2 : tie.Need-returns-2
 returns-2 c = let b = c .before .before .before .before .before .before .before .before in
     let a = b .args in
     let kind = sym (c .before .before .before .kind-at .ensures) ∙ c .before .before .if2 .taken in
-    row-here (b .pre .0 .0) (now (a .shifts)) (now (a .peels)) (a .x) (a .k) (a .r) _ kind (rw (c .before .reference-at .ensures) at (c .lacks-between .ensures))
+    row-here (b .pre .0 .0) (now (a .shifts)) (now (a .peels)) (a .x) (a .k) (a .r) _ kind
+    (rw (c .before .reference-at .ensures) at (c .lacks-between .ensures))
 
--- src/lib.rt:122:1
 returns-3 : tie.Need-returns-3
-returns-3 c = let b = c .before .before .before .before .before .before in let a = b .args in row-none (b .pre .0 .0) (now (a .shifts)) (now (a .peels)) (a .x) (a .k) (a .r) (λ e. c .if2 .left (c .before .kind-at .ensures ∙ e))
+returns-3 c =
+    let b = c .before .before .before .before .before .before in
+    let a = b .args in
+    row-none (b .pre .0 .0) (now (a .shifts)) (now (a .peels)) (a .x) (a .k) (a .r) (λ e. c .if2 .left (c .before .kind-at .ensures ∙ e))
 
 pub lacks-row-spec : {M : Type 1} → statement M
 lacks-row-spec =
     tie.close (tie.spec
-    array-at-requires wide-requires returns kind-at-requires reference-at-requires lacks-between-requires returns-2
-    returns-3)
+    array-at-requires (λ c κs. search needs) returns kind-at-requires reference-at-requires lacks-between-requires
+    returns-2 returns-3)

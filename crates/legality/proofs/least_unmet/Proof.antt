@@ -1,17 +1,10 @@
 use denote.Ref.{now}
 use native.Mathlib.Omega.{arith}
-use mathlib.Core.Path.{_≡_, _∙_, sym, refl}
-use borrow.Author.Needs.{needs}
-use Rattle.reader.specs.Store.{tableIn}
-use Prim.Native.Nat.{ℕ, _+_, _-_, _*_, _≤_, _<_}
+use Prim.Native.Nat.{_-_}
 use Rattle.reader.specs.Held.{count-held}
 use Rattle.legality.proofs.Laws.{count-few, NoneFromOf, from-next, all-found, all-none}
 use Rattle.legality.proofs.least_unmet.Statement.{statement}
 use Rattle.legality.proofs.least_unmet.Tie as tie
-use Rattle.legality.proofs.least_unmet.Reads as reads
-use Rattle.legality.proofs.least_unmet.Lts as lts
-use Rattle.legality.proofs.lowest_later.Reads as lowest-later-reads
-use Rattle.reader.proofs.loops_in.Reads as loops-in-reads
 
 abbrev Inv-loop : tie.InvT-loop
 Inv-loop store shifts peels loops j₀ j = NoneFromOf store shifts peels j
@@ -19,27 +12,28 @@ Inv-loop store shifts peels loops j₀ j = NoneFromOf store shifts peels j
 abbrev μ-loop : tie.MeasureT-loop
 μ-loop store shifts peels loops j₀ j = loops - j
 
--- src/lib.rt:209:9
 loops-in-requires : tie.Need-loops-in-requires Inv-loop μ-loop
 loops-in-requires c κs = tt
 
--- src/lib.rt:211:5
 loop-holds : tie.Need-loop-holds Inv-loop μ-loop
 loop-holds c = λ i m l. absurd (omega arith)
 
--- src/lib.rt:212:13
 lowest-later-requires : tie.Need-lowest-later-requires Inv-loop μ-loop
-lowest-later-requires c κs = let p = c .before .before .before .pre in (p .0, p .1, omega (arith, c .loop-test .taken, c .before .before .loops-in .ensures, count-held (p .0)))
+lowest-later-requires c κs =
+    let p = c .before .before .before .pre in
+    (p .0, p .1, omega (arith, c .loop-test .taken, c .before .before .loops-in .ensures, count-held (p .0)))
 
--- src/lib.rt:214:20
 mul-result : tie.Need-mul-result Inv-loop μ-loop
-mul-result c = let p = c .before .before .before .before .before .pre in omega (arith, c .before .before .loop-test .taken, c .before .before .before .before .loops-in .ensures, count-held (p .0), count-few (p .0))
+mul-result c =
+    let p = c .before .before .before .before .before .pre in
+    omega (arith, c .before .before .loop-test .taken, c .before .before .before .before .loops-in .ensures, count-held (p .0), count-few (p .0))
 
--- src/lib.rt:214:20
 add-result : tie.Need-add-result Inv-loop μ-loop
-add-result c = let p = c .before .before .before .before .before .pre in omega (arith, c .before .before .loop-test .taken, c .before .before .before .before .loops-in .ensures, count-held (p .0), count-few (p .0), c .if1 .taken)
+add-result c =
+    let p = c .before .before .before .before .before .pre in
+    omega
+    (arith, c .before .before .loop-test .taken, c .before .before .before .before .loops-in .ensures, count-held (p .0), count-few (p .0), c .if1 .taken)
 
--- src/lib.rt:214:13
 returns : tie.Need-returns Inv-loop μ-loop
 returns c = let b = c .before .before .before .before .before in
     let a = b .args in
@@ -47,22 +41,17 @@ returns c = let b = c .before .before .before .before .before in
     let l = c .before .before .before .loop in
     (all-found (p .0) (now (a .shifts)) (now (a .peels)) (l .j) _ (l .inv) (c .before .lowest-later .ensures) (c .if1 .taken), omega (arith, c .if1 .taken, c .before .before .loop-test .taken, c .before .before .before .before .loops-in .ensures, count-held (p .0), count-few (p .0)))
 
--- src/lib.rt:216:9
 add-j : tie.Need-add-j Inv-loop μ-loop
-add-j c = let p = c .before .before .before .before .before .pre in omega (arith, c .before .before .loop-test .taken, c .before .before .before .before .loops-in .ensures, count-held (p .0), count-few (p .0))
+add-j c =
+    let p = c .before .before .before .before .before .pre in
+    omega (arith, c .before .before .loop-test .taken, c .before .before .before .before .loops-in .ensures, count-held (p .0), count-few (p .0))
 
--- src/lib.rt:211:5
-loop-less : tie.Need-loop-less Inv-loop μ-loop
-loop-less c = omega arith
-
--- src/lib.rt:211:5
 loop-again : tie.Need-loop-again Inv-loop μ-loop
 loop-again c = let b = c .before .before .before .before .before in
     let a = b .args in
     let l = c .before .before .before .loop in
     from-next (b .pre .0) (now (a .shifts)) (now (a .peels)) (l .j) _ (l .inv) (c .before .lowest-later .ensures) (omega (arith, c .if1 .left))
 
--- src/lib.rt:205:1
 returns-2 : tie.Need-returns-2 Inv-loop μ-loop
 returns-2 c = let b = c .before .before .before in
     let a = b .args in
@@ -72,5 +61,5 @@ returns-2 c = let b = c .before .before .before in
 pub least-unmet-spec : {M : Type 1} → statement M
 least-unmet-spec =
     tie.close (tie.spec
-    Inv-loop μ-loop loops-in-requires loop-holds lowest-later-requires mul-result add-result returns add-j loop-less
-    loop-again returns-2)
+    Inv-loop μ-loop loops-in-requires loop-holds lowest-later-requires mul-result add-result returns add-j
+    (λ c. omega arith) loop-again returns-2)
