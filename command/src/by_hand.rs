@@ -7,12 +7,12 @@ use crate::options::Options;
 use crate::outcome::Failure;
 use crate::outputs;
 use crate::pieces::Piece;
-use crate::records::decode;
+use crate::records::{decode, Loop};
 use crate::wording::{counted, in_one_line, quoted};
 use std::io::Read;
 use vempaldi::{check_plan, facts, shifts_and_peels, Amounts, Refusal, Settings, MOST_AMOUNT};
 
-/// No more of a file is read: 16 loops need far less, also with comments.
+/// No more of a file is read: 16 loops need far less, and what `--write-plan` writes leaves out what would not fit.
 const MOST_BYTES: usize = 65_536;
 
 /// The settings with the plan of a file.
@@ -54,7 +54,7 @@ fn amount(word: &str) -> Result<u32, String> {
     let digits = word.bytes().all(|one| one.is_ascii_digit());
     let number = word.parse().ok().filter(|_| digits);
     number.ok_or_else(|| match digits {
-        true => format!("{} is above {MOST_AMOUNT}", quoted(word)),
+        true => format!("{} does not fit four bytes", quoted(word)),
         false => format!("{} is no whole number", quoted(word)),
     })
 }
@@ -64,7 +64,12 @@ pub fn wrong_form(table: &[u8], settings: &Settings) -> Option<String> {
     let (loops, length) = (facts(table).ok()?.loops.len(), settings.plan_length()? as usize);
     if length != 8 * loops {
         let least = if length > MOST_BYTES { "at least " } else { "" };
-        let pairs = if length > 0 && length % 8 == 0 { format!(" ({})", counted(length / 8, "pair")) } else { String::new() };
+        // A text has whole pairs, so of another length it was taken for bytes.
+        let pairs = match length % 8 {
+            0 if length > 0 => format!(" ({})", counted(length / 8, "pair")),
+            0 => String::new(),
+            _ => " (read as bytes: it is no text in UTF-8)".to_string(),
+        };
         let need = if loops == 1 { "needs" } else { "need" };
         let needed = format!("{} {need} {} ({})", counted(loops, "loop"), 8 * loops, counted(loops, "pair"));
         return Some(format!("the plan has {least}{}{pairs}, {needed}", counted(length, "byte")));
@@ -101,14 +106,21 @@ pub fn write(options: &Options, input: &Input, settings: Settings) -> Result<(),
     }
 }
 
-/// A line for each loop, which a comment names.
+/// A line for each loop, which a comment names, with its statement where all of it can be read again.
 fn text(input: &Input, amounts: &[Amounts]) -> String {
-    let mut all = format!("# SHIFT PEEL of each loop of {}, in table order\n", in_one_line(&input.name));
-    for (k, (one, own)) in decode(&input.table).0.loops.iter().zip(amounts).enumerate() {
-        let said = assignment(one, &input.names).map_or(String::new(), |infix| infix.text);
-        all += &format!("{:<11} # loop {k}, i = {} to {}: {said}\n", format!("{} {}", own.shift, own.peel), one.first, one.last);
+    let loops = decode(&input.table).0.loops;
+    let rows = |said: &dyn Fn(&Loop) -> String| -> String {
+        let row = |(k, (one, own)): (usize, (&Loop, &Amounts))| {
+            format!("{:<11} # loop {k}, i = {} to {}{}\n", format!("{} {}", own.shift, own.peel), one.first, one.last, said(one))
+        };
+        loops.iter().zip(amounts).enumerate().map(row).collect()
+    };
+    let whole = rows(&|one| assignment(one, &input.names).map_or(String::new(), |infix| format!(": {}", infix.text)));
+    let head = format!("# SHIFT PEEL of each loop of {}, in table order\n", in_one_line(&input.name));
+    match head.len() + whole.len() {
+        0..=MOST_BYTES => head + &whole,
+        _ => "# SHIFT PEEL of each loop, in table order\n".to_string() + &rows(&|_| String::new()),
     }
-    all
 }
 
 #[cfg(test)]
@@ -129,7 +141,7 @@ mod tests {
         assert_eq!(told("0 0 0"), Err(format!("a.hand:1: 3 words in this line; {form}")));
         assert_eq!(told("0 0\n\n1 -1"), Err(format!("a.hand:3: '-1' is no whole number; {form}")));
         assert_eq!(told("0 +1"), Err(format!("a.hand:1: '+1' is no whole number; {form}")));
-        assert_eq!(told("0 4294967296"), Err(format!("a.hand:1: '4294967296' is above 10000; {form}")));
+        assert_eq!(told("0 4294967296"), Err(format!("a.hand:1: '4294967296' does not fit four bytes; {form}")));
     }
 
     #[test]

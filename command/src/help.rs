@@ -123,8 +123,9 @@ line SHIFT PEEL for each loop, in table order, # to the end of a line being a co
 or the same numbers in bytes, four each, the lowest first. Numbers are 0 to 10000, else it is
 refused with 19. For each dependence the later loop's shift must be at least the earlier's plus the
 backward amount, its peel at least the earlier's plus the forward amount, else it is refused with
-20, which says the loops, the references and the number that would do. What has no character but
-those of a text is one; a line of it that is not two numbers is an input error.
+20, which says the loops, the references and the least number that this dependence asks for. What
+has no character but those of a text is one; a line of it that is not two numbers of at most
+4294967295 is an input error.
 ";
 
 const JSON: &str = "

@@ -45,8 +45,9 @@ fn what_is_no_plan_for_the_table_is_19() {
         (b"# nothing\n", "the plan has 0 bytes, 2 loops need 16 (2 pairs)"),
         (b"0 0\n", "the plan has 8 bytes (1 pair), 2 loops need 16 (2 pairs)"),
         (b"0 0\n1 1\n2 2\n", "the plan has 24 bytes (3 pairs), 2 loops need 16 (2 pairs)"),
-        (b"\0", "the plan has 1 byte, 2 loops need 16 (2 pairs)"),
-        (long, "the plan has 17 bytes, 2 loops need 16 (2 pairs)"),
+        (b"\0", "the plan has 1 byte (read as bytes: it is no text in UTF-8), 2 loops need 16 (2 pairs)"),
+        (long, "the plan has 17 bytes (read as bytes: it is no text in UTF-8), 2 loops need 16 (2 pairs)"),
+        (b"0 0 # h\xf6\n1 1\n", "the plan has 13 bytes (read as bytes: it is no text in UTF-8), 2 loops need 16 (2 pairs)"),
         (b"0 0\n10001 1\n", "shift 10001 of loop 1, allowed are 0 to 10000"),
         (b"10000 10000\n10001 1\n", "shift 10001 of loop 1, allowed are 0 to 10000"),
         (b"0 10001\n99999 10002\n", "peel 10001 of loop 0, allowed are 0 to 10000"),
@@ -65,7 +66,7 @@ fn what_is_no_plan_for_the_table_is_19() {
 #[test]
 fn a_file_without_end_is_19_too() {
     let endless = run(&["plan", EXAMPLE, "-p2", "--plan", "/dev/zero"]);
-    let said = "the plan has at least 65537 bytes, 2 loops need 16 (2 pairs)";
+    let said = "the plan has at least 65537 bytes (read as bytes: it is no text in UTF-8), 2 loops need 16 (2 pairs)";
     is(&endless, 1, "", &format!("examples/example.table: refused 19 plan: {said}\n"));
     let told = planned("0 0 \n".repeat(20_000), &[]);
     let said = "-: more than 65536 bytes are no text of a plan";
@@ -247,6 +248,16 @@ fn a_written_plan_is_read_again() {
             assert_eq!(by_hand.out.replace("\"by_hand\":true", "\"by_hand\":false"), found.out, "{file}");
         }
     }
+    // Statements that would make it longer than what is read of a plan are left out.
+    let name = "A".repeat(30_000);
+    let long = format!("array {name} 20\narray B 20\nloop 1 10 -> {name}[i]: 1\nloop 1 10 -> B[i]: {name}[i-1] {name}[i+1] +\n");
+    assert_eq!(fed(&["plan", "-", "-p2", "--write-plan", &out.0], long.as_bytes()).status, 0);
+    let short = std::fs::read_to_string(&out.0).expect("written");
+    let wanted_short = "# SHIFT PEEL of each loop, in table order\n\
+                        0 0         # loop 0, i = 1 to 10\n\
+                        1 1         # loop 1, i = 1 to 10\n";
+    assert_eq!(short, wanted_short);
+    assert_eq!(fed(&["plan", "-", "-p2", "--plan", &out.0], long.as_bytes()).status, 0);
     // With --plan it is that plan, whatever its form was.
     let bytes = PlanFile::new("bytes.hand", [0, 0, 0, 0, 0, 0, 0, 0, 2, 0, 0, 0, 1, 0, 0, 0]);
     is(&run(&["plan", EXAMPLE, "-p2", "--plan", &bytes.0, "--write-plan", &out.0]), 0, LISTING, "");

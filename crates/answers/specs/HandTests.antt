@@ -19,7 +19,7 @@ use Rattle.chains.specs.UnmetLaws.{missed-is, first-unmet, unmet-first}
 use Rattle.blocks.specs.SumLaws.{some-which, some-here}
 use Rattle.amounts.specs.declared.Amounts.{Amounts}
 use Rattle.legality.specs.Written.{numberAt, amountsIn}
-use Rattle.legality.specs.WrittenLaws.{filled-here, filled-past}
+use Rattle.legality.specs.WrittenLaws.{pair-read, amount-past}
 use Rattle.legality.specs.ByHand.{largeAt, tooLarge, firstUnmet}
 use Rattle.plans.specs.Plans.{Settings}
 use Rattle.answers.specs.Statements.{handShift, handPeel, NotAPlan, NotMet, FirstNotMet}
@@ -34,10 +34,10 @@ module _ (t : Table) (few : count t ≤ 16) (w : Settings) where
   numbers = amountsIn 2 0 (count t) (w .plan)
 
   shift-here : (k : ℕ) → k < count t → getD (numbers .shifts) k 0 ≡ handShift w k
-  shift-here k l = let e : 2 * k + 0 ≡ 2 * k = omega arith in filled-here _ (count t) k few l ∙ ap (numberAt (w .plan)) e
+  shift-here k l = pair-read (count t) (w .plan) k few l .0
 
   peel-here : (k : ℕ) → k < count t → getD (numbers .peels) k 0 ≡ handPeel w k
-  peel-here k l = let e : 2 * k + 0 + 1 ≡ 2 * k + 1 = omega arith in filled-here _ (count t) k few l ∙ ap (numberAt (w .plan)) e
+  peel-here k l = pair-read (count t) (w .plan) k few l .1
 
   -- 19
   large-is : Decides (tooLarge numbers) ((k : ℕ) × (k < count t) × ((10000 < handShift w k) ⊎ (10000 < handPeel w k)))
@@ -50,8 +50,8 @@ module _ (t : Table) (few : count t ≤ 16) (w : Settings) where
             (either _ _ (below 10000 (getD (numbers .shifts) k 0)) (below 10000 (getD (numbers .peels) k 0)) .0 e),
       )
       at k (no l) e =
-          absurd (⊎-elim (λ h. omega (arith, h, filled-past (λ k. numberAt (w .plan) (2 * k + 0)) (count t) k (omega arith)))
-          (λ h. omega (arith, h, filled-past (λ k. numberAt (w .plan) (2 * k + 0 + 1)) (count t) k (omega arith)))
+          absurd (⊎-elim (λ h. omega (arith, h, amount-past 2 0 (count t) (w .plan) k (omega arith) .0))
+          (λ h. omega (arith, h, amount-past 2 0 (count t) (w .plan) k (omega arith) .1))
           (either _ _ (below 10000 (getD (numbers .shifts) k 0)) (below 10000 (getD (numbers .peels) k 0)) .0 e))
 
       given : tooLarge numbers ≡ true → (k : ℕ) × (k < count t) × ((10000 < handShift w k) ⊎ (10000 < handPeel w k))

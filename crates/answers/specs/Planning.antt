@@ -1,5 +1,5 @@
 -- Every call that plans goes by the planner's answer, whatever the settings are. Where that refuses, the call is refused with the same and leaves all
--- as found, whatever else it is given; so 10, 17 and 11 are given by each of them wherever the planner gives them. Where it accepts, what the call
+-- as found, whatever else it is given; so 19, 20, 10, 17 and 11 are given by each of them wherever the planner gives them. Where it accepts, what the call
 -- gives is of that plan. Of the listing printing's Given says it. Laws alone.
 use Prim.Native.Nat.{ℕ}
 use mathlib.Core.Path.{_≡_}

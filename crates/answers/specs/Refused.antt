@@ -204,14 +204,14 @@ module _ (s : List ℕ) where
   read-some = told-some s
 
   module _ (w : Settings) where
-    hand-some : Nonzero (HandRefused s w)
-    hand-some r (read h) z = read-some r h z
-    hand-some r (nineteen t e g h) z = omega (arith, z)
-    hand-some r (twenty t j k e g n h) z = omega (arith, z)
+    hand-nonzero : Nonzero (HandRefused s w)
+    hand-nonzero r (read h) z = read-some r h z
+    hand-nonzero r (nineteen t e g h) z = omega (arith, z)
+    hand-nonzero r (twenty t j k e g n h) z = omega (arith, z)
 
     pub fit-some : (Bad : Type 0) → Nonzero (FitRefused s w Bad)
     fit-some Bad =
-        then-some (table s) (LineRefused s w Bad) (then-some (table s) (CountRefused s w Bad) (then-some (table s) (HandRefused s w) hand-some 10 _ (omega arith)) 17 _ (omega arith))
+        then-some (table s) (LineRefused s w Bad) (then-some (table s) (CountRefused s w Bad) (then-some (table s) (HandRefused s w) hand-nonzero 10 _ (omega arith)) 17 _ (omega arith))
         11 _ (omega arith)
 
     pub step-some : (b : ℕ) (counts : List ℕ) (m : List Float) → Nonzero (StepRefused s w b counts m)

@@ -39,7 +39,7 @@ either x y {A} {B} f g = (to x y refl refl, ⊎-elim (λ a. left (f .1 a)) (λ b
     right : y ≡ true → (x || y) ≡ true
     right e = rw e (or-true x)
 
-pub both : (x y : Bool) {A B : Type 0} → Decides x A → Decides y B → Decides (x && y) (A × B)
+both : (x y : Bool) {A B : Type 0} → Decides x A → Decides y B → Decides (x && y) (A × B)
 both x y {A} {B} f g = (to x y refl refl, λ (a, b). rw (f .1 a, g .1 b))
   where
     to : (u v : Bool) → x ≡ u → y ≡ v → (u && v) ≡ true → A × B

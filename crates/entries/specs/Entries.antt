@@ -1,4 +1,4 @@
--- The numbers that each entry gives, four bytes each, or the refusal: 1 to 9, then 10, 17 and 11 where a plan is asked for, then 13.
+-- The numbers that each entry gives, four bytes each, or the refusal: 1 to 9, then 19, 20, 10, 17 and 11 where a plan is asked for, then 13.
 use Prim.Native.Nat.{ℕ, zero, suc, _-_}
 use mathlib.Core.Bool.{cond}
 use mathlib.Core.List.{List, [], _∷_}

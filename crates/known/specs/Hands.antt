@@ -7,6 +7,7 @@ use Rattle.refusals.specs.Refusals.{none, met, naming}
 use Rattle.refusals.specs.Answers.{refusalOf}
 use Rattle.chains.specs.Maximum.{maximumBelow}
 use Rattle.plans.specs.Plans.{settings, onLines, withPlan, planned, plannedFor}
+use Rattle.legality.specs.Written.{amountsIn}
 use Rattle.plans.specs.Checking.{thresholdIn}
 use Rattle.known.specs.Records.{array, ahead, store, one, add, end, number, times}
 use Rattle.known.specs.Bytes.{beside, example, three, storeAfterRead, storedThenRead, itself}
@@ -15,6 +16,10 @@ use Rattle.known.specs.Computed.{refusalFor}
 -- a plan by hand for two loops: shift and peel of the first, shift and peel of the second
 abbrev pub plan2 : ℕ → ℕ → ℕ → ℕ → List ℕ
 plan2 a b c d = number a ++ number b ++ number c ++ number d
+
+-- eight numbers, from 1 to 8
+abbrev pub eight : List ℕ
+eight = plan2 1 2 3 4 ++ plan2 5 6 7 8
 
 -- what it is refused with, for P processors and lines of one index
 unfoldable pub handedTo : List ℕ → ℕ → List ℕ → Refusal
@@ -95,6 +100,11 @@ pub record Hands : Type 0 where
   -- numbers have their least byte first: 256, and 1 in its highest byte, which is above 10,000
   pub second-byte : thresholdIn (planned example (withPlan (number 0 ++ number 0 ++ 0 ∷ 1 ∷ 0 ∷ 0 ∷ number 1) (settings 1))) ≡ 257
   pub last-byte : handedTo example 1 (number 0 ++ number 0 ++ number 1 ++ 1 ∷ 0 ∷ 0 ∷ 1 ∷ []) ≡ met 19 0
+  -- read with a stride: of loops with four numbers each the first two, and the last two
+  pub stride-first : amountsIn 4 0 2 eight .shifts ≡ 1 ∷ 5 ∷ times 14 (0 ∷ [])
+  pub stride-first-peels : amountsIn 4 0 2 eight .peels ≡ 2 ∷ 6 ∷ times 14 (0 ∷ [])
+  pub stride-second : amountsIn 4 2 2 eight .shifts ≡ 3 ∷ 7 ∷ times 14 (0 ∷ [])
+  pub stride-second-peels : amountsIn 4 2 2 eight .peels ≡ 4 ∷ 8 ∷ times 14 (0 ∷ [])
   -- any number but 0 says that a plan is given; without it no byte is looked at; behind its bytes neither
   pub given-seven : refusalOf (planned example (record { processors = 1; line = 1; given = 7; size = 16; plan = plan2 0 0 0 0 })) ≡ naming 20 0 1 0
   pub not-given : thresholdIn (planned example (record { processors = 1; line = 1; given = 0; size = 16; plan = plan2 0 0 0 0 })) ≡ 2
@@ -153,6 +163,10 @@ hands = record {
   threshold-refused = refl;
   second-byte = refl;
   last-byte = refl;
+  stride-first = refl;
+  stride-first-peels = refl;
+  stride-second = refl;
+  stride-second-peels = refl;
   given-seven = refl;
   not-given = refl;
   bytes-behind = refl;

@@ -1,5 +1,5 @@
 -- Laws of the numbers of a plan by hand: one for each of sixteen loops, 0 past the last.
-use Prim.Native.Nat.{ℕ, zero, suc, _+_, _≤_, _<_}
+use Prim.Native.Nat.{ℕ, zero, suc, _+_, _*_, _≤_, _<_}
 use native.Mathlib.Omega.{arith}
 use native.Mathlib.Decide.{decLt}
 use native.Mathlib.Numerals.{add-one}
@@ -9,7 +9,7 @@ use mathlib.Core.List.{List, [], _∷_}
 use lib.Dec.{ltb}
 use lib.ListN.{length, getD, set, replicate}
 use borrow.Author.Tests.{lt-ltb, le-ltb}
-use Rattle.legality.specs.Written.{filledFrom, filled}
+use Rattle.legality.specs.Written.{numberAt, filledFrom, filled, amountsIn}
 
 module _ (h : ℕ → ℕ) where
   filledFrom-length : (left k n : ℕ) → length (filledFrom left k n h) ≡ left
@@ -73,13 +73,24 @@ module _ (h : ℕ → ℕ) where
   pub filled-next : (k x : ℕ) → k < 16 → x ≡ h k → set (filled k h) k x ≡ filled (k + 1) h
   filled-next k x l e = let z : 0 + k ≡ k = omega arith in rw (e, add-one k) (rw z at (filledFrom-set 16 0 k l))
 
--- what is said of every number that stands in it, and of 0
-pub filled-each : (P : ℕ → Type 0) (n : ℕ) (h : ℕ → ℕ) → n ≤ 16 → P 0 → ((k : ℕ) → k < n → P (h k)) → (k : ℕ) → P (getD (filled n h) k 0)
-filled-each P n h l z f k = go (decLt k n)
-  where
-    go : Dec (k < n) → P (getD (filled n h) k 0)
-    go (yes i) = subst P (sym (filled-here h n k l i)) (f k i)
-    go (no i) = subst P (sym (filled-past h n k (omega arith))) z
+-- THE NUMBERS OF LOOP k, whatever the stride: its shift is the number `first` of its own, its peel the next; past the last loop both are 0
+module _ (stride first n : ℕ) (bs : List ℕ) where
+  pub amount-read : (k : ℕ) → n ≤ 16 → k < n
+      → (getD (amountsIn stride first n bs .shifts) k 0 ≡ numberAt bs (stride * k + first))
+      × (getD (amountsIn stride first n bs .peels) k 0 ≡ numberAt bs (stride * k + first + 1))
+  amount-read k l m = (filled-here _ n k l m, filled-here _ n k l m)
+
+  pub amount-past : (k : ℕ) → n ≤ k → (getD (amountsIn stride first n bs .shifts) k 0 ≡ 0) × (getD (amountsIn stride first n bs .peels) k 0 ≡ 0)
+  amount-past k l = (filled-past _ n k l, filled-past _ n k l)
+
+-- where a loop has two numbers
+pub pair-read : (n : ℕ) (bs : List ℕ) (k : ℕ) → n ≤ 16 → k < n
+    → (getD (amountsIn 2 0 n bs .shifts) k 0 ≡ numberAt bs (2 * k)) × (getD (amountsIn 2 0 n bs .peels) k 0 ≡ numberAt bs (2 * k + 1))
+pair-read n bs k l m =
+    let d : 2 * k + 0 ≡ 2 * k = omega arith in
+    let e : 2 * k + 0 + 1 ≡ 2 * k + 1 = omega arith in
+    let (shift, peel) = amount-read 2 0 n bs k l m in
+    (shift ∙ ap (numberAt bs) d, peel ∙ ap (numberAt bs) e)
 
 -- two that agree below n are one
 filledFrom-same : (n : ℕ) (g h : ℕ → ℕ) → ((k : ℕ) → k < n → g k ≡ h k) → (left k : ℕ) → filledFrom left k n g ≡ filledFrom left k n h

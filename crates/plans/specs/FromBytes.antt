@@ -29,7 +29,7 @@ use Rattle.lists.specs.FusionLaws.{Once, once, owner, phase}
 use Rattle.lists.specs.EachOnce.{EachOnce}
 use Rattle.amounts.specs.declared.Amounts.{Amounts}
 use Rattle.legality.specs.Written.{numberAt}
-use Rattle.legality.specs.WrittenLaws.{filled-here, filled-past}
+use Rattle.legality.specs.WrittenLaws.{pair-read, amount-past}
 use Rattle.legality.specs.ByHandLaws.{HandFits, hand-accepts}
 use Rattle.plans.specs.Plans.{Settings, Planned, shiftOf, peelOf, thresholdOf, own, planOf, amountsFor, planned}
 use Rattle.plans.specs.Checking.{planThreshold}
@@ -94,7 +94,7 @@ module _ (s : List ℕ) (w : Settings) (q : Planned) (planned-is : planned s w �
   unfolding amountsFor
   plan-own e = let z = eq-eqb (w .given) 0 e in let h : _≡_ {A = AnswerOf Amounts} (accepted (own (q .table))) (accepted (law .amounts)) = rw z at (law .amounts-are) in sym cc
 
-  own-plan : w .given ≡ 0 → q .plan ≡ planOf (q .table) (own (q .table)) w
+  pub own-plan : w .given ≡ 0 → q .plan ≡ planOf (q .table) (own (q .table)) w
   own-plan e = law .plan-is ∙ ap (λ (a : Amounts). planOf (q .table) a w) (plan-own e)
 
   pub plan-shifts : w .given ≡ 0 → (k : ℕ) → Largest backward (graph (q .table)) k (q .plan .shift k)
@@ -112,17 +112,13 @@ module _ (s : List ℕ) (w : Settings) (q : Planned) (planned-is : planned s w �
 
   pub hand-shifts : (w .given ≡ 0 → ⊥) → (k : ℕ) → k < count (q .table) → q .plan .shift k ≡ numberAt (w .plan) (2 * k)
   hand-shifts n k l =
-      let e : 2 * k + 0 ≡ 2 * k = omega arith in
-      let h = plan-by-hand n in
-      ap (λ (c : Fusion). c .shift k) (law .plan-is) ∙ ap (λ (a : Amounts). getD (a .shifts) k 0) (h .read)
-      ∙ filled-here _ (count (q .table)) k (valid s (q .table) (law .read) .few-loops) l ∙ ap (numberAt (w .plan)) e
+      ap (λ (c : Fusion). c .shift k) (law .plan-is) ∙ ap (λ (a : Amounts). getD (a .shifts) k 0) (plan-by-hand n .read)
+      ∙ pair-read (count (q .table)) (w .plan) k (valid s (q .table) (law .read) .few-loops) l .0
 
   pub hand-peels : (w .given ≡ 0 → ⊥) → (k : ℕ) → k < count (q .table) → q .plan .peel k ≡ numberAt (w .plan) (2 * k + 1)
   hand-peels n k l =
-      let e : 2 * k + 0 + 1 ≡ 2 * k + 1 = omega arith in
-      let h = plan-by-hand n in
-      ap (λ (c : Fusion). c .peel k) (law .plan-is) ∙ ap (λ (a : Amounts). getD (a .peels) k 0) (h .read)
-      ∙ filled-here _ (count (q .table)) k (valid s (q .table) (law .read) .few-loops) l ∙ ap (numberAt (w .plan)) e
+      ap (λ (c : Fusion). c .peel k) (law .plan-is) ∙ ap (λ (a : Amounts). getD (a .peels) k 0) (plan-by-hand n .read)
+      ∙ pair-read (count (q .table)) (w .plan) k (valid s (q .table) (law .read) .few-loops) l .1
 
   -- NO ACCEPTED NUMBER IS BELOW OUR OWN
   pub plan-least : (k : ℕ) → (shiftOf (q .table) k ≤ q .plan .shift k) × (peelOf (q .table) k ≤ q .plan .peel k)
@@ -139,8 +135,7 @@ module _ (s : List ℕ) (w : Settings) (q : Planned) (planned-is : planned s w �
       go : Dec (w .given ≡ 0) → q .plan .shift k + q .plan .peel k ≡ 0
       go (yes e) = rw (own-plan e) (omega (arith, past-shift s (q .table) (law .read) k l, past-peel s (q .table) (law .read) k l))
       go (no n) =
-          rw (law .plan-is, plan-by-hand n .read)
-          (omega (arith, filled-past (λ k. numberAt (w .plan) (2 * k + 0)) (count (q .table)) k l, filled-past (λ k. numberAt (w .plan) (2 * k + 0 + 1)) (count (q .table)) k l))
+          rw (law .plan-is, plan-by-hand n .read) (omega (arith, amount-past 2 0 (count (q .table)) (w .plan) k l .0, amount-past 2 0 (count (q .table)) (w .plan) k l .1))
 
   pub plan-threshold-some : (k : ℕ) × (k < count (q .table)) × (q .plan .shift k + q .plan .peel k ≡ planThreshold (q .plan))
   plan-threshold-some =

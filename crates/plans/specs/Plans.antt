@@ -20,8 +20,8 @@ use Rattle.amounts.specs.declared.Amounts.{Amounts}
 use Rattle.legality.specs.ByHand.{byHand}
 use Rattle.plans.specs.declared.Settings.{Settings as Struct}
 
--- what settles the lists beside the table: the count of processors P, the length W of a line, and where `given` is not 0 a plan by hand, of so many
--- bytes
+-- what settles the lists beside the table: the count of processors P, the length W of a line, and where `given` is not 0 a plan by hand: its
+-- `size` in bytes, and the bytes (in C `by_hand`, `plan_length`, `plan`)
 abbrev pub Settings : Type 0
 Settings = Struct
 

@@ -1,4 +1,4 @@
--- What the call gives where a plan is refused, with 10, 17 or 11 as with a table's own ground, and where it is accepted. Laws alone.
+-- What the call gives where a plan is refused, with 19, 20, 10, 17 or 11 as with a table's own ground, and where it is accepted. Laws alone.
 use Prim.Native.Nat.{ℕ}
 use mathlib.Core.Path.{_≡_}
 use mathlib.Core.List.{List}

@@ -25,7 +25,7 @@ textOf (accepted q) = listingOf q
 unfoldable pub text : List ℕ → Settings → List ℕ
 text s w = textOf (planned s w)
 
--- THE CALL, with so much room: refused with 1 to 10, 17, 11, then 13; else the listing
+-- THE CALL, with so much room: refused with 1 to 9, 19, 20, 10, 17, 11, then 13; else the listing
 unfoldable pub listingGiven : List ℕ → Settings → ℕ → Given
 listingGiven s w room = after (planned s w) (λ q. fitted room (listingOf q))
 

@@ -1,4 +1,4 @@
--- The run in a caller's order, from a table's bytes: refused by 1 to 9, 10 of P, 17, 11 and 12, or its row's memory and idle count.
+-- The run in a caller's order, from a table's bytes: refused by 1 to 9, 19, 20, 10 of P, 17, 11 and 12, or its row's memory and idle count.
 use Prim.Native.Nat.{ℕ}
 use mathlib.Core.List.{List}
 use lib.ListN.{length}

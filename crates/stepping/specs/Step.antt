@@ -41,7 +41,7 @@ unfoldable pub steppedBy : ℕ → List ℕ → List Float → AnswerOf Planned 
 steppedBy b counts m (refused r) = stays counts m (refuses r)
 steppedBy b counts m (accepted q) = stepped (iteration 0 0) (workOf q) (run (q .table)) b counts m
 
--- from a table's bytes: 1 to 9, 10 (P, then the number), 17, 11, 12, 15
+-- from a table's bytes: 1 to 9, 19, 20, 10 (P, then the number), 17, 11, 12, 15
 unfoldable pub step : List ℕ → Settings → ℕ → List ℕ → List Float → After Iteration (List Float)
 unfolding steppedBy
 step s w b counts m = steppedBy b counts m (remembered elements (length m) (plannedFor s w b))
