@@ -21,7 +21,8 @@ ghost use Rattle.records.specs.Bytes.{byte, two, four, offset, kindOf, bodyLeng
 ghost use Rattle.records.specs.Grounds.{early, edge, fields, passed, tested};
 ghost use Rattle.records.specs.Clear.{spanOf};
 
-// The largest length of an array, count of elements in all, last index, offset (kept with 255 added) and count of a body's items.
+// The largest length of an array, count of elements in all, last index, offset (kept with 255 added) and count of a loop's items and
+// statements.
 const MOST_LENGTH: u32 = 65536;
 
 const MOST_ELEMENTS: usize = 262144;
@@ -31,6 +32,8 @@ const MOST_LAST: u32 = 131071;
 const MOST_OFFSET: u32 = 510;
 
 const MOST_ITEMS: u32 = 32;
+
+const MOST_STATEMENTS: u32 = 4;
 
 fn one_at(s: &[u8], at: usize) -> u32
     requires { ⌜ at < length (now s) ⌝ }
@@ -70,17 +73,18 @@ fn kind_of(b: u32) -> Kind
         4 => Kind::Constant,
         5 => Kind::Operation,
         6 => Kind::End,
+        7 => Kind::Statement,
         _ => Kind::Unknown,
     }
 }
 
 // The body lengths, by kind.
-const BODY_LENGTHS: [usize; 7] = [0, 4, 11, 3, 4, 1, 0];
+const BODY_LENGTHS: [usize; 8] = [0, 4, 11, 3, 4, 1, 0, 3];
 
 fn body_length(b: u32) -> usize
     ensures { λ r. ⌜ r ≡ bodyLength b ⌝ }
 {
-    if b < 7 { BODY_LENGTHS[wide(b)] } else { 0 }
+    if b < 8 { BODY_LENGTHS[wide(b)] } else { 0 }
 }
 
 // The grounds that need no body: 2, 6 for a body left unfinished, and 4.
@@ -95,6 +99,7 @@ fn early_ground(k: Kind, t: Summary) -> u32
         Kind::Constant => item_early(t),
         Kind::Operation => item_early(t),
         Kind::End => end_early(t),
+        Kind::Statement => statement_early(t),
     }
 }
 
@@ -123,6 +128,22 @@ fn end_early(t: Summary) -> u32
         return KIND;
     }
     if t.waiting != 1 { BODY } else { 0 }
+}
+
+fn statement_early(t: Summary) -> u32
+    ensures { λ r. ⌜ r ≡ early Kind.Statement t ⌝ }
+{
+    if t.loops == 0 {
+        return KIND;
+    }
+    if t.waiting != 1 {
+        return BODY;
+    }
+    if MOST_STATEMENTS <= t.statements {
+        CROWD
+    } else {
+        0
+    }
 }
 
 fn item_early(t: Summary) -> u32
@@ -155,6 +176,10 @@ fn record_of(k: Kind, s: &[u8], b: usize, n: usize) -> Record
         Kind::Constant => Record::Constant(four_at(s, b)),
         Kind::Operation => Record::Operation(one_at(s, b)),
         Kind::End => Record::End,
+        Kind::Statement => Record::Statement {
+            array: one_at(s, b),
+            offset: offset_at(s, b + 1),
+        },
     }
 }
 
@@ -244,6 +269,20 @@ fn operation_tests(o: u32, t: Summary, lens: &Store) -> u32
     if t.waiting < n { BODY } else { 0 }
 }
 
+fn statement_tests(q: u32, o: u32, t: Summary, lens: &Store) -> u32
+    requires { ⌜ t .arrays ≤ 16 ⌝ }
+    ensures { λ r. ⌜ r ≡ fields (Record.Statement q o) t (now (lens .entry)) ⌝ }
+{
+    if t.arrays <= q {
+        return ARRAY;
+    }
+    if MOST_OFFSET < o {
+        return FIELD;
+    }
+    let at = wide(q);
+    edge_ground(t.first, t.last, o, lens[at])
+}
+
 // The tests on a record's fields.
 fn fields_ground(r: Record, t: Summary, lens: &Store) -> u32
     requires { ⌜ t .arrays ≤ 16 ⌝ }
@@ -262,6 +301,7 @@ fn fields_ground(r: Record, t: Summary, lens: &Store) -> u32
         Record::Constant(n) => constant_tests(n, t, lens),
         Record::Operation(o) => operation_tests(o, t, lens),
         Record::End => 0,
+        Record::Statement { array, offset } => statement_tests(array, offset, t, lens),
     }
 }
 
@@ -285,6 +325,10 @@ fn passing(r: Record, n: usize) -> Tested
         Record::Constant(_) => Tested::Passed(r, n),
         Record::Operation(_) => Tested::Passed(r, n),
         Record::End => Tested::Ended(n),
+        Record::Statement {
+            array: _,
+            offset: _,
+        } => Tested::Passed(r, n),
     }
 }
 

@@ -5,7 +5,7 @@ use lib.ListN.{getD}
 use Rattle.records.specs.declared.Kind.{Kind}
 use Rattle.records.specs.declared.Kind.the-variants as kind
 use Rattle.records.specs.declared.Record.{Record}
-use Rattle.records.specs.declared.Record.the-variants.{Unknown, Array, Loop, Read, Constant, Operation, End}
+use Rattle.records.specs.declared.Record.the-variants.{Unknown, Array, Loop, Read, Constant, Operation, End, Statement}
 
 abbrev pub byte : List ℕ → ℕ → ℕ
 byte s at = getD s at 0
@@ -20,16 +20,16 @@ four s at = two s at + 65536 * two s (at + 2)
 unfoldable pub offset : List ℕ → ℕ → ℕ
 offset s at = (two s at + 255) % 65536
 
--- the kinds 1 to 6
+-- the kinds 1 to 7
 abbrev pub kinds : List Kind
-kinds = kind.Unknown ∷ kind.Array ∷ kind.Loop ∷ kind.Read ∷ kind.Constant ∷ kind.Operation ∷ kind.End ∷ []
+kinds = kind.Unknown ∷ kind.Array ∷ kind.Loop ∷ kind.Read ∷ kind.Constant ∷ kind.Operation ∷ kind.End ∷ kind.Statement ∷ []
 
 unfoldable pub kindOf : ℕ → Kind
 kindOf b = getD kinds b kind.Unknown
 
 -- the body lengths stand in a table indexed by kind
 abbrev pub bodyLengths : List ℕ
-bodyLengths = 0 ∷ 4 ∷ 11 ∷ 3 ∷ 4 ∷ 1 ∷ 0 ∷ []
+bodyLengths = 0 ∷ 4 ∷ 11 ∷ 3 ∷ 4 ∷ 1 ∷ 0 ∷ 3 ∷ []
 
 unfoldable pub bodyLength : ℕ → ℕ
 bodyLength b = getD bodyLengths b 0
@@ -43,6 +43,7 @@ recordOf kind.Read s b = Read (byte s b) (offset s (b + 1))
 recordOf kind.Constant s b = Constant (four s b)
 recordOf kind.Operation s b = Operation (byte s b)
 recordOf kind.End s b = End
+recordOf kind.Statement s b = Statement (byte s b) (offset s (b + 1))
 
 -- the record whose kind byte is at a place
 unfoldable pub recordAt : List ℕ → ℕ → Record

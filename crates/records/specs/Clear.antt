@@ -6,7 +6,7 @@ use lib.ListN.{getD}
 use Rattle.records.specs.declared.Kind.{Kind}
 use Rattle.records.specs.declared.Kind.the-variants as kind
 use Rattle.records.specs.declared.Record.{Record}
-use Rattle.records.specs.declared.Record.the-variants.{Unknown, Array, Loop, Read, Constant, Operation, End}
+use Rattle.records.specs.declared.Record.the-variants.{Unknown, Array, Loop, Read, Constant, Operation, End, Statement}
 use Rattle.records.specs.declared.Summary.{Summary}
 use Rattle.records.specs.History.{operands}
 
@@ -19,6 +19,7 @@ spanOf kind.Read = 3
 spanOf kind.Constant = 4
 spanOf kind.Operation = 1
 spanOf kind.End = 0
+spanOf kind.Statement = 3
 
 -- there is room for the record
 abbrev pub Room : Record → Summary → Type 0
@@ -29,6 +30,7 @@ Room (Read q o) t = (t .items < 32) × (t .waiting < 8)
 Room (Constant n) t = (t .items < 32) × (t .waiting < 8)
 Room (Operation o) t = (t .items < 32) × (operands o ≤ t .waiting)
 Room End t = Unit {0}
+Room (Statement q o) t = t .statements < 4
 
 -- no iteration from f to l, at an offset, reaches outside n elements
 abbrev pub Within : ℕ → ℕ → ℕ → ℕ → Type 0
@@ -45,3 +47,5 @@ Clear (Read q o) t ns =
 Clear (Constant n) t ns = (0 < t .loops) × (t .items < 32) × (t .waiting < 8)
 Clear (Operation o) t ns = (0 < t .loops) × (t .items < 32) × (0 < o) × (o ≤ 5) × (operands o ≤ t .waiting)
 Clear End t ns = (0 < t .loops) × (t .waiting ≡ 1)
+Clear (Statement q o) t ns =
+    (0 < t .loops) × (t .waiting ≡ 1) × (t .statements < 4) × (q < t .arrays) × (o ≤ 510) × Within (t .first) (t .last) o (getD ns q 0)

@@ -9,7 +9,7 @@ use borrow.Author.Tests.{ltb-false, leb-false, eqb-false, eqb-true, not-false}
 use Rattle.records.specs.declared.Kind.{Kind}
 use Rattle.records.specs.declared.Kind.the-variants as kind
 use Rattle.records.specs.declared.Record.{Record}
-use Rattle.records.specs.declared.Record.the-variants.{Unknown, Array, Loop, Read, Constant, Operation, End}
+use Rattle.records.specs.declared.Record.the-variants.{Unknown, Array, Loop, Read, Constant, Operation, End, Statement}
 use Rattle.records.specs.declared.Summary.{Summary}
 use Rattle.records.specs.Bytes.{byte, four, kindOf, bodyLength, recordOf}
 use Rattle.records.specs.Grounds.{_if_else_, early, edge, fields}
@@ -25,7 +25,8 @@ span-kind (suc (suc (suc zero))) = refl
 span-kind (suc (suc (suc (suc zero)))) = refl
 span-kind (suc (suc (suc (suc (suc zero))))) = refl
 span-kind (suc (suc (suc (suc (suc (suc zero)))))) = refl
-span-kind (suc (suc (suc (suc (suc (suc (suc n))))))) = refl
+span-kind (suc (suc (suc (suc (suc (suc (suc zero))))))) = refl
+span-kind (suc (suc (suc (suc (suc (suc (suc (suc n)))))))) = refl
 
 span-max : (k : Kind) → spanOf k ≤ 11
 span-max kind.Unknown = omega arith
@@ -35,6 +36,7 @@ span-max kind.Read = omega arith
 span-max kind.Constant = omega arith
 span-max kind.Operation = omega arith
 span-max kind.End = omega arith
+span-max kind.Statement = omega arith
 
 pub length-max : (b : ℕ) → bodyLength b ≤ 11
 length-max b = rw (span-kind b) (span-max (kindOf b))
@@ -74,6 +76,15 @@ module _ (t : Summary) where
       let q = nothing 5 _ _ (p .1) in
       let n : t .loops ≡ 0 → ⊥ = eqb-false _ _ (p .0) in
       (omega arith, eqb-true _ _ (not-false _ (q .0)))
+
+early-statement : (t : Summary) → early kind.Statement t ≡ 0 → (0 < t .loops) × (t .waiting ≡ 1) × (t .statements < 4)
+unfolding early
+early-statement t e =
+    let p = nothing 1 _ _ e in
+    let q = nothing 5 _ _ (p .1) in
+    let r = nothing 3 _ _ (q .1) in
+    let n : t .loops ≡ 0 → ⊥ = eqb-false _ _ (p .0) in
+    (omega arith, eqb-true _ _ (not-false _ (q .0)), leb-false _ _ (r .0))
 
 edge-clear : (f l o n : ℕ) → edge f l o n ≡ 0 → Within f l o n
 unfolding edge
@@ -119,6 +130,11 @@ clear-of kind.Operation s b t ns e f =
     let z : byte s b ≡ 0 → ⊥ = eqb-false _ _ (p .0) in
     (l, i, omega arith, ltb-false _ _ (q .0), ltb-false _ _ (r .0))
 clear-of kind.End s b t ns e f = early-end t e
+clear-of kind.Statement s b t ns e f =
+    let (l, w, n) = early-statement t e in
+    let p = nothing 4 _ _ f in
+    let q = nothing 2 _ _ (p .1) in
+    (l, w, n, leb-false _ _ (p .0), ltb-false _ _ (q .0), edge-clear _ _ _ _ (q .1))
 
 pub clear-room : (r : Record) (t : Summary) (ns : List ℕ) → Clear r t ns → Room r t
 clear-room Unknown t ns c = tt
@@ -128,3 +144,4 @@ clear-room (Read q o) t ns c = (c .1, c .4)
 clear-room (Constant n) t ns c = (c .1, c .2)
 clear-room (Operation o) t ns c = (c .1, c .4)
 clear-room End t ns c = tt
+clear-room (Statement q o) t ns c = c .2

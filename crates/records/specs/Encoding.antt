@@ -2,7 +2,7 @@
 use Prim.Native.Nat.{ℕ, _+_, _/_, _%_, _<_}
 use mathlib.Core.List.{List, [], _∷_, _++_}
 use Rattle.records.specs.declared.Record.{Record}
-use Rattle.records.specs.declared.Record.the-variants.{Unknown, Array, Loop, Read, Constant, Operation, End}
+use Rattle.records.specs.declared.Record.the-variants.{Unknown, Array, Loop, Read, Constant, Operation, End, Statement}
 use Rattle.records.specs.Bytes.{byte}
 
 -- a number in two bytes and in four, the low ones first. (What is too large for them is left to the last, which is then no byte.)
@@ -16,7 +16,7 @@ inFour n = inTwo (n % 65536) ++ inTwo (n / 65536)
 unfoldable pub inOffset : ℕ → List ℕ
 inOffset o = inTwo ((o + 65281) % 65536)
 
--- the kinds 1 to 6, each with its fields in order. (Unknown stands for every byte that is no kind: 0 is one.)
+-- the kinds 1 to 7, each with its fields in order. (Unknown stands for every byte that is no kind: 0 is one.)
 unfoldable pub encode : Record → List ℕ
 encode Unknown = 0 ∷ []
 encode (Array n) = 1 ∷ inFour n
@@ -25,6 +25,7 @@ encode (Read array offset) = 3 ∷ array ∷ inOffset offset
 encode (Constant n) = 4 ∷ inFour n
 encode (Operation o) = 5 ∷ o ∷ []
 encode End = 6 ∷ []
+encode (Statement array offset) = 7 ∷ array ∷ inOffset offset
 
 -- a row of records
 unfoldable pub encodeAll : List Record → List ℕ
@@ -44,6 +45,7 @@ OffsetFits (Read array offset) = offset < 65536
 OffsetFits (Constant n) = Unit {0}
 OffsetFits (Operation o) = Unit {0}
 OffsetFits End = Unit {0}
+OffsetFits (Statement array offset) = offset < 65536
 
 abbrev pub FieldsFit : Record → Type 0
 FieldsFit Unknown = Unit {0}
@@ -53,3 +55,4 @@ FieldsFit (Read array offset) = array < 256
 FieldsFit (Constant n) = n < 4294967296
 FieldsFit (Operation o) = o < 256
 FieldsFit End = Unit {0}
+FieldsFit (Statement array offset) = array < 256

@@ -6,7 +6,7 @@ use mathlib.Core.List.{List, [], _∷_, _++_, append-assoc, append-nil}
 use lib.ListN.{length, length-append}
 use lib.Seq.{getD-append-add}
 use Rattle.records.specs.declared.Record.{Record}
-use Rattle.records.specs.declared.Record.the-variants.{Unknown, Array, Loop, Read, Constant, Operation, End}
+use Rattle.records.specs.declared.Record.the-variants.{Unknown, Array, Loop, Read, Constant, Operation, End, Statement}
 use Rattle.records.specs.declared.Summary.{Summary}
 use Rattle.records.specs.Bytes.{byte, two, four, offset, kindOf, bodyLength, recordOf, recordAt}
 use Rattle.records.specs.Clear.{Clear, spanOf}
@@ -40,6 +40,7 @@ encode-first (Read q o) b h = ap (Read q) (offset-read o b h)
 encode-first (Constant n) b h = ap Constant (four-read n b)
 encode-first (Operation o) b h = refl
 encode-first End b h = refl
+encode-first (Statement q o) b h = ap (Statement q) (offset-read o b h)
 
 pub encode-length : (r : Record) → length (encode r) ≡ 1 + spanOf (kindIn r)
 unfolding encode inFour inTwo inOffset
@@ -50,6 +51,7 @@ encode-length (Read q o) = refl
 encode-length (Constant n) = refl
 encode-length (Operation o) = refl
 encode-length End = refl
+encode-length (Statement q o) = refl
 
 -- at any place
 module _ (a : List ℕ) (r : Record) (b : List ℕ) (h : OffsetFits r) where
@@ -74,6 +76,7 @@ clear-offset (Read q o) t ns c = omega (arith, c .3)
 clear-offset (Constant n) t ns c = tt
 clear-offset (Operation o) t ns c = tt
 clear-offset End t ns c = tt
+clear-offset (Statement q o) t ns c = omega (arith, c .4)
 
 pub encode-whole : (a : List ℕ) (r : Record) (b : List ℕ) (t : Summary) (ns : List ℕ) → Clear r t ns
     → Whole (a ++ (encode r ++ b)) (length a) t ns r (length (a ++ encode r))

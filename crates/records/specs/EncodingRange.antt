@@ -4,7 +4,7 @@ use native.Mathlib.Omega.{arith}
 use mathlib.Core.Path.{_≡_, refl, sym, ap, subst, _∙_}
 use mathlib.Core.List.{List, [], _∷_, _++_, append-assoc, List·Memᴰ, List·Memᴰ·head, List·Memᴰ·tail}
 use Rattle.records.specs.declared.Record.{Record}
-use Rattle.records.specs.declared.Record.the-variants.{Unknown, Array, Loop, Read, Constant, Operation, End}
+use Rattle.records.specs.declared.Record.the-variants.{Unknown, Array, Loop, Read, Constant, Operation, End, Statement}
 use Rattle.records.specs.Encoding.{inTwo, inFour, inOffset, encode, encodeAll, Bytes, FieldsFit}
 
 cons-bytes : (x : ℕ) (l : List ℕ) → x < 256 → Bytes l → Bytes (x ∷ l)
@@ -21,6 +21,12 @@ four-bytes n l h b =
     rw (append-assoc (inTwo (n % 65536)) (inTwo (n / 65536)) l)
     (two-bytes (n % 65536) (inTwo (n / 65536) ++ l) (omega arith) (two-bytes (n / 65536) l (omega arith) b))
 
+-- a kind, an array and an offset
+reference-bytes : (k q o : ℕ) (l : List ℕ) → k < 256 → q < 256 → Bytes l → Bytes (k ∷ q ∷ (inOffset o ++ l))
+unfolding inOffset
+reference-bytes k q o l g h b =
+    cons-bytes k (q ∷ (inOffset o ++ l)) g (cons-bytes q (inOffset o ++ l) h (two-bytes ((o + 65281) % 65536) l (omega arith) b))
+
 record-bytes : (r : Record) (l : List ℕ) → FieldsFit r → Bytes l → Bytes (encode r ++ l)
 unfolding encode inOffset
 record-bytes Unknown l h b = cons-bytes 0 l (omega arith) b
@@ -33,12 +39,11 @@ record-bytes (Loop f m q o) l h b =
     subst Bytes (ap (λ (z : List ℕ). 2 ∷ z) (sym split))
     (cons-bytes 2 (inFour f ++ (inFour m ++ (rest ++ l))) (omega arith)
     (four-bytes f (inFour m ++ (rest ++ l)) (h .0) (four-bytes m (rest ++ l) (h .1) own)))
-record-bytes (Read q o) l h b =
-    cons-bytes 3 (q ∷ (inOffset o ++ l)) (omega arith)
-    (cons-bytes q (inOffset o ++ l) h (two-bytes ((o + 65281) % 65536) l (omega arith) b))
+record-bytes (Read q o) l h b = reference-bytes 3 q o l (omega arith) h b
 record-bytes (Constant n) l h b = cons-bytes 4 (inFour n ++ l) (omega arith) (four-bytes n l h b)
 record-bytes (Operation o) l h b = cons-bytes 5 (o ∷ l) (omega arith) (cons-bytes o l h b)
 record-bytes End l h b = cons-bytes 6 l (omega arith) b
+record-bytes (Statement q o) l h b = reference-bytes 7 q o l (omega arith) h b
 
 pub encode-bytes : (rs : List Record) → ((r : Record) → List·Memᴰ r rs → FieldsFit r) → Bytes (encodeAll rs)
 unfolding encodeAll

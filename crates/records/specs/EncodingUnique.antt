@@ -49,6 +49,10 @@ module _ (s : List ℕ) (bytes : Bytes s) where
       let own : ((two s p + 255) % 65536 + 65281) % 65536 ≡ two s p = omega (arith, two-below p) in
       rw own (two-back p n e h)
 
+  reference-back : (b n : ℕ) → n ≡ b + 3 → n ≤ length s → drop b s ≡ byte s b ∷ (inOffset (offset s (b + 1)) ++ drop n s)
+  reference-back b n e h =
+      one-back b (b + 1) refl (omega arith) ∙ ap (λ (l : List ℕ). byte s b ∷ l) (offset-back (b + 1) n (omega arith) h)
+
   -- by the kind byte
   module _ (at : ℕ) where
     abbrev Back : ℕ → Type 0
@@ -72,15 +76,13 @@ module _ (s : List ℕ) (bytes : Bytes s) where
         ∙ ap (λ (l : List ℕ). byte s (b + 8) ∷ l) (offset-back (b + 9) n (omega arith) h))
         ∙ sym (append-assoc last (byte s (b + 8) ∷ inOffset (offset s (b + 9))) (drop n s)))
         ∙ sym (append-assoc first (last ++ (byte s (b + 8) ∷ inOffset (offset s (b + 9)))) (drop n s)))
-    body-back (suc (suc (suc zero))) n e h some =
-        let b = at + 1 in
-        ap (λ (l : List ℕ). 3 ∷ l)
-        (one-back b (b + 1) refl (omega arith) ∙ ap (λ (l : List ℕ). byte s b ∷ l) (offset-back (b + 1) n (omega arith) h))
+    body-back (suc (suc (suc zero))) n e h some = ap (λ (l : List ℕ). 3 ∷ l) (reference-back (at + 1) n (omega arith) h)
     body-back (suc (suc (suc (suc zero)))) n e h some = ap (λ (l : List ℕ). 4 ∷ l) (four-back (at + 1) n e h)
     body-back (suc (suc (suc (suc (suc zero))))) n e h some = ap (λ (l : List ℕ). 5 ∷ l) (one-back (at + 1) n e h)
     body-back (suc (suc (suc (suc (suc (suc zero)))))) n e h some =
         let z : n ≡ at + 1 = omega arith in ap (λ (m : ℕ). 6 ∷ drop m s) (sym z)
-    body-back (suc (suc (suc (suc (suc (suc (suc b))))))) n e h some = absurd (some refl)
+    body-back (suc (suc (suc (suc (suc (suc (suc zero))))))) n e h some = ap (λ (l : List ℕ). 7 ∷ l) (reference-back (at + 1) n (omega arith) h)
+    body-back (suc (suc (suc (suc (suc (suc (suc (suc b)))))))) n e h some = absurd (some refl)
 
     pub bytes-encoded : (r : Record) (n : ℕ) → recordAt s at ≡ r → (r ≡ Unknown → ⊥) → n ≡ at + 1 + bodyLength (byte s at) → n ≤ length s
         → drop at s ≡ encode r ++ drop n s

@@ -8,7 +8,7 @@ use Rattle.refusals.specs.Refusals.{met}
 use Rattle.records.specs.declared.Kind.{Kind}
 use Rattle.records.specs.declared.Kind.the-variants as kind
 use Rattle.records.specs.declared.Record.{Record}
-use Rattle.records.specs.declared.Record.the-variants.{Unknown, Array, Loop, Read, Constant, Operation, End}
+use Rattle.records.specs.declared.Record.the-variants.{Unknown, Array, Loop, Read, Constant, Operation, End, Statement}
 use Rattle.records.specs.declared.Summary.{Summary}
 use Rattle.records.specs.declared.Tested.{Tested}
 use Rattle.records.specs.declared.Tested.the-variants.{Refused, Passed, Ended}
@@ -20,7 +20,7 @@ abbrev pub _if_else_ : ℕ → Bool → ℕ → ℕ
 _if_else_ g true r = g
 _if_else_ g false r = r
 
--- 2; then 6 for a body left unfinished; then 4 for one array, loop or item too many
+-- 2; then 6 for a body left unfinished; then 4 for one array, loop, item or statement too many
 unfoldable pub early : Kind → Summary → ℕ
 early kind.Unknown t = 2
 early kind.Array t = 2 if ltb 0 (t .loops) else 4 if leb 16 (t .arrays) else 0
@@ -29,6 +29,7 @@ early kind.Read t = 2 if eqb (t .loops) 0 else 4 if leb 32 (t .items) else 0
 early kind.Constant t = 2 if eqb (t .loops) 0 else 4 if leb 32 (t .items) else 0
 early kind.Operation t = 2 if eqb (t .loops) 0 else 4 if leb 32 (t .items) else 0
 early kind.End t = 2 if eqb (t .loops) 0 else 6 if not (eqb (t .waiting) 1) else 0
+early kind.Statement t = 2 if eqb (t .loops) 0 else 6 if not (eqb (t .waiting) 1) else 4 if leb 4 (t .statements) else 0
 
 -- 7: some iteration from first to last, at an offset, reaches outside n elements
 unfoldable pub edge : ℕ → ℕ → ℕ → ℕ → ℕ
@@ -45,6 +46,7 @@ fields (Read q o) t ns =
 fields (Constant n) t ns = 6 if leb 8 (t .waiting) else 0
 fields (Operation o) t ns = 3 if eqb o 0 else 3 if ltb 5 o else 6 if ltb (t .waiting) (operands o) else 0
 fields End t ns = 0
+fields (Statement q o) t ns = 5 if leb (t .arrays) q else 3 if ltb 510 o else edge (t .first) (t .last) o (getD ns q 0)
 
 -- a ground, or where it is none another
 abbrev pub orElse : ℕ → ℕ → ℕ
@@ -66,6 +68,7 @@ passed (Read q o) n = Passed (Read q o) n
 passed (Constant m) n = Passed (Constant m) n
 passed (Operation o) n = Passed (Operation o) n
 passed End n = Ended n
+passed (Statement q o) n = Passed (Statement q o) n
 
 abbrev pub pick : Bool → Tested → Tested → Tested
 pick true a b = a

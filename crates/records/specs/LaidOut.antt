@@ -87,13 +87,14 @@ offset-kept n h = go (decLt n 256) (decLt n 32768) (decLt n 65281)
 
 -- the kind byte of each kind
 abbrev KindByte : Kind → ℕ → Type 0
-KindByte kind.Unknown b = (b < 1) ⊎ (6 < b)
+KindByte kind.Unknown b = (b < 1) ⊎ (7 < b)
 KindByte kind.Array b = b ≡ 1
 KindByte kind.Loop b = b ≡ 2
 KindByte kind.Read b = b ≡ 3
 KindByte kind.Constant b = b ≡ 4
 KindByte kind.Operation b = b ≡ 5
 KindByte kind.End b = b ≡ 6
+KindByte kind.Statement b = b ≡ 7
 
 kind-byte : (b : ℕ) → KindByte (kindOf b) b
 unfolding kindOf
@@ -104,7 +105,8 @@ kind-byte (suc (suc (suc zero))) = refl
 kind-byte (suc (suc (suc (suc zero)))) = refl
 kind-byte (suc (suc (suc (suc (suc zero))))) = refl
 kind-byte (suc (suc (suc (suc (suc (suc zero)))))) = refl
-kind-byte (suc (suc (suc (suc (suc (suc (suc n))))))) = inr (omega arith)
+kind-byte (suc (suc (suc (suc (suc (suc (suc zero))))))) = refl
+kind-byte (suc (suc (suc (suc (suc (suc (suc (suc n)))))))) = inr (omega arith)
 
 module _ (s : List ℕ) (bytes : (i : ℕ) → byte s i < 256) where
   two-below : (at : ℕ) → two s at < 65536
@@ -134,6 +136,7 @@ module _ (s : List ℕ) (bytes : (i : ℕ) → byte s i < 256) where
       go kind.Constant h = (h, four-number s (p + 1))
       go kind.Operation h = (h, one-number s (p + 1))
       go kind.End h = h
+      go kind.Statement h = rw (place 2 1 refl) (h, one-number s (p + 1), offset-at (p + 2))
 
 -- WHAT IS KEPT IS AT MOST 510 exactly where the offset is one from −255 to 255, and is then the offset with 255 added
 pub kept-near : (v : ℤ) (o : ℕ) → Kept v o → o ≤ 510 → (negsuc 254 ≤ℤ v) × (v ≤ℤ pos 255) × (pos o ≡ v +ℤ pos 255)

@@ -9,7 +9,7 @@ use lib.Dec.{ltb}
 use lib.IntN.{ℤ, pos, negsuc, _+ℤ_, _-ℤ_}
 use lib.Signed.{_≤ℤ_, _<ℤ_}
 use Rattle.records.specs.declared.Record.{Record}
-use Rattle.records.specs.declared.Record.the-variants.{Unknown, Array, Loop, Read, Constant, Operation, End}
+use Rattle.records.specs.declared.Record.the-variants.{Unknown, Array, Loop, Read, Constant, Operation, End, Statement}
 use Rattle.records.specs.Bytes.{byte}
 
 -- little-endian: each byte counts 256 times as much as the one before it
@@ -31,7 +31,7 @@ Kept v o = ((negsuc 254 ≤ℤ v) × (v ≤ℤ pos 255) × (pos o ≡ v +ℤ pos
 
 -- the record at a place: its kind byte, and its fields in byte order
 abbrev pub At : List ℕ → ℕ → Record → Type 0
-At s p Unknown = (byte s p < 1) ⊎ (6 < byte s p)
+At s p Unknown = (byte s p < 1) ⊎ (7 < byte s p)
 At s p (Array n) = (byte s p ≡ 1) × (n ≡ numberIn s (p + 1) 4)
 At s p (Loop f l q o) =
     (byte s p ≡ 2) × (f ≡ numberIn s (p + 1) 4) × (l ≡ numberIn s (p + 5) 4) × (q ≡ numberIn s (p + 9) 1) × Kept (signed (numberIn s (p + 10) 2)) o
@@ -39,3 +39,4 @@ At s p (Read q o) = (byte s p ≡ 3) × (q ≡ numberIn s (p + 1) 1) × Kept (si
 At s p (Constant n) = (byte s p ≡ 4) × (n ≡ numberIn s (p + 1) 4)
 At s p (Operation o) = (byte s p ≡ 5) × (o ≡ numberIn s (p + 1) 1)
 At s p End = byte s p ≡ 6
+At s p (Statement q o) = (byte s p ≡ 7) × (q ≡ numberIn s (p + 1) 1) × Kept (signed (numberIn s (p + 2) 2)) o

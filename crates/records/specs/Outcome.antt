@@ -10,7 +10,7 @@ use borrow.Author.Tests.{ltb-false, leb-false, eqb-false, eqb-true}
 use Rattle.refusals.specs.declared.Refusal.{Refusal}
 use Rattle.refusals.specs.Refusals.{met}
 use Rattle.records.specs.declared.Record.{Record}
-use Rattle.records.specs.declared.Record.the-variants.{Unknown, Array, Loop, Read, Constant, Operation, End}
+use Rattle.records.specs.declared.Record.the-variants.{Unknown, Array, Loop, Read, Constant, Operation, End, Statement}
 use Rattle.records.specs.declared.Summary.{Summary}
 use Rattle.records.specs.declared.Tested.{Tested}
 use Rattle.records.specs.declared.Tested.the-variants.{Refused, Passed, Ended}
@@ -86,6 +86,7 @@ module _ (s : List ℕ) (at : ℕ) (t : Summary) (ns : List ℕ) where
       by f (Constant n) e = (whole f (Constant n) e, λ h. let z : _≡_ {A = ℕ} 0 1 = cc in omega arith)
       by f (Operation o) e = (whole f (Operation o) e, λ h. let z : _≡_ {A = ℕ} 0 1 = cc in omega arith)
       by f End e = whole f End e
+      by f (Statement d o) e = (whole f (Statement d o) e, λ h. let z : _≡_ {A = ℕ} 0 1 = cc in omega arith)
 
       go : (b : Bool) → eqb (ground s at t ns) 0 ≡ b
           → Outcome (pick b (passed (recordAt s at) (at + 1 + bodyLength (byte s at))) (Refused (met (ground s at t ns) at)))
@@ -121,6 +122,7 @@ module _ (t : Summary) (ns ms : List ℕ) (same : (q : ℕ) → q < t .arrays �
   fields-same (Constant n) = refl
   fields-same (Operation o) = refl
   fields-same End = refl
+  fields-same (Statement q o) = at-array q (λ n. 3 if ltb 510 o else edge (t .first) (t .last) o n)
 
   pub tested-same : (s : List ℕ) (at : ℕ) → tested s at t ns ≡ tested s at t ms
   unfolding tested ground

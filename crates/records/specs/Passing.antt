@@ -9,7 +9,7 @@ use borrow.Author.Tests.{le-ltb, lt-leb, ne-eqb, eq-eqb}
 use Rattle.records.specs.declared.Kind.{Kind}
 use Rattle.records.specs.declared.Kind.the-variants as kind
 use Rattle.records.specs.declared.Record.{Record}
-use Rattle.records.specs.declared.Record.the-variants.{Unknown, Array, Loop, Read, Constant, Operation, End}
+use Rattle.records.specs.declared.Record.the-variants.{Unknown, Array, Loop, Read, Constant, Operation, End, Statement}
 use Rattle.records.specs.declared.Summary.{Summary}
 use Rattle.records.specs.declared.Tested.the-variants.{Passed, Ended}
 use Rattle.records.specs.Bytes.{byte, kindOf, bodyLength, recordOf, recordAt}
@@ -35,6 +35,8 @@ module _ (t : Summary) (ns : List ℕ) where
   clear-early kind.Constant s b c = early-item (c .0) (c .1)
   clear-early kind.Operation s b c = early-item (c .0) (c .1)
   clear-early kind.End s b c = rw (ne-eqb (t .loops) 0 (λ e. omega (arith, c .0)), eq-eqb (t .waiting) 1 (c .1))
+  clear-early kind.Statement s b c =
+      rw (ne-eqb (t .loops) 0 (λ e. omega (arith, c .0)), eq-eqb (t .waiting) 1 (c .1), lt-leb _ _ (c .2))
 
   -- none by the fields
   clear-fields : (r : Record) → Clear r t ns → fields r t ns ≡ 0
@@ -48,6 +50,7 @@ module _ (t : Summary) (ns : List ℕ) where
   clear-fields (Constant n) c = rw (lt-leb _ _ (c .2))
   clear-fields (Operation o) c = rw (ne-eqb o 0 (λ e. omega (arith, c .2)), le-ltb _ _ (c .3), le-ltb _ _ (c .4))
   clear-fields End c = refl
+  clear-fields (Statement q o) c = rw (lt-leb _ _ (c .3), le-ltb _ _ (c .4)) (within-edge (t .first) (t .last) o (getD ns q 0) (c .5))
 
   module _ (s : List ℕ) (at : ℕ) (r : Record) (n : ℕ) (w : Whole s at t ns r n) where
     clear-here : Clear (recordAt s at) t ns
@@ -73,6 +76,7 @@ module _ (t : Summary) (ns : List ℕ) where
     passed-other (Constant m) c e = refl
     passed-other (Operation o) c e = refl
     passed-other End c e = absurd (e refl)
+    passed-other (Statement q o) c e = refl
 
     pub whole-passed : (r ≡ End → ⊥) → tested s at t ns ≡ Passed r n
     whole-passed e = whole-tested ∙ passed-other r (w .clear) e

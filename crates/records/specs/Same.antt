@@ -7,7 +7,7 @@ use lib.ListN.{length}
 use Rattle.records.specs.declared.Kind.{Kind}
 use Rattle.records.specs.declared.Kind.the-variants as kind
 use Rattle.records.specs.declared.Record.{Record}
-use Rattle.records.specs.declared.Record.the-variants.{Unknown, Array, Loop, Read, Constant, Operation, End}
+use Rattle.records.specs.declared.Record.the-variants.{Unknown, Array, Loop, Read, Constant, Operation, End, Statement}
 use Rattle.records.specs.declared.Summary.{Summary}
 use Rattle.records.specs.Bytes.{byte, two, four, offset, kindOf, bodyLength, recordOf, recordAt}
 use Rattle.records.specs.Clear.{Clear, spanOf}
@@ -23,6 +23,7 @@ kindIn (Read q o) = kind.Read
 kindIn (Constant n) = kind.Constant
 kindIn (Operation o) = kind.Operation
 kindIn End = kind.End
+kindIn (Statement q o) = kind.Statement
 
 kind-in : (k : Kind) (s : List ℕ) (b : ℕ) → kindIn (recordOf k s b) ≡ k
 unfolding recordOf
@@ -33,6 +34,7 @@ kind-in kind.Read s b = refl
 kind-in kind.Constant s b = refl
 kind-in kind.Operation s b = refl
 kind-in kind.End s b = refl
+kind-in kind.Statement s b = refl
 
 pub record-length : (s : List ℕ) (at : ℕ) (r : Record) → recordAt s at ≡ r → bodyLength (byte s at) ≡ spanOf (kindIn r)
 unfolding recordAt
@@ -70,6 +72,10 @@ module _ (s z : List ℕ) where
   unfolding offset
   offset-same a b n h same = rw (two-same a b n h same)
 
+  -- the offset behind an array's number
+  second-same : (a b : ℕ) → Same s a z b 3 → offset s (a + 1) ≡ offset z (b + 1)
+  second-same a b same = offset-same (a + 1) (b + 1) 2 (omega arith) (same-part a b 1 2 3 (omega arith) same)
+
   fields-same : (k : Kind) (a b : ℕ) → Same s a z b (spanOf k) → recordOf k s a ≡ recordOf k z b
   unfolding recordOf
   fields-same kind.Unknown a b same = refl
@@ -81,11 +87,11 @@ module _ (s z : List ℕ) where
         same 8 (omega arith),
         offset-same (a + 9) (b + 9) 2 (omega arith) (same-part a b 9 2 11 (omega arith) same),
       )
-  fields-same kind.Read a b same =
-      rw (same-first a b 3 (omega arith) same, offset-same (a + 1) (b + 1) 2 (omega arith) (same-part a b 1 2 3 (omega arith) same))
+  fields-same kind.Read a b same = rw (same-first a b 3 (omega arith) same, second-same a b same)
   fields-same kind.Constant a b same = rw (four-same a b 4 (omega arith) same)
   fields-same kind.Operation a b same = rw (same-first a b 1 (omega arith) same)
   fields-same kind.End a b same = refl
+  fields-same kind.Statement a b same = rw (same-first a b 3 (omega arith) same, second-same a b same)
 
   module _ (a b : ℕ) (same : Same s a z b (1 + bodyLength (byte s a))) where
     same-kind : byte s a ≡ byte z b

@@ -18,16 +18,17 @@ use Rattle.records.specs.History.{operands}
 use Rattle.records.specs.Grounds.{ground, early, fields, passed, tested}
 
 -- a byte that is no kind
-pub no-kind : (b : ℕ) → (b ≡ 1 → ⊥) → (b ≡ 2 → ⊥) → (b ≡ 3 → ⊥) → (b ≡ 4 → ⊥) → (b ≡ 5 → ⊥) → (b ≡ 6 → ⊥) → Unknown ≡ kindOf b
+pub no-kind : (b : ℕ) → (b ≡ 1 → ⊥) → (b ≡ 2 → ⊥) → (b ≡ 3 → ⊥) → (b ≡ 4 → ⊥) → (b ≡ 5 → ⊥) → (b ≡ 6 → ⊥) → (b ≡ 7 → ⊥) → Unknown ≡ kindOf b
 unfolding kindOf
-no-kind zero h₁ h₂ h₃ h₄ h₅ h₆ = refl
-no-kind (suc zero) h₁ h₂ h₃ h₄ h₅ h₆ = absurd (h₁ refl)
-no-kind (suc (suc zero)) h₁ h₂ h₃ h₄ h₅ h₆ = absurd (h₂ refl)
-no-kind (suc (suc (suc zero))) h₁ h₂ h₃ h₄ h₅ h₆ = absurd (h₃ refl)
-no-kind (suc (suc (suc (suc zero)))) h₁ h₂ h₃ h₄ h₅ h₆ = absurd (h₄ refl)
-no-kind (suc (suc (suc (suc (suc zero))))) h₁ h₂ h₃ h₄ h₅ h₆ = absurd (h₅ refl)
-no-kind (suc (suc (suc (suc (suc (suc zero)))))) h₁ h₂ h₃ h₄ h₅ h₆ = absurd (h₆ refl)
-no-kind (suc (suc (suc (suc (suc (suc (suc n))))))) h₁ h₂ h₃ h₄ h₅ h₆ = refl
+no-kind zero h₁ h₂ h₃ h₄ h₅ h₆ h₇ = refl
+no-kind (suc zero) h₁ h₂ h₃ h₄ h₅ h₆ h₇ = absurd (h₁ refl)
+no-kind (suc (suc zero)) h₁ h₂ h₃ h₄ h₅ h₆ h₇ = absurd (h₂ refl)
+no-kind (suc (suc (suc zero))) h₁ h₂ h₃ h₄ h₅ h₆ h₇ = absurd (h₃ refl)
+no-kind (suc (suc (suc (suc zero)))) h₁ h₂ h₃ h₄ h₅ h₆ h₇ = absurd (h₄ refl)
+no-kind (suc (suc (suc (suc (suc zero))))) h₁ h₂ h₃ h₄ h₅ h₆ h₇ = absurd (h₅ refl)
+no-kind (suc (suc (suc (suc (suc (suc zero)))))) h₁ h₂ h₃ h₄ h₅ h₆ h₇ = absurd (h₆ refl)
+no-kind (suc (suc (suc (suc (suc (suc (suc zero))))))) h₁ h₂ h₃ h₄ h₅ h₆ h₇ = absurd (h₇ refl)
+no-kind (suc (suc (suc (suc (suc (suc (suc (suc n)))))))) h₁ h₂ h₃ h₄ h₅ h₆ h₇ = refl
 
 -- the ways that the tests of the record at a place go
 module _ (s : List ℕ) (at : ℕ) (t : Summary) (ns : List ℕ) where

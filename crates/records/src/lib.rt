@@ -2,11 +2,11 @@
 use refusals::Refusal;
 ghost use mathlib.Core.Path.{_≡_};
 ghost use Prim.Native.Nat.{_+_, _<_, _≤_};
-ghost use Rattle.records.specs.History.{operands, withArray, withLoop, withItem, advanced, blank};
+ghost use Rattle.records.specs.History.{operands, withArray, withLoop, withItem, withStatement, advanced, blank};
 ghost use Rattle.records.specs.Clear.{Room};
 
-// How many rows all loops have: sixteen destinations, each with 32 items.
-pub const MOST_ROWS: usize = 528;
+// How many rows all loops have: sixteen loops, each with four destinations and 32 items.
+pub const MOST_ROWS: usize = 576;
 
 // A table as it is kept (reader/specs/Store.antt): the lengths of the arrays come first, then what is known of the loops, then the rows, each
 // of so many numbers, and the counts of arrays and of loops come last.
@@ -26,6 +26,7 @@ pub enum Kind {
     Constant,
     Operation,
     End,
+    Statement,
 }
 
 // A record with its fields. An offset o is kept as o + 255.
@@ -45,16 +46,21 @@ pub enum Record {
     Constant(u32),
     Operation(u32),
     End,
+    Statement {
+        array: u32,
+        offset: u32,
+    },
 }
 
 // What the tests look at in the records before: counts of arrays, of elements in all and of loops; of the latest loop its first and
-// last, how many items it has and how many numbers wait after them.
+// last, how many statements and items it has, and how many numbers wait in its latest statement.
 pub struct Summary {
     pub arrays: u32,
     pub elements: u32,
     pub loops: u32,
     pub first: u32,
     pub last: u32,
+    pub statements: u32,
     pub items: u32,
     pub waiting: u32,
 }
@@ -84,6 +90,7 @@ impl Summary {
             loops: 0,
             first: 0,
             last: 0,
+            statements: 0,
             items: 32,
             waiting: 1,
         }
@@ -107,6 +114,7 @@ impl Summary {
         t.loops = self.loops + 1;
         t.first = first;
         t.last = last;
+        t.statements = 1;
         t.items = 0;
         t.waiting = 0;
         t
@@ -119,6 +127,16 @@ impl Summary {
         let mut t = self;
         t.items = self.items + 1;
         t.waiting = waiting;
+        t
+    }
+
+    fn with_statement(self) -> Self
+        requires { ⌜ self .statements < 4 ⌝ }
+        ensures { λ r. ⌜ r ≡ withStatement self ⌝ }
+    {
+        let mut t = self;
+        t.statements = self.statements + 1;
+        t.waiting = 0;
         t
     }
 
@@ -146,6 +164,10 @@ impl Summary {
                 self.with_item(self.waiting - n + 1)
             }
             Record::End => self,
+            Record::Statement {
+                array: _,
+                offset: _,
+            } => self.with_statement(),
         }
     }
 }

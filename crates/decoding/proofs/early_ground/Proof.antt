@@ -27,10 +27,13 @@ returns-6 c = rw (c .before .enum-told6 .given .1) (c .item-early3 .ensures)
 returns-7 : tie.Need-returns-7
 returns-7 c = rw (c .before .enum-told7 .given .1) (c .end-early .ensures)
 
+returns-8 : tie.Need-returns-8
+returns-8 c = rw (c .before .enum-told8 .given .1) (c .statement-early .ensures)
+
 pub early-ground-spec : {M : Type 1} → statement M
 early-ground-spec =
     tie.close (tie.spec
     (λ c. search needs) (λ c. search needs) (λ c κs. search needs) (λ c. search needs) (λ c κs. search needs)
     (λ c. search needs) (λ c κs. search needs) (λ c. search needs) (λ c κs. search needs) (λ c. search needs)
-    (λ c κs. search needs) (λ c. search needs) (λ c κs. search needs) returns returns-2 returns-3 returns-4
-    returns-5 returns-6 returns-7)
+    (λ c κs. search needs) (λ c. search needs) (λ c κs. search needs) (λ c. search needs) (λ c κs. search needs) returns returns-2 returns-3 returns-4
+    returns-5 returns-6 returns-7 returns-8)

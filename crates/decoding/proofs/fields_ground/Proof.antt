@@ -26,9 +26,12 @@ returns-7 : tie.Need-returns-7
 unfolding fields
 returns-7 c = rw (c .enum-told2 .given .1)
 
+returns-8 : tie.Need-returns-8
+returns-8 c = rw (c .before .before .r6 .given .1) (c .statement-tests .ensures)
+
 pub fields-ground-spec : {M : Type 1} → statement M
 fields-ground-spec =
     tie.close (tie.spec
     (λ c. search needs) (λ c. search needs) (λ c κs. search needs) (λ c. search needs) (λ c κs. search needs)
     (λ c. search needs) (λ c κs. search needs) (λ c. search needs) (λ c κs. search needs) (λ c. search needs)
-    (λ c κs. search needs) (λ c. search needs) returns returns-2 returns-3 returns-4 returns-5 returns-6 returns-7)
+    (λ c κs. search needs) (λ c. search needs) (λ c. search needs) (λ c κs. search needs) returns returns-2 returns-3 returns-4 returns-5 returns-6 returns-7 returns-8)

@@ -45,6 +45,15 @@ four-at-requires-4 c κs = omega (arith, ap spanOf (c .enum-told5 .given .1))
 one-at-requires-3 : tie.Need-one-at-requires-3
 one-at-requires-3 c κs = omega (arith, ap spanOf (c .enum-told6 .given .1))
 
+one-at-requires-4 : tie.Need-one-at-requires-4
+one-at-requires-4 c κs = omega (arith, ap spanOf (c .enum-told8 .given .1))
+
+add-offset-at-3 : tie.Need-add-offset-at-3
+add-offset-at-3 c = omega (arith, ap spanOf (c .before .enum-told8 .given .1))
+
+offset-at-requires-3 : tie.Need-offset-at-requires-3
+offset-at-requires-3 c κs = omega (arith, ap spanOf (c .before .enum-told8 .given .1))
+
 returns : tie.Need-returns
 unfolding recordOf
 returns c = rw (c .enum-told .given .1)
@@ -73,11 +82,16 @@ returns-7 : tie.Need-returns-7
 unfolding recordOf
 returns-7 c = rw (c .enum-told7 .given .1)
 
+returns-8 : tie.Need-returns-8
+unfolding recordOf
+returns-8 c = rw (c .before .before .enum-told8 .given .1) (cc)
+
 pub record-of-spec : {M : Type 1} → statement M
 record-of-spec =
     tie.close (tie.spec
     (λ c. search needs) (λ c. search needs) four-at-requires (λ c. search needs) four-at-requires-2 add-four-at
     four-at-requires-3 add-one-at one-at-requires add-offset-at offset-at-requires (λ c. search needs)
     one-at-requires-2 add-offset-at-2 offset-at-requires-2 (λ c. search needs) four-at-requires-4
-    (λ c. search needs) one-at-requires-3 (λ c. search needs) returns returns-2 returns-3 returns-4 returns-5
-    returns-6 returns-7)
+    (λ c. search needs) one-at-requires-3 (λ c. search needs) (λ c. search needs) one-at-requires-4 add-offset-at-3 offset-at-requires-3
+    returns returns-2 returns-3 returns-4 returns-5
+    returns-6 returns-7 returns-8)

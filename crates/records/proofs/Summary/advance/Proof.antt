@@ -57,6 +57,11 @@ with-item-requires-3 c κs =
     let room = subst (λ (x : Record). Room x (b .args .self)) (c .before .before .before .r3 .given .1) (b .pre) in
     room .0
 
+with-statement-requires : tie.Need-with-statement-requires
+with-statement-requires c κs =
+    let b = c .before .before in
+    subst (λ (x : Record). Room x (b .args .self)) (c .enum-told5 .given .1) (b .pre)
+
 returns : tie.Need-returns
 unfolding advanced
 returns c = rw (c .enum-told .given .1)
@@ -85,10 +90,14 @@ returns-7 : tie.Need-returns-7
 unfolding advanced
 returns-7 c = rw (c .enum-told4 .given .1)
 
+returns-8 : tie.Need-returns-8
+unfolding advanced
+returns-8 c = rw (c .before .enum-told5 .given .1) (c .with-statement .ensures)
+
 pub advance-spec : {M : Type 1} → statement M
 advance-spec =
     tie.close (tie.spec
     (λ c. search needs) (λ c. search needs) with-array-requires (λ c. search needs) with-loop-requires
     (λ c. search needs) add-with-item with-item-requires (λ c. search needs) add-with-item-2 with-item-requires-2
     (λ c. search needs) (λ c κs. search needs) sub-with-item add-with-item-3 with-item-requires-3
-    (λ c. search needs) returns returns-2 returns-3 returns-4 returns-5 returns-6 returns-7)
+    (λ c. search needs) (λ c. search needs) with-statement-requires returns returns-2 returns-3 returns-4 returns-5 returns-6 returns-7 returns-8)
