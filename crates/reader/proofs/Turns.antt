@@ -101,7 +101,7 @@ module _ (s : List ℕ) (c : List ℕ) (t : Summary) (at rows : ℕ) (inv : Inv 
       pub further : (at < n) × (n ≤ length s)
       further = let w = whole .0 in (omega (arith, w .next), w .fits)
 
-      pub passed-places : Places t rows × (rowsAfter r rows ≤ 528) × ArrayFits r
+      pub passed-places : Places t rows × (rowsAfter r rows ≤ 576) × ArrayFits r
       passed-places =
           let clear = whole .0 .clear in
           (places, kept-stored c rs rows stored r clear (whole .1) .kept .few-rows, kept-small c rs rows stored r clear)

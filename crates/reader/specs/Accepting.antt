@@ -8,15 +8,16 @@ use lib.ListN.{length, length-append}
 use lib.Dec.{ltb}
 use borrow.Author.Tests.{ltb-false, le-ltb}
 use Rattle.records.specs.declared.Record.{Record}
-use Rattle.records.specs.declared.Record.the-variants.{Unknown, Array, Loop, Read, Constant, Operation, End}
+use Rattle.records.specs.declared.Record.the-variants.{Unknown, Array, Loop, Read, Constant, Operation, End, Statement}
 use Rattle.records.specs.declared.Tested.{Tested}
 use Rattle.records.specs.declared.Tested.the-variants as found
-use Rattle.records.specs.History.{summary, lengths, advanced, blank, withArray, withLoop, withItem}
+use Rattle.records.specs.History.{summary, lengths, advanced, blank, withArray, withLoop, withItem, withStatement}
 use Rattle.records.specs.Grounds.{tested}
 use Rattle.records.specs.Outcome.{Whole, passed-whole, ended-whole}
 use Rattle.records.specs.Passing.{whole-passed, whole-ended}
 use Rattle.records.specs.Same.{record-length}
 use Rattle.model.specs.Table.{Item, read, constant, operation, Table}
+use Rattle.model.specs.Table.{Statement as StatementOf}
 use Rattle.refusals.specs.Refusals.{met}
 use Rattle.refusals.specs.Answers.{accepted, refused, _if_else_}
 use Rattle.refusals.specs.AnswerLaws.{not-both}
@@ -79,7 +80,7 @@ accepted-rest s t e = from-rest (suc (length s)) s 0 [] t e
 
 -- COUNTS
 pub arrays-counted : (rs : List Record) → length (lengths rs) ≡ summary rs .arrays
-unfolding summary advanced blank withArray withLoop withItem lengths
+unfolding summary advanced blank withArray withLoop withItem withStatement lengths
 arrays-counted [] = refl
 arrays-counted (Unknown ∷ rs) = arrays-counted rs
 arrays-counted (Array n ∷ rs) = omega (arith, arrays-counted rs, length-append (lengths rs) (n ∷ []))
@@ -88,27 +89,29 @@ arrays-counted (Read q o ∷ rs) = arrays-counted rs
 arrays-counted (Constant n ∷ rs) = arrays-counted rs
 arrays-counted (Operation o ∷ rs) = arrays-counted rs
 arrays-counted (End ∷ rs) = arrays-counted rs
+arrays-counted (Statement q o ∷ rs) = arrays-counted rs
 
-pub loops-counted : (rs : List Record) (xs : List Item) → length (loopsOf rs xs) ≡ summary rs .loops
-unfolding summary advanced blank withArray withLoop withItem loopsOf
-loops-counted [] xs = refl
-loops-counted (Unknown ∷ rs) xs = loops-counted rs xs
-loops-counted (Array n ∷ rs) xs = loops-counted rs xs
-loops-counted (Loop f l q o ∷ rs) xs =
+pub loops-counted : (rs : List Record) (xs : List Item) (ss : List StatementOf) → length (loopsOf rs xs ss) ≡ summary rs .loops
+unfolding summary advanced blank withArray withLoop withItem withStatement loopsOf
+loops-counted [] xs ss = refl
+loops-counted (Unknown ∷ rs) xs ss = loops-counted rs xs ss
+loops-counted (Array n ∷ rs) xs ss = loops-counted rs xs ss
+loops-counted (Loop f l q o ∷ rs) xs ss =
     omega (
       arith,
-      loops-counted rs [],
-      length-append (loopsOf rs []) (record { first = f; last = l; body = record { array = q; offset = o; items = xs } ∷ [] } ∷ []),
+      loops-counted rs [] [],
+      length-append (loopsOf rs [] []) (record { first = f; last = l; body = record { array = q; offset = o; items = xs } ∷ ss } ∷ []),
     )
-loops-counted (Read q o ∷ rs) xs = loops-counted rs (read q o ∷ xs)
-loops-counted (Constant n ∷ rs) xs = loops-counted rs (constant n ∷ xs)
-loops-counted (Operation o ∷ rs) xs = loops-counted rs (operation o ∷ xs)
-loops-counted (End ∷ rs) xs = loops-counted rs xs
+loops-counted (Read q o ∷ rs) xs ss = loops-counted rs (read q o ∷ xs) ss
+loops-counted (Constant n ∷ rs) xs ss = loops-counted rs (constant n ∷ xs) ss
+loops-counted (Operation o ∷ rs) xs ss = loops-counted rs (operation o ∷ xs) ss
+loops-counted (End ∷ rs) xs ss = loops-counted rs xs ss
+loops-counted (Statement q o ∷ rs) xs ss = loops-counted rs [] (record { array = q; offset = o; items = xs } ∷ ss)
 
 -- an array's record has five bytes
 five : (s : List ℕ) (at n : ℕ) (rs : List Record) (r : Record) → Whole s at (summary rs) (lengths rs) r n → 5 * summary rs .arrays ≤ at
     → 5 * summary (r ∷ rs) .arrays ≤ n
-unfolding summary advanced withArray withLoop withItem
+unfolding summary advanced withArray withLoop withItem withStatement
 five s at n rs Unknown w h = omega (arith, w .next)
 five s at n rs (Array m) w h = omega (arith, w .next, record-length s at (Array m) (w .is))
 five s at n rs (Loop f l q o) w h = omega (arith, w .next)
@@ -116,6 +119,7 @@ five s at n rs (Read q o) w h = omega (arith, w .next)
 five s at n rs (Constant m) w h = omega (arith, w .next)
 five s at n rs (Operation o) w h = omega (arith, w .next)
 five s at n rs End w h = omega (arith, w .next)
+five s at n rs (Statement q o) w h = omega (arith, w .next)
 
 rest-long : (s : List ℕ) (at : ℕ) (rs all : List Record) → Rest s at rs all → 5 * summary rs .arrays ≤ at → 5 * summary all .arrays < length s
 rest-long s at rs all (ended w) l = omega (arith, w .there)

@@ -52,7 +52,7 @@ module _ {c : List ℕ} {t : Table} (h : Holds c t) where
   rows-end k l =
       starts-up c (arraysIn c) (loopsIn c) (startAt c (loopsIn c)) (h .kept) k (loopsIn c) (omega (arith, count-held)) (omega arith)
 
-  pub few-rows : (k : ℕ) → k ≤ count t → startAt c k ≤ 528
+  pub few-rows : (k : ℕ) → k ≤ count t → startAt c k ≤ 576
   few-rows k l = omega (arith, rows-end k l, h .kept .few-rows)
 
   pub row-held : (k r : ℕ) → k ≤ count t → r < startAt c k → Row c r

@@ -6,29 +6,31 @@ use lib.Dec.{ltb}
 use Rattle.refusals.specs.Refusals.{met}
 use Rattle.refusals.specs.Answers.{AnswerOf, accepted, refused, _if_else_}
 use Rattle.records.specs.declared.Record.{Record}
-use Rattle.records.specs.declared.Record.the-variants.{Unknown, Array, Loop, Read, Constant, Operation, End}
+use Rattle.records.specs.declared.Record.the-variants.{Unknown, Array, Loop, Read, Constant, Operation, End, Statement}
 use Rattle.records.specs.declared.Tested.{Tested}
 use Rattle.records.specs.declared.Tested.the-variants.{Refused, Passed, Ended}
 use Rattle.records.specs.History.{summary, lengths}
 use Rattle.records.specs.Grounds.{tested}
 use Rattle.model.specs.Table.{Item, read, constant, operation, Table}
-use Rattle.model.specs.Table.{Loop as LoopOf}
+use Rattle.model.specs.Table.{Statement as StatementOf, Loop as LoopOf}
 
--- the loops of the records before a place, the latest record first; xs are the items that follow
-unfoldable pub loopsOf : List Record → List Item → List LoopOf
-loopsOf [] xs = []
-loopsOf (Unknown ∷ rs) xs = loopsOf rs xs
-loopsOf (Array n ∷ rs) xs = loopsOf rs xs
-loopsOf (Loop f l q o ∷ rs) xs =
-    loopsOf rs [] ++ (record { first = f; last = l; body = record { array = q; offset = o; items = xs } ∷ [] } ∷ [])
-loopsOf (Read q o ∷ rs) xs = loopsOf rs (read q o ∷ xs)
-loopsOf (Constant n ∷ rs) xs = loopsOf rs (constant n ∷ xs)
-loopsOf (Operation o ∷ rs) xs = loopsOf rs (operation o ∷ xs)
-loopsOf (End ∷ rs) xs = loopsOf rs xs
+-- the loops of the records before a place, the latest record first; xs are the items that follow in the statement, and ss the statements
+-- that follow in the loop
+unfoldable pub loopsOf : List Record → List Item → List StatementOf → List LoopOf
+loopsOf [] xs ss = []
+loopsOf (Unknown ∷ rs) xs ss = loopsOf rs xs ss
+loopsOf (Array n ∷ rs) xs ss = loopsOf rs xs ss
+loopsOf (Loop f l q o ∷ rs) xs ss =
+    loopsOf rs [] [] ++ (record { first = f; last = l; body = record { array = q; offset = o; items = xs } ∷ ss } ∷ [])
+loopsOf (Read q o ∷ rs) xs ss = loopsOf rs (read q o ∷ xs) ss
+loopsOf (Constant n ∷ rs) xs ss = loopsOf rs (constant n ∷ xs) ss
+loopsOf (Operation o ∷ rs) xs ss = loopsOf rs (operation o ∷ xs) ss
+loopsOf (End ∷ rs) xs ss = loopsOf rs xs ss
+loopsOf (Statement q o ∷ rs) xs ss = loopsOf rs [] (record { array = q; offset = o; items = xs } ∷ ss)
 
 -- the table that records make
 abbrev pub tableOf : List Record → Table
-tableOf rs = record { lengths = lengths rs; loops = loopsOf rs [] }
+tableOf rs = record { lengths = lengths rs; loops = loopsOf rs [] [] }
 
 abbrev pub Answer : Type 0
 Answer = AnswerOf Table

@@ -11,7 +11,7 @@ use Rattle.records.specs.declared.Summary.{Summary}
 use Rattle.model.specs.Table.{Item, read, constant, operation, Statement, Loop, Table}
 
 -- THE LAYOUT: the lengths of the arrays from 0 on; loop k has its bounds at k from 16 and from 32 on, and the rows from startAt k up to
--- startAt (k + 1): its destination, then its items; a row is two numbers, its head and its value; the head is the row's kind times 16 and
+-- startAt (k + 1): of each statement its destination, then its items; a row is two numbers, its head and its value; the head is the row's kind times 16 and
 -- its array, which is below 16, so that both stand in one number; past all rows stand how many arrays and how many loops there are
 module _ (c : List ℕ) where
   abbrev pub firstAt : ℕ → ℕ
@@ -33,13 +33,13 @@ module _ (c : List ℕ) where
   valueAt r = getD c (65 + 2 * r + 1) 0
 
   abbrev pub arraysIn : ℕ
-  arraysIn = getD c 1121 0
+  arraysIn = getD c 1217 0
 
   abbrev pub loopsIn : ℕ
-  loopsIn = getD c 1122 0
+  loopsIn = getD c 1218 0
 
 abbrev pub Sized : List ℕ → Type 0
-Sized c = length c ≡ 1123
+Sized c = length c ≡ 1219
 
 -- the kind of a row: 0 a read, 1 a destination, 2 a constant, 3 an operation
 unfoldable pub itemOf : ℕ → ℕ → ℕ → Item
@@ -54,19 +54,28 @@ module _ (c : List ℕ) where
   itemsFrom r zero = []
   itemsFrom r (suc n) = itemAt r ∷ itemsFrom (suc r) n
 
-  -- a statement: its destination's row, then its items up to the row `past`
-  abbrev pub statementAt : ℕ → ℕ → Statement
-  statementAt r past = record {
-    array = arrayAt c r;
-    offset = valueAt c r;
-    items = itemsFrom (suc r) (past - suc r);
-  }
+  -- the items from row r on, of n rows, up to the first destination's row; behind the last row the items xs
+  unfoldable pub leadFrom : ℕ → ℕ → List Item → List Item
+  leadFrom r zero xs = xs
+  leadFrom r (suc n) xs = cond (eqb (kindAt c r) 1) [] (itemAt r ∷ leadFrom (suc r) n xs)
+
+  -- a statement: its destination's row, then the items in the n rows behind it, up to the next destination's
+  abbrev pub statementAt : ℕ → ℕ → List Item → Statement
+  statementAt r n xs = record { array = arrayAt c r; offset = valueAt c r; items = leadFrom (suc r) n xs }
+
+  -- the statements that begin in the n rows from row r on; behind the last row the items xs and the statements ss
+  unfoldable pub bodyFrom : ℕ → ℕ → List Item → List Statement → List Statement
+  bodyFrom r zero xs ss = ss
+  bodyFrom r (suc n) xs ss = cond (eqb (kindAt c r) 1) (statementAt r n xs ∷ bodyFrom (suc r) n xs ss) (bodyFrom (suc r) n xs ss)
+
+  abbrev pub statementsFrom : ℕ → ℕ → List Statement
+  statementsFrom r n = bodyFrom r n [] []
 
   abbrev pub loopAt : ℕ → Loop
   loopAt k = record {
     first = firstAt c k;
     last = lastAt c k;
-    body = statementAt (startAt c k) (startAt c (suc k)) ∷ [];
+    body = statementsFrom (startAt c k) (startAt c (suc k) - startAt c k);
   }
 
   -- the n loops from loop k on
@@ -90,7 +99,7 @@ unfoldable pub withBounds : ℕ → ℕ → ℕ → List ℕ → List ℕ
 withBounds k f l c = set (set c (16 + k) f) (32 + k) l
 
 unfoldable pub withCounts : ℕ → ℕ → List ℕ → List ℕ
-withCounts arrays loops c = set (set c 1121 arrays) 1122 loops
+withCounts arrays loops c = set (set c 1217 arrays) 1218 loops
 
 -- what a record adds, after records with the summary t, in row r
 unfoldable pub kept : Record → Summary → ℕ → List ℕ → List ℕ
@@ -101,6 +110,7 @@ kept (rec.Read q o) t r c = withRow (t .loops) r 0 q o c
 kept (rec.Constant n) t r c = withRow (t .loops) r 2 0 n c
 kept (rec.Operation o) t r c = withRow (t .loops) r 3 0 o c
 kept rec.End t r c = c
+kept (rec.Statement q o) t r c = withRow (t .loops) r 1 q o c
 
 -- how many rows then
 unfoldable pub rowsAfter : Record → ℕ → ℕ
@@ -111,12 +121,13 @@ rowsAfter (rec.Read q o) r = r + 1
 rowsAfter (rec.Constant n) r = r + 1
 rowsAfter (rec.Operation o) r = r + 1
 rowsAfter rec.End r = r
+rowsAfter (rec.Statement q o) r = r + 1
 
 -- places for all that a record adds
 pub record Places (t : Summary) (r : ℕ) : Type 0 where
   pub arrays : t .arrays ≤ 16
   pub loops : t .loops ≤ 16
-  pub rows : r ≤ 528
+  pub rows : r ≤ 576
 
 -- the array of a record is one of sixteen: a head has room for it
 abbrev pub ArrayFits : Record → Type 0
@@ -127,3 +138,4 @@ ArrayFits (rec.Read q o) = q < 16
 ArrayFits (rec.Constant n) = Unit {0}
 ArrayFits (rec.Operation o) = Unit {0}
 ArrayFits rec.End = Unit {0}
+ArrayFits (rec.Statement q o) = q < 16

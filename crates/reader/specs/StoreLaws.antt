@@ -54,7 +54,7 @@ module _ (c : List ℕ) (k r kind q v : ℕ) where
       ∙ take-set-le n s1 (65 + 2 * r) (kind * 16 + q) (omega arith)
       ∙ take-set-le n c (48 + k) (r + 1) (omega arith)
 
-  module _ (z : Sized c) (few : r < 528) where
+  module _ (z : Sized c) (few : r < 576) where
     row-head : getD (withRow k r kind q v c) (65 + 2 * r) 0 ≡ kind * 16 + q
     unfolding withRow
     row-head =
@@ -105,19 +105,19 @@ module _ (c : List ℕ) (a l : ℕ) where
   unfolding withCounts
   sized-counts z = simp length-set z
 
-  pub counts-leave : (i : ℕ) → i < 1121 → getD (withCounts a l c) i 0 ≡ getD c i 0
+  pub counts-leave : (i : ℕ) → i < 1217 → getD (withCounts a l c) i 0 ≡ getD c i 0
   unfolding withCounts
-  counts-leave i m = getD-set-other (set c 1121 a) 1122 i l 0 (λ e. omega arith) ∙ getD-set-other c 1121 i a 0 (λ e. omega arith)
+  counts-leave i m = getD-set-other (set c 1217 a) 1218 i l 0 (λ e. omega arith) ∙ getD-set-other c 1217 i a 0 (λ e. omega arith)
 
   pub counts-lengths : (n : ℕ) → n ≤ 16 → take n (withCounts a l c) ≡ take n c
   unfolding withCounts
-  counts-lengths n m = take-set-le n (set c 1121 a) 1122 l (omega arith) ∙ take-set-le n c 1121 a (omega arith)
+  counts-lengths n m = take-set-le n (set c 1217 a) 1218 l (omega arith) ∙ take-set-le n c 1217 a (omega arith)
 
   module _ (z : Sized c) where
     pub counts-arrays : arraysIn (withCounts a l c) ≡ a
     unfolding withCounts
-    counts-arrays = getD-set-other (set c 1121 a) 1122 1121 l 0 (λ e. omega arith) ∙ getD-set-same c 1121 a 0 (omega (arith, z))
+    counts-arrays = getD-set-other (set c 1217 a) 1218 1217 l 0 (λ e. omega arith) ∙ getD-set-same c 1217 a 0 (omega (arith, z))
 
     pub counts-loops : loopsIn (withCounts a l c) ≡ l
     unfolding withCounts
-    counts-loops = getD-set-same (set c 1121 a) 1122 l 0 (simp length-set (omega (arith, z)))
+    counts-loops = getD-set-same (set c 1217 a) 1218 l 0 (simp length-set (omega (arith, z)))

@@ -4,31 +4,42 @@ use native.Mathlib.Omega.{arith}
 use native.Mathlib.Decide.{ℕ-discrete}
 use native.Mathlib.Numerals.{add-one}
 use mathlib.Core.Path.{_≡_, refl, sym, ap, subst, _∙_}
-use mathlib.Core.List.{List, [], _∷_, _++_, append-nil, append-assoc}
+use mathlib.Core.List.{List, [], _∷_, _++_}
 use lib.ListN.{length, getD, set, take, length-set}
+use borrow.Author.Tests.{eq-eqb, ne-eqb}
 use lib.Seq.{take-suc, take-set-le, getD-set-same, getD-set-other}
 use Rattle.records.specs.declared.Record.{Record}
 use Rattle.records.specs.declared.Record.the-variants as rec
 use Rattle.records.specs.declared.Summary.{Summary}
-use Rattle.records.specs.History.{summary, lengths, advanced, blank, withArray, withLoop, withItem}
+use Rattle.records.specs.History.{summary, lengths, advanced, blank, withArray, withLoop, withItem, withStatement}
 use Rattle.records.specs.Clear.{Clear}
-use Rattle.model.specs.Table.{Item, read, constant, operation, Loop}
+use Rattle.model.specs.Table.{Item, read, constant, operation, Statement, Loop}
 use Rattle.reader.specs.Reading.{loopsOf}
 use Rattle.reader.specs.Store.{Sized, firstAt, lastAt, startAt, kindAt, arrayAt, valueAt, arraysIn, loopsIn, tableAt, tableIn, itemOf}
-use Rattle.reader.specs.Store.{itemAt, itemsFrom, statementAt, loopAt, loopsFrom, withRow, withBounds, withCounts, kept, rowsAfter}
+use Rattle.reader.specs.Store.{itemAt, leadFrom, bodyFrom, loopAt, loopsFrom, withRow, withBounds, withCounts, kept, rowsAfter}
 use Rattle.reader.specs.Store.{ArrayFits}
 use Rattle.reader.specs.StoreLaws.{sized-row, row-leaves, row-lengths, row-kind, row-array, row-value, row-start, sized-bounds}
 use Rattle.reader.specs.StoreLaws.{bounds-leave, bounds-lengths, bounds-first, bounds-last}
 use Rattle.reader.specs.StoreLaws.{sized-counts, counts-leave, counts-lengths, counts-arrays, counts-loops}
 use Rattle.reader.specs.Stored.{Row, InPlace, Holds, loopWith, shown, Stored}
 
--- THE ITEMS AND LOOPS OF A STORE, one more
-items-snoc : (c : List ℕ) (r n : ℕ) → itemsFrom c r (suc n) ≡ itemsFrom c r n ++ (itemAt c (r + n) ∷ [])
-unfolding itemsFrom
-items-snoc c r zero = let e : r ≡ r + 0 = omega arith in ap (λ (k : ℕ). itemAt c k ∷ []) e
-items-snoc c r (suc n) =
-    let e : suc r + n ≡ r + suc n = omega arith in
-    ap (λ (l : List Item). itemAt c r ∷ l) (items-snoc c (suc r) n ∙ ap (λ (k : ℕ). itemsFrom c (suc r) n ++ (itemAt c k ∷ [])) e)
+-- THE STATEMENTS AND LOOPS OF A STORE, n rows and m more
+module _ (c : List ℕ) (m : ℕ) (xs : List Item) (ss : List Statement) where
+  pub lead-append : (r n : ℕ) → leadFrom c r (n + m) xs ≡ leadFrom c r n (leadFrom c (r + n) m xs)
+  unfolding leadFrom
+  lead-append r zero = let z : 0 + m ≡ m = omega arith in let e : r ≡ r + 0 = omega arith in rw (z, ← e)
+  lead-append r (suc n) =
+      let z : suc n + m ≡ suc (n + m) = omega arith in
+      let e : suc r + n ≡ r + suc n = omega arith in
+      rw (z, ← e, lead-append (suc r) n)
+
+  pub body-append : (r n : ℕ) → bodyFrom c r (n + m) xs ss ≡ bodyFrom c r n (leadFrom c (r + n) m xs) (bodyFrom c (r + n) m xs ss)
+  unfolding bodyFrom
+  body-append r zero = let z : 0 + m ≡ m = omega arith in let e : r ≡ r + 0 = omega arith in rw (z, ← e)
+  body-append r (suc n) =
+      let z : suc n + m ≡ suc (n + m) = omega arith in
+      let e : suc r + n ≡ r + suc n = omega arith in
+      rw (z, ← e, lead-append (suc r) n, body-append (suc r) n)
 
 loops-snoc : (c : List ℕ) (k n : ℕ) → loopsFrom c k (suc n) ≡ loopsFrom c k n ++ (loopAt c (k + n) ∷ [])
 unfolding loopsFrom
@@ -49,21 +60,30 @@ record Agree (c d : List ℕ) (n past : ℕ) : Type 0 where
   values : (r : ℕ) → r < past → valueAt c r ≡ valueAt d r
 
 module _ (c d : List ℕ) (m past : ℕ) (a : Agree c d m past) where
-  items-agree : (r n : ℕ) → r + n ≤ past → itemsFrom c r n ≡ itemsFrom d r n
-  unfolding itemsFrom
-  items-agree r zero h = refl
-  items-agree r (suc n) h =
-      rw (a .kinds r (omega arith), a .arrays r (omega arith), a .values r (omega arith), items-agree (suc r) n (omega arith))
+  lead-agree : (xs : List Item) (r n : ℕ) → r + n ≤ past → leadFrom c r n xs ≡ leadFrom d r n xs
+  unfolding leadFrom
+  lead-agree xs r zero h = refl
+  lead-agree xs r (suc n) h =
+      rw (a .kinds r (omega arith), a .arrays r (omega arith), a .values r (omega arith), lead-agree xs (suc r) n (omega arith))
 
-  statement-agree : (r n : ℕ) → r < past → n ≤ past → statementAt c r n ≡ statementAt d r n
-  statement-agree r n h l = rw (a .arrays r h, a .values r h, items-agree (suc r) (n - suc r) (omega arith))
+  body-agree : (xs : List Item) (ss : List Statement) (r n : ℕ) → r + n ≤ past → bodyFrom c r n xs ss ≡ bodyFrom d r n xs ss
+  unfolding bodyFrom
+  body-agree xs ss r zero h = refl
+  body-agree xs ss r (suc n) h =
+      rw (
+        a .kinds r (omega arith),
+        a .arrays r (omega arith),
+        a .values r (omega arith),
+        lead-agree xs (suc r) n (omega arith),
+        body-agree xs ss (suc r) n (omega arith),
+      )
 
   loop-agree : (k : ℕ) → k < m → loopAt c k ≡ loopAt d k
   loop-agree k h =
       rw (
         a .firsts k h,
         a .lasts k h,
-        statement-agree (startAt c k) (startAt c (suc k)) (a .inside k h) (a .within (suc k) h),
+        body-agree [] [] (startAt c k) (startAt c (suc k) - startAt c k) (omega (arith, a .inside k h, a .within (suc k) h)),
         a .starts k (omega arith),
         a .starts (suc k) h,
       )
@@ -80,16 +100,16 @@ loops-none : (c : List ℕ) (k : ℕ) → loopsFrom c k 0 ≡ []
 unfolding loopsFrom
 loops-none c k = refl
 
-shown-all : (c : List ℕ) (n rows : ℕ) → startAt c n ≡ rows → shown c n rows [] ≡ loopsFrom c 0 n
+shown-all : (c : List ℕ) (n rows : ℕ) → startAt c n ≡ rows → shown c n rows [] [] ≡ loopsFrom c 0 n
 unfolding shown
 shown-all c zero rows e = sym (loops-none c 0)
 shown-all c (suc m) rows e =
     let z : 0 + m ≡ m = omega arith in
-    let l : loopWith c m rows [] ≡ loopAt c m = rw (append-nil (itemsFrom c (suc (startAt c m)) (rows - suc (startAt c m))), e) in
+    let l : loopWith c m rows [] [] ≡ loopAt c m = rw e in
     ap (λ (x : Loop). loopsFrom c 0 m ++ (x ∷ [])) l ∙ sym (loops-snoc c 0 m ∙ ap (λ (k : ℕ). loopsFrom c 0 m ++ (loopAt c k ∷ [])) z)
 
-pub stored-all : (c : List ℕ) (rs : List Record) (rows : ℕ) → Stored c rs rows → loopsOf rs [] ≡ loopsFrom c 0 (summary rs .loops)
-stored-all c rs rows s = s .loops [] ∙ shown-all c (summary rs .loops) rows (s .kept .end)
+pub stored-all : (c : List ℕ) (rs : List Record) (rows : ℕ) → Stored c rs rows → loopsOf rs [] [] ≡ loopsFrom c 0 (summary rs .loops)
+stored-all c rs rows s = s .loops [] [] ∙ shown-all c (summary rs .loops) rows (s .kept .end)
 
 -- the rows of an earlier loop start earlier
 pub starts-up : (c : List ℕ) (a n rows : ℕ) → InPlace c a n rows → (j k : ℕ) → j ≤ k → k ≤ n → startAt c j ≤ startAt c k
@@ -120,7 +140,7 @@ module _ (c d : List ℕ) (j rows kind q v : ℕ) (g : Grown c d j rows kind q v
           let m : r < rows = omega arith in
           record { offset = λ h. rw (← (g .agree .values r m)) (old r m .offset (rw (← (g .agree .kinds r m)) at h)) }
 
-  kept-grown : (a n : ℕ) → InPlace c a n rows → (startAt c j ≡ rows → kind ≡ 1) → j ≤ n → suc j ≤ 16 → rows < 528 → (kind < 2 → v ≤ 510)
+  kept-grown : (a n : ℕ) → InPlace c a n rows → (startAt c j ≡ rows → kind ≡ 1) → j ≤ n → suc j ≤ 16 → rows < 576 → (kind < 2 → v ≤ 510)
       → InPlace d a (suc j) (rows + 1)
   kept-grown a n h top l few room offset = record {
     few-arrays = h .few-arrays;
@@ -152,37 +172,51 @@ module _ (c d : List ℕ) (j rows kind q v : ℕ) (g : Grown c d j rows kind q v
       rise k m (no e) =
           rw (← (g .agree .starts k (omega arith)), ← (g .agree .starts (suc k) (omega arith))) (h .rising k (omega arith))
 
-  -- the items of loop j, with one more
-  items-grown : (x : Item) (xs : List Item) (st n : ℕ) → itemOf kind q v ≡ x → suc st + n ≡ rows
-      → itemsFrom c (suc st) n ++ (x ∷ xs) ≡ itemsFrom d (suc st) (suc n) ++ xs
-  items-grown x xs st n i e =
-      ap (λ (l : List Item). l ++ (x ∷ xs)) (items-agree c d j rows (g .agree) (suc st) n (omega arith))
-      ∙ sym (append-assoc (itemsFrom d (suc st) n) (x ∷ []) xs)
-      ∙ ap (λ (l : List Item). l ++ xs) (sym (items-snoc d (suc st) n ∙ ap (λ (y : Item). itemsFrom d (suc st) n ++ (y ∷ [])) last))
-    where
-      last : itemAt d (suc st + n) ≡ x
-      last = rw (e, g .kind-is, g .array-is, g .value-is) i
+  -- the statements of loop j, with one row more: ys and ts are what that row makes of what follows
+  module _ (xs ys : List Item) (ss ts : List Statement) (lead : leadFrom d rows 1 xs ≡ ys) (body : bodyFrom d rows 1 xs ss ≡ ts) where
+    body-grown : (st n : ℕ) → st + n ≡ rows → bodyFrom c st n ys ts ≡ bodyFrom d st (n + 1) xs ss
+    body-grown st n e =
+        body-agree c d j rows (g .agree) ys ts st n (omega arith)
+        ∙ sym (body-append d 1 xs ss st n ∙ rw (e, lead, body))
 
-  shown-grown : (x : Item) (xs : List Item) → itemOf kind q v ≡ x → firstAt c j ≡ firstAt d j
-      → lastAt c j ≡ lastAt d j → startAt c j < rows → shown c (suc j) rows (x ∷ xs) ≡ shown d (suc j) (rows + 1) xs
-  unfolding shown
-  shown-grown x xs i first last here =
-      let a = g .agree in
-      let st = startAt c j in
-      let e : suc st + (rows - suc st) ≡ rows = omega arith in
-      let f : rows + 1 - suc st ≡ suc (rows - suc st) = omega arith in
-      let y : loopWith c j rows (x ∷ xs) ≡ loopWith d j (rows + 1) xs =
-      rw (← (a .starts j (omega arith)), first, last, a .arrays st here, a .values st here, f, items-grown x xs st (rows - suc st) i e) in
-      ap (λ (l : List Loop). l ++ (loopWith c j rows (x ∷ xs) ∷ [])) (loops-agree c d j rows a 0 j (omega arith))
-      ∙ ap (λ (z : Loop). loopsFrom d 0 j ++ (z ∷ [])) y
+    shown-grown : firstAt c j ≡ firstAt d j → lastAt c j ≡ lastAt d j → startAt c j < rows
+        → shown c (suc j) rows ys ts ≡ shown d (suc j) (rows + 1) xs ss
+    unfolding shown
+    shown-grown first last here =
+        let a = g .agree in
+        let st = startAt c j in
+        let e : st + (rows - st) ≡ rows = omega arith in
+        let f : rows + 1 - st ≡ (rows - st) + 1 = omega arith in
+        let y : loopWith c j rows ys ts ≡ loopWith d j (rows + 1) xs ss =
+        rw (← (a .starts j (omega arith)), first, last, f, body-grown st (rows - st) e) in
+        ap (λ (l : List Loop). l ++ (loopWith c j rows ys ts ∷ [])) (loops-agree c d j rows a 0 j (omega arith))
+        ∙ ap (λ (z : Loop). loopsFrom d 0 j ++ (z ∷ [])) y
 
-shown-none : (c d : List ℕ) (rows : ℕ) (xs : List Item) → shown c 0 rows xs ≡ shown d 0 rows xs
+shown-none : (c d : List ℕ) (rows : ℕ) (xs : List Item) (ss : List Statement) → shown c 0 rows xs ss ≡ shown d 0 rows xs ss
 unfolding shown
-shown-none c d rows xs = refl
+shown-none c d rows xs ss = refl
+
+-- what one row makes of what follows: an item goes before the items, a destination opens a statement with them
+module _ (d : List ℕ) (r : ℕ) (xs : List Item) (ss : List Statement) where
+  item-lead : (kindAt d r ≡ 1 → ⊥) → leadFrom d r 1 xs ≡ itemAt d r ∷ xs
+  unfolding leadFrom
+  item-lead n = rw (ne-eqb (kindAt d r) 1 n)
+
+  item-body : (kindAt d r ≡ 1 → ⊥) → bodyFrom d r 1 xs ss ≡ ss
+  unfolding bodyFrom
+  item-body n = rw (ne-eqb (kindAt d r) 1 n)
+
+  opening-lead : kindAt d r ≡ 1 → leadFrom d r 1 xs ≡ []
+  unfolding leadFrom
+  opening-lead e = rw (eq-eqb (kindAt d r) 1 e)
+
+  opening-body : kindAt d r ≡ 1 → bodyFrom d r 1 xs ss ≡ record { array = arrayAt d r; offset = valueAt d r; items = xs } ∷ ss
+  unfolding bodyFrom leadFrom
+  opening-body e = rw (eq-eqb (kindAt d r) 1 e)
 
 -- THE STEPS: an item, a loop, an array
 -- a row at the end of loop j: b is c but for the bounds of loop j
-row-more : (c b : List ℕ) (a n j rows kind q v : ℕ) → Sized b → InPlace c a n rows → j ≤ n → suc j ≤ 16 → rows < 528 → q < 16
+row-more : (c b : List ℕ) (a n j rows kind q v : ℕ) → Sized b → InPlace c a n rows → j ≤ n → suc j ≤ 16 → rows < 576 → q < 16
     → ((i : ℕ) → (i ≡ 16 + j → ⊥) → (i ≡ 32 + j → ⊥) → getD b i 0 ≡ getD c i 0)
     → Grown c (withRow (suc j) rows kind q v b) j rows kind q v
 row-more c b a n j rows kind q v z h l few room small same = record {
@@ -211,16 +245,24 @@ row-more c b a n j rows kind q v z h l few room small same = record {
     head r m = old (65 + 2 * r) (omega arith) (λ e. omega arith) (λ e. omega arith) (λ e. omega arith)
 
 module _ (c : List ℕ) (rs : List Record) (rows : ℕ) (s : Stored c rs rows) where
-  few : summary rs .items < 32 → rows < 528
+  few : summary rs .statements + summary rs .items < 36 → rows < 576
   few i = omega (arith, s .room, s .kept .few-loops)
 
-  -- an item goes to the latest loop
-  module _ (r : Record) (x : Item) (kind q v w m : ℕ) (i : itemOf kind q v ≡ x)
-      (counted : summary (r ∷ rs) ≡ withItem w (summary rs)) (same : lengths (r ∷ rs) ≡ lengths rs)
-      (added : (xs : List Item) → loopsOf (r ∷ rs) xs ≡ loopsOf rs (x ∷ xs))
-      (open-loop : summary rs .loops ≡ suc m) (free : summary rs .items < 32) (small : q < 16) (offset : kind < 2 → v ≤ 510) where
+  -- a row more in the latest loop, for an item or a further statement: ys and ts are what the record makes of what follows
+  module _ (r : Record) (kind q v m : ℕ) (ys : List Item → List Item) (ts : List Item → List Statement → List Statement)
+      (lead : (d : List ℕ) (xs : List Item) → kindAt d rows ≡ kind → arrayAt d rows ≡ q → valueAt d rows ≡ v → leadFrom d rows 1 xs ≡ ys xs)
+      (body : (d : List ℕ) (xs : List Item) (ss : List Statement) → kindAt d rows ≡ kind → arrayAt d rows ≡ q → valueAt d rows ≡ v
+          → bodyFrom d rows 1 xs ss ≡ ts xs ss)
+      (arrays : summary (r ∷ rs) .arrays ≡ summary rs .arrays) (loops : summary (r ∷ rs) .loops ≡ summary rs .loops)
+      (counted : summary (r ∷ rs) .statements + summary (r ∷ rs) .items ≡ suc (summary rs .statements + summary rs .items))
+      (most-statements : summary (r ∷ rs) .statements ≤ 4) (most-items : summary (r ∷ rs) .items ≤ 32) (same : lengths (r ∷ rs) ≡ lengths rs)
+      (added : (xs : List Item) (ss : List Statement) → loopsOf (r ∷ rs) xs ss ≡ loopsOf rs (ys xs) (ts xs ss))
+      (open-loop : summary rs .loops ≡ suc m) (small : q < 16) (offset : kind < 2 → v ≤ 510) where
     d : List ℕ
     d = withRow (suc m) rows kind q v c
+
+    free : summary rs .statements + summary rs .items < 36
+    free = omega arith
 
     kept-then : InPlace c (summary rs .arrays) (suc m) rows
     kept-then = subst (λ (n : ℕ). InPlace c (summary rs .arrays) n rows) open-loop (s .kept)
@@ -231,30 +273,31 @@ module _ (c : List ℕ) (rs : List Record) (rows : ℕ) (s : Stored c rs rows) w
         row-more c c (summary rs .arrays) (suc m) m rows kind q v (s .sized) kept-then (omega arith) (kept-then .few-loops) (few free)
         small (λ k f l. refl)
 
-    latest : (xs : List Item) → shown c (suc m) rows (x ∷ xs) ≡ shown d (suc m) (rows + 1) xs
+    latest : (xs : List Item) (ss : List Statement) → shown c (suc m) rows (ys xs) (ts xs ss) ≡ shown d (suc m) (rows + 1) xs ss
     unfolding d
-    latest xs =
-        shown-grown c d m rows kind q v grown x xs i
+    latest xs ss =
+        shown-grown c d m rows kind q v grown xs (ys xs) ss (ts xs ss) (lead d xs (grown .kind-is) (grown .array-is) (grown .value-is))
+        (body d xs ss (grown .kind-is) (grown .array-is) (grown .value-is))
         (sym (row-leaves c (suc m) rows kind q v (16 + m) (omega (arith, kept-then .few-loops)) (λ e. omega (arith, kept-then .few-loops))))
         (sym (row-leaves c (suc m) rows kind q v (32 + m) (omega (arith, kept-then .few-loops)) (λ e. omega (arith, kept-then .few-loops))))
         (omega (arith, kept-then .rising m (omega arith), kept-then .end))
 
-    item-stored : Stored d (r ∷ rs) (rows + 1)
-    unfolding withItem d
-    item-stored =
-        let arrays : summary (r ∷ rs) .arrays ≡ summary rs .arrays = ap (λ (t : Summary). t .arrays) counted in
-        let loops : summary (r ∷ rs) .loops ≡ suc m = ap (λ (t : Summary). t .loops) counted ∙ open-loop in
-        let items : summary (r ∷ rs) .items ≡ summary rs .items + 1 = ap (λ (t : Summary). t .items) counted in
+    row-stored : Stored d (r ∷ rs) (rows + 1)
+    unfolding d
+    row-stored =
+        let loops-then : summary (r ∷ rs) .loops ≡ suc m = loops ∙ open-loop in
         record {
           sized = grown .sized;
           lens = rw (arrays, same, row-lengths c (suc m) rows kind q v (summary rs .arrays) (s .kept .few-arrays)) (s .lens);
-          loops = λ xs.
-              rw loops (added xs ∙ s .loops (x ∷ xs) ∙ ap (λ (n : ℕ). shown c n rows (x ∷ xs)) open-loop ∙ latest xs);
+          loops = λ xs ss.
+              rw loops-then
+              (added xs ss ∙ s .loops (ys xs) (ts xs ss) ∙ ap (λ (n : ℕ). shown c n rows (ys xs) (ts xs ss)) open-loop ∙ latest xs ss);
           kept =
-              rw (arrays, loops)
+              rw (arrays, loops-then)
               (kept-grown c d m rows kind q v grown (summary rs .arrays) (suc m) kept-then
               (λ e. absurd (omega (arith, kept-then .rising m (omega arith), kept-then .end))) (omega arith) (kept-then .few-loops) (few free) offset);
-          items = omega arith;
+          statements = most-statements;
+          items = most-items;
           room = omega (arith, s .room);
         }
 
@@ -269,29 +312,29 @@ module _ (c : List ℕ) (rs : List Record) (rows : ℕ) (s : Stored c rs rows) w
     e : List ℕ
     e = withRow (suc n) rows 1 q o b
 
+    low : rows < 576
+    low = omega (arith, s .room, s .items, s .statements)
+
     begun : Grown c e n rows 1 q o
     unfolding e b n
     begun =
-        row-more c b (summary rs .arrays) n n rows 1 q o (sized-bounds c n f l (s .sized)) (s .kept) (omega arith) free (omega (arith, s .room, s .items))
+        row-more c b (summary rs .arrays) n n rows 1 q o (sized-bounds c n f l (s .sized)) (s .kept) (omega arith) free low
         small (bounds-leave c n f l)
 
-    items-none : (r : ℕ) → itemsFrom e r 0 ≡ []
-    unfolding itemsFrom
-    items-none r = refl
-
-    head : (xs : List Item) → loopWith e n (rows + 1) xs ≡ record { first = f; last = l; body = record { array = q; offset = o; items = xs } ∷ [] }
+    head : (xs : List Item) (ss : List Statement)
+        → loopWith e n (rows + 1) xs ss ≡ record { first = f; last = l; body = record { array = q; offset = o; items = xs } ∷ ss }
     unfolding e b n
-    head xs =
+    head xs ss =
         let at : startAt e n ≡ rows = sym (begun .agree .starts n (omega arith)) ∙ s .kept .end in
-        let z : rows + 1 - suc rows ≡ 0 = omega arith in
+        let z : rows + 1 - rows ≡ 1 = omega arith in
         rw (
           row-leaves b (suc n) rows 1 q o (16 + n) (omega arith) (λ z. omega arith) ∙ bounds-first c n f l (s .sized) free,
           row-leaves b (suc n) rows 1 q o (32 + n) (omega arith) (λ z. omega arith) ∙ bounds-last c n f l (s .sized) free,
           at,
+          z,
+          opening-body e rows xs ss (begun .kind-is),
           begun .array-is,
           begun .value-is,
-          z,
-          items-none (suc rows),
         )
 
     lens-begun : take (summary rs .arrays) e ≡ take (summary rs .arrays) c
@@ -299,25 +342,27 @@ module _ (c : List ℕ) (rs : List Record) (rows : ℕ) (s : Stored c rs rows) w
     lens-begun =
         row-lengths b (suc n) rows 1 q o (summary rs .arrays) (s .kept .few-arrays) ∙ bounds-lengths c n f l (summary rs .arrays) (s .kept .few-arrays)
 
-    loops-begun : (xs : List Item)
-        → loopsOf rs [] ++ (record { first = f; last = l; body = record { array = q; offset = o; items = xs } ∷ [] } ∷ []) ≡ shown e (suc n) (rows + 1) xs
+    loops-begun : (xs : List Item) (ss : List Statement)
+        → loopsOf rs [] [] ++ (record { first = f; last = l; body = record { array = q; offset = o; items = xs } ∷ ss } ∷ [])
+        ≡ shown e (suc n) (rows + 1) xs ss
     unfolding shown n
-    loops-begun xs =
-        ap (λ (k : List Loop). k ++ (record { first = f; last = l; body = record { array = q; offset = o; items = xs } ∷ [] } ∷ []))
+    loops-begun xs ss =
+        ap (λ (k : List Loop). k ++ (record { first = f; last = l; body = record { array = q; offset = o; items = xs } ∷ ss } ∷ []))
         (stored-all c rs rows s ∙ loops-agree c e n rows (begun .agree) 0 n (omega arith))
-        ∙ ap (λ (z : Loop). loopsFrom e 0 n ++ (z ∷ [])) (sym (head xs))
+        ∙ ap (λ (z : Loop). loopsFrom e 0 n ++ (z ∷ [])) (sym (head xs ss))
 
     loop-stored : Stored e (rec.Loop f l q o ∷ rs) (rows + 1)
     unfolding summary advanced withLoop lengths loopsOf n
     loop-stored = record {
       sized = begun .sized;
       lens = rw lens-begun (s .lens);
-      loops = λ xs. rw (add-one (summary rs .loops)) (loops-begun xs);
+      loops = λ xs ss. rw (add-one (summary rs .loops)) (loops-begun xs ss);
       kept =
           rw (add-one (summary rs .loops))
-          (kept-grown c e n rows 1 q o begun (summary rs .arrays) n (s .kept) (λ e. refl) (omega arith) free (omega (arith, s .room, s .items)) (λ h. offset));
+          (kept-grown c e n rows 1 q o begun (summary rs .arrays) n (s .kept) (λ e. refl) (omega arith) free low (λ h. offset));
+      statements = omega arith;
       items = omega arith;
-      room = omega (arith, s .room, s .items);
+      room = omega (arith, s .room, s .items, s .statements);
     }
 
   -- arrays come before the loops
@@ -335,7 +380,7 @@ module _ (c : List ℕ) (rs : List Record) (rows : ℕ) (s : Stored c rs rows) w
           getD-set-same c a k 0 (omega (arith, s .sized)),
           s .lens,
         );
-    loops = λ xs. s .loops xs ∙ rw none (shown-none c (set c (summary rs .arrays) k) rows xs);
+    loops = λ xs ss. s .loops xs ss ∙ rw none (shown-none c (set c (summary rs .arrays) k) rows xs ss);
     kept = record {
       few-arrays = omega arith;
       few-loops = s .kept .few-loops;
@@ -344,8 +389,9 @@ module _ (c : List ℕ) (rs : List Record) (rows : ℕ) (s : Stored c rs rows) w
       rising = λ j h. absurd (omega arith);
       end = left (48 + summary rs .loops) (omega arith) ∙ s .kept .end;
       opening = λ j h. absurd (omega arith);
-      each = λ r h. absurd (omega (arith, s .room, s .items));
+      each = λ r h. absurd (omega (arith, s .room, s .items, s .statements));
     };
+    statements = s .statements;
     items = s .items;
     room = s .room;
   }
@@ -353,15 +399,33 @@ module _ (c : List ℕ) (rs : List Record) (rows : ℕ) (s : Stored c rs rows) w
       left : (i : ℕ) → 16 ≤ i → getD (set c (summary rs .arrays) k) i 0 ≡ getD c i 0
       left i h = getD-set-other c (summary rs .arrays) i k 0 (λ e. omega arith)
 
-  item-kept : (r : Record) (x : Item) (kind q v w : ℕ) → itemOf kind q v ≡ x → summary (r ∷ rs) ≡ withItem w (summary rs)
-      → lengths (r ∷ rs) ≡ lengths rs → ((xs : List Item) → loopsOf (r ∷ rs) xs ≡ loopsOf rs (x ∷ xs))
+  -- an item goes to the latest statement
+  item-kept : (r : Record) (x : Item) (kind q v w : ℕ) → itemOf kind q v ≡ x → (kind ≡ 1 → ⊥) → summary (r ∷ rs) ≡ withItem w (summary rs)
+      → lengths (r ∷ rs) ≡ lengths rs → ((xs : List Item) (ss : List Statement) → loopsOf (r ∷ rs) xs ss ≡ loopsOf rs (x ∷ xs) ss)
       → 0 < summary rs .loops → summary rs .items < 32 → q < 16 → (kind < 2 → v ≤ 510)
       → Stored (withRow (summary rs .loops) rows kind q v c) (r ∷ rs) (rows + 1)
-  unfolding d
-  item-kept r x kind q v w i counted same added some free small offset =
+  unfolding d withItem
+  item-kept r x kind q v w i other counted same added some free small offset =
       let open-loop : summary rs .loops ≡ suc (summary rs .loops - 1) = omega arith in
+      let items : summary (r ∷ rs) .items ≡ summary rs .items + 1 = ap (λ (t : Summary). t .items) counted in
+      let statements : summary (r ∷ rs) .statements ≡ summary rs .statements = ap (λ (t : Summary). t .statements) counted in
       subst (λ (k : ℕ). Stored (withRow k rows kind q v c) (r ∷ rs) (rows + 1)) (sym open-loop)
-      (item-stored r x kind q v w (summary rs .loops - 1) i counted same added open-loop free small offset)
+      (row-stored r kind q v (summary rs .loops - 1) (λ xs. x ∷ xs) (λ xs ss. ss)
+      (λ d xs a b g. item-lead d rows xs [] (λ e. other (sym a ∙ e)) ∙ ap (λ (y : Item). y ∷ xs) (rw (a, b, g) i))
+      (λ d xs ss a b g. item-body d rows xs ss (λ e. other (sym a ∙ e)))
+      (ap (λ (t : Summary). t .arrays) counted) (ap (λ (t : Summary). t .loops) counted) (omega arith)
+      (omega (arith, s .statements)) (omega arith) same added open-loop small offset)
+
+  -- a further statement opens the latest loop's next one
+  statement-kept : (q o : ℕ) → 0 < summary rs .loops → summary rs .statements < 4 → q < 16 → o ≤ 510
+      → Stored (withRow (summary rs .loops) rows 1 q o c) (rec.Statement q o ∷ rs) (rows + 1)
+  unfolding d summary advanced withStatement lengths loopsOf
+  statement-kept q o some free small offset =
+      let open-loop : summary rs .loops ≡ suc (summary rs .loops - 1) = omega arith in
+      subst (λ (k : ℕ). Stored (withRow k rows 1 q o c) (rec.Statement q o ∷ rs) (rows + 1)) (sym open-loop)
+      (row-stored (rec.Statement q o) 1 q o (summary rs .loops - 1) (λ xs. []) (λ xs ss. record { array = q; offset = o; items = xs } ∷ ss)
+      (λ d xs a b g. opening-lead d rows xs [] a) (λ d xs ss a b g. opening-body d rows xs ss a ∙ rw (b, g))
+      refl refl (omega arith) (omega arith) (s .items) refl (λ xs ss. refl) open-loop small (λ h. offset))
 
   -- every record that meets no ground; its array is one of those before it, of which there are at most sixteen
   pub kept-small : (x : Record) → Clear x (summary rs) (lengths rs) → ArrayFits x
@@ -372,6 +436,7 @@ module _ (c : List ℕ) (rs : List Record) (rows : ℕ) (s : Stored c rs rows) w
   kept-small (rec.Constant k) clear = tt
   kept-small (rec.Operation o) clear = tt
   kept-small rec.End clear = tt
+  kept-small (rec.Statement q o) clear = omega (arith, clear .3, s .kept .few-arrays)
 
   pub kept-stored : (x : Record) → Clear x (summary rs) (lengths rs) → (x ≡ rec.End → ⊥) → Stored (kept x (summary rs) rows c) (x ∷ rs) (rowsAfter x rows)
   unfolding kept rowsAfter e b n itemOf summary advanced lengths loopsOf
@@ -380,13 +445,15 @@ module _ (c : List ℕ) (rs : List Record) (rows : ℕ) (s : Stored c rs rows) w
   kept-stored (rec.Loop f l q o) clear other =
       rw (add-one (summary rs .loops)) (loop-stored f l q o (clear .1) (kept-small (rec.Loop f l q o) clear) (clear .5))
   kept-stored (rec.Read q o) clear other =
-      item-kept (rec.Read q o) (read q o) 0 q o _ refl refl refl (λ xs. refl) (clear .0) (clear .1)
+      item-kept (rec.Read q o) (read q o) 0 q o _ refl (λ e. omega arith) refl refl (λ xs ss. refl) (clear .0) (clear .1)
       (kept-small (rec.Read q o) clear) (λ h. clear .3)
   kept-stored (rec.Constant k) clear other =
-      item-kept (rec.Constant k) (constant k) 2 0 k _ refl refl refl (λ xs. refl) (clear .0) (clear .1) (omega arith) (λ h. absurd (omega arith))
+      item-kept (rec.Constant k) (constant k) 2 0 k _ refl (λ e. omega arith) refl refl (λ xs ss. refl) (clear .0) (clear .1) (omega arith) (λ h. absurd (omega arith))
   kept-stored (rec.Operation o) clear other =
-      item-kept (rec.Operation o) (operation o) 3 0 o _ refl refl refl (λ xs. refl) (clear .0) (clear .1) (omega arith) (λ h. absurd (omega arith))
+      item-kept (rec.Operation o) (operation o) 3 0 o _ refl (λ e. omega arith) refl refl (λ xs ss. refl) (clear .0) (clear .1) (omega arith) (λ h. absurd (omega arith))
   kept-stored rec.End clear other = absurd (other refl)
+  kept-stored (rec.Statement q o) clear other =
+      statement-kept q o (clear .0) (clear .2) (kept-small (rec.Statement q o) clear) (clear .4)
 
 -- before the first record
 pub stored-start : (c : List ℕ) → Sized c → startAt c 0 ≡ 0 → Stored c [] 0
@@ -394,7 +461,7 @@ unfolding summary blank lengths loopsOf shown
 stored-start c z e = record {
   sized = z;
   lens = refl;
-  loops = λ xs. refl;
+  loops = λ xs ss. refl;
   kept = record {
     few-arrays = omega arith;
     few-loops = omega arith;
@@ -405,6 +472,7 @@ stored-start c z e = record {
     opening = λ k h. absurd (omega arith);
     each = λ r h. absurd (omega arith);
   };
+  statements = omega arith;
   items = omega arith;
   room = omega arith;
 }
@@ -414,7 +482,7 @@ module _ (c : List ℕ) (a l rows : ℕ) (z : Sized c) (h : InPlace c a l rows) 
   full : List ℕ
   full = withCounts a l c
 
-  unmoved : (i : ℕ) → i < 1121 → getD c i 0 ≡ getD full i 0
+  unmoved : (i : ℕ) → i < 1217 → getD c i 0 ≡ getD full i 0
   unfolding full
   unmoved i m = sym (counts-leave c a l i m)
 

@@ -79,21 +79,21 @@ pub fn start_at(store: &Store, k: usize) -> usize
 
 // The kind, the array and the value of row r.
 pub fn kind_at(store: &Store, r: usize) -> u32
-    requires { ⌜ r < 528 ⌝ }
+    requires { ⌜ r < 576 ⌝ }
     ensures { λ x. ⌜ x ≡ kindAt (now (store .entry)) r ⌝ }
 {
     store[ROWS_AT + ROW * r] / SPLIT
 }
 
 pub fn array_at(store: &Store, r: usize) -> u32
-    requires { ⌜ r < 528 ⌝ }
+    requires { ⌜ r < 576 ⌝ }
     ensures { λ x. ⌜ x ≡ arrayAt (now (store .entry)) r ⌝ }
 {
     store[ROWS_AT + ROW * r] % SPLIT
 }
 
 pub fn value_at(store: &Store, r: usize) -> u32
-    requires { ⌜ r < 528 ⌝ }
+    requires { ⌜ r < 576 ⌝ }
     ensures { λ x. ⌜ x ≡ valueAt (now (store .entry)) r ⌝ }
 {
     store[ROWS_AT + ROW * r + 1]
@@ -101,7 +101,7 @@ pub fn value_at(store: &Store, r: usize) -> u32
 
 // One row more: loop k begins past it.
 fn put_row(k: usize, r: usize, kind: u32, q: u32, v: u32, store: &mut Store) -> usize
-    requires { ⌜ (k < 17) × (r < 528) × (kind < 4) × (q < 16) ⌝ }
+    requires { ⌜ (k < 17) × (r < 576) × (kind < 4) × (q < 16) ⌝ }
     ensures { λ n. ⌜ n ≡ r + 1 ⌝ }
     ensures { λ n. ⌜ now (store .exit) ≡ withRow k r kind q v (now (store .entry)) ⌝ }
 {
@@ -130,7 +130,7 @@ fn put_counts(arrays: u32, loops: u32, store: &mut Store)
 // Stores a record that met no ground, in row r; answers how many rows there are then.
 fn keep(x: Record, t: Summary, r: usize, store: &mut Store) -> usize
     requires { ⌜ Room x t ⌝ }
-    requires { ⌜ Places t r × (rowsAfter x r ≤ 528) × ArrayFits x ⌝ }
+    requires { ⌜ Places t r × (rowsAfter x r ≤ 576) × ArrayFits x ⌝ }
     ensures { λ n. ⌜ n ≡ rowsAfter x r ⌝ }
     ensures { λ n. ⌜ now (store .exit) ≡ kept x t r (now (store .entry)) ⌝ }
 {
@@ -155,6 +155,7 @@ fn keep(x: Record, t: Summary, r: usize, store: &mut Store) -> usize
         Record::Constant(n) => put_row(k, r, CONSTANT, 0, n, store),
         Record::Operation(o) => put_row(k, r, OPERATION, 0, o, store),
         Record::End => r,
+        Record::Statement { array, offset } => put_row(k, r, DESTINATION, array, offset, store),
     }
 }
 

@@ -71,9 +71,9 @@ advanced (Operation o) t = withItem (t .waiting - operands o + 1) t
 advanced End t = t
 advanced (Statement q o) t = withStatement t
 
--- before the first record. (One waits: no body is unfinished. 32 items: no body has room.)
+-- before the first record. (One waits: no body is unfinished. 4 statements and 32 items: no loop has room.)
 unfoldable pub blank : Summary
-blank = record { arrays = 0; elements = 0; loops = 0; first = 0; last = 0; statements = 0; items = 32; waiting = 1 }
+blank = record { arrays = 0; elements = 0; loops = 0; first = 0; last = 0; statements = 4; items = 32; waiting = 1 }
 
 -- the counts of arrays, elements and loops; the latest loop's first and last, its statements and items, and how many numbers wait in its latest statement
 unfoldable pub summary : List Record → Summary

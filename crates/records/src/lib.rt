@@ -80,7 +80,7 @@ pub fn operands_of(o: u32) -> u32
 }
 
 impl Summary {
-    // Before the first record: no body is unfinished, and none has room.
+    // Before the first record: no body is unfinished, and no loop has room.
     pub fn blank() -> Self
         ensures { λ r. ⌜ r ≡ blank ⌝ }
     {
@@ -90,7 +90,7 @@ impl Summary {
             loops: 0,
             first: 0,
             last: 0,
-            statements: 0,
+            statements: 4,
             items: 32,
             waiting: 1,
         }

@@ -22,7 +22,7 @@ put-row-requires c κs =
     let entry = d .before .before .before in
     let is = d .x2 .given .1 in
     let room = subst (λ (x : Record). Room x (entry .args .t)) is (entry .pre .0) in
-    let some = subst (λ (x : Record). rowsAfter x (entry .args .r) ≤ 528) is (entry .pre .1 .1) in
+    let some = subst (λ (x : Record). rowsAfter x (entry .args .r) ≤ 576) is (entry .pre .1 .1) in
     let small = subst ArrayFits is (entry .pre .1 .2) in
     omega (arith, d .before .before .wide .ensures .0, room, some, small)
 
@@ -32,7 +32,7 @@ put-row-requires-2 c κs =
     let d = c .before .before in
     let entry = d .before .before .before in
     let is = d .x3 .given .1 in
-    let some = subst (λ (x : Record). rowsAfter x (entry .args .r) ≤ 528) is (entry .pre .1 .1) in
+    let some = subst (λ (x : Record). rowsAfter x (entry .args .r) ≤ 576) is (entry .pre .1 .1) in
     let small = subst ArrayFits is (entry .pre .1 .2) in
     omega (arith, d .before .before .wide .ensures .0, entry .pre .1 .0 .loops, some, small)
 
@@ -41,7 +41,7 @@ unfolding rowsAfter
 put-row-requires-3 c κs =
     let d = c .before .before in
     let entry = d .before .before .before in
-    let some = subst (λ (x : Record). rowsAfter x (entry .args .r) ≤ 528) (d .x4 .given .1) (entry .pre .1 .1) in
+    let some = subst (λ (x : Record). rowsAfter x (entry .args .r) ≤ 576) (d .x4 .given .1) (entry .pre .1 .1) in
     omega (arith, d .before .before .wide .ensures .0, entry .pre .1 .0 .loops, some)
 
 put-row-requires-4 : tie.Need-put-row-requires-4
@@ -49,8 +49,18 @@ unfolding rowsAfter
 put-row-requires-4 c κs =
     let d = c .before .before in
     let entry = d .before .before .before in
-    let some = subst (λ (x : Record). rowsAfter x (entry .args .r) ≤ 528) (d .x5 .given .1) (entry .pre .1 .1) in
+    let some = subst (λ (x : Record). rowsAfter x (entry .args .r) ≤ 576) (d .x5 .given .1) (entry .pre .1 .1) in
     omega (arith, d .before .before .wide .ensures .0, entry .pre .1 .0 .loops, some)
+
+put-row-requires-5 : tie.Need-put-row-requires-5
+unfolding rowsAfter
+put-row-requires-5 c κs =
+    let d = c .before .before in
+    let entry = d .before .before .before in
+    let is = d .x6 .given .1 in
+    let some = subst (λ (x : Record). rowsAfter x (entry .args .r) ≤ 576) is (entry .pre .1 .1) in
+    let small = subst ArrayFits is (entry .pre .1 .2) in
+    omega (arith, d .before .before .wide .ensures .0, entry .pre .1 .0 .loops, some, small)
 
 returns : tie.Need-returns
 unfolding kept rowsAfter
@@ -88,10 +98,16 @@ returns-7 : tie.Need-returns-7
 unfolding kept rowsAfter
 returns-7 c = rw (c .enum-told2 .given .1) (refl, refl)
 
+returns-8 : tie.Need-returns-8
+unfolding kept rowsAfter
+returns-8 c =
+    let d = c .before .before .before in
+    rw (d .x6 .given .1, ← (d .before .before .wide .ensures .0)) (c .put-row5 .ensures)
+
 pub keep-spec : {M : Type 1} → statement M
 keep-spec =
     tie.close (tie.spec
     (λ c κs. search needs) (λ c. search needs) (λ c. search needs) (λ c κs. search needs) (λ c. search needs)
     (λ c. search needs) (λ c. search needs) put-bounds-requires (λ c. search needs) put-row-requires
     (λ c. search needs) put-row-requires-2 (λ c. search needs) put-row-requires-3 (λ c. search needs)
-    put-row-requires-4 (λ c. search needs) returns returns-2 returns-3 returns-4 returns-5 returns-6 returns-7)
+    put-row-requires-4 (λ c. search needs) (λ c. search needs) put-row-requires-5 returns returns-2 returns-3 returns-4 returns-5 returns-6 returns-7 returns-8)
