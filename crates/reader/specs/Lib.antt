@@ -16,3 +16,7 @@ pub mod ReadInto
 pub mod ReadIntoLaws
 -- how a reading that accepts goes
 pub mod Accepting
+-- a loop's references as its rows have them
+pub mod Rows
+-- laws of it
+pub mod RowLaws

@@ -252,7 +252,7 @@ module _ (c : List ℕ) (rs : List Record) (rows : ℕ) (s : Stored c rs rows) w
   module _ (r : Record) (kind q v m : ℕ) (ys : List Item → List Item) (ts : List Item → List Statement → List Statement)
       (lead : (d : List ℕ) (xs : List Item) → kindAt d rows ≡ kind → arrayAt d rows ≡ q → valueAt d rows ≡ v → leadFrom d rows 1 xs ≡ ys xs)
       (body : (d : List ℕ) (xs : List Item) (ss : List Statement) → kindAt d rows ≡ kind → arrayAt d rows ≡ q → valueAt d rows ≡ v
-          → bodyFrom d rows 1 xs ss ≡ ts xs ss)
+      → bodyFrom d rows 1 xs ss ≡ ts xs ss)
       (arrays : summary (r ∷ rs) .arrays ≡ summary rs .arrays) (loops : summary (r ∷ rs) .loops ≡ summary rs .loops)
       (counted : summary (r ∷ rs) .statements + summary (r ∷ rs) .items ≡ suc (summary rs .statements + summary rs .items))
       (most-statements : summary (r ∷ rs) .statements ≤ 4) (most-items : summary (r ∷ rs) .items ≤ 32) (same : lengths (r ∷ rs) ≡ lengths rs)

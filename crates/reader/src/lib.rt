@@ -1,6 +1,7 @@
 // Reads a loop table into a store that the caller lends.
 use arithmetic::narrow;
 use arithmetic::wide;
+use model::Reference;
 use records::MOST_ROWS;
 use records::ROW;
 use records::ROWS_AT;
@@ -12,9 +13,12 @@ use refusals::Refusal;
 use refusals::TAIL;
 ghost use mathlib.Core.Path.{_≡_};
 ghost use Prim.Native.Nat.{_+_, _<_, _≤_};
+ghost use Rattle.model.specs.Table.{count};
 ghost use Rattle.records.specs.Clear.{Room};
 ghost use Rattle.reader.specs.Reading.{reading};
-ghost use Rattle.reader.specs.Store.{Sized, firstAt, lastAt, startAt, kindAt, arrayAt, valueAt, arraysIn, loopsIn, kept, rowsAfter, withRow, withBounds, withCounts, Places, ArrayFits};
+ghost use Rattle.reader.specs.Store.{Sized, firstAt, lastAt, startAt, kindAt, arrayAt, valueAt, arraysIn, loopsIn, tableIn, kept, rowsAfter, withRow, withBounds, withCounts, Places, ArrayFits};
+ghost use Rattle.reader.specs.Held.{Held};
+ghost use Rattle.reader.specs.Rows.{refIn, LastDestination};
 ghost use Rattle.reader.specs.ReadInto.{ReadInto};
 
 // The places of a store's parts.
@@ -35,7 +39,7 @@ const SPLIT: u32 = 16;
 // The kinds of rows.
 pub const READ: u32 = 0;
 
-const DESTINATION: u32 = 1;
+pub const DESTINATION: u32 = 1;
 
 pub const CONSTANT: u32 = 2;
 
@@ -97,6 +101,35 @@ pub fn value_at(store: &Store, r: usize) -> u32
     ensures { λ x. ⌜ x ≡ valueAt (now (store .entry)) r ⌝ }
 {
     store[ROWS_AT + ROW * r + 1]
+}
+
+// The reference in row r of loop k.
+pub fn reference_at(store: &Store, k: usize, r: usize) -> Reference
+    requires { ⌜ r < 576 ⌝ }
+    ensures { λ x. ⌜ x ≡ refIn (now (store .entry)) k r ⌝ }
+{
+    Reference {
+        number: k,
+        array: wide(array_at(store, r)),
+        offset: wide(value_at(store, r)),
+        stores: kind_at(store, r) == DESTINATION,
+    }
+}
+
+// The last row of loop k that is a destination's.
+pub fn last_destination(store: &Store, k: usize) -> usize
+    requires { ⌜ Held (now store) × (k < count (tableIn (now store))) ⌝ }
+    ensures { λ r. ⌜ LastDestination (now (store .entry)) k r ⌝ }
+{
+    let start = start_at(store, k);
+    let mut r = start_at(store, k + 1) - 1;
+    while start < r {
+        if kind_at(store, r) == DESTINATION {
+            return r;
+        }
+        r -= 1;
+    }
+    r
 }
 
 // One row more: loop k begins past it.
