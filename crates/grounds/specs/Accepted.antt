@@ -17,15 +17,20 @@ Works (read a o ∷ xs) d = (d < 8) × Works xs (d + 1)
 Works (constant n ∷ xs) d = (d < 8) × Works xs (d + 1)
 Works (operation o ∷ xs) d = (1 ≤ o) × (o ≤ 5) × (operands o ≤ d) × Works xs (d - operands o + 1)
 
+-- how many items all statements of a body have
+abbrev pub itemTotal : List Statement → ℕ
+itemTotal [] = 0
+itemTotal (s ∷ b) = length (s .items) + itemTotal b
+
 -- loop k of a table with arrays of the lengths ns
 pub record ValidLoop (ns : List ℕ) (k : ℕ) (l : Loop) : Type 0 where
   pub rising : l .first ≤ l .last
   pub bounded : l .last ≤ 131071
-  -- its body is one statement
-  pub statement : Statement
-  pub only : l .body ≡ statement ∷ []
-  pub few : length (statement .items) ≤ 32
-  pub works : Works (statement .items) 0
+  -- it has one to four statements, with at most 32 items in all, and each leaves one number
+  pub some : 1 ≤ length (l .body)
+  pub few-statements : length (l .body) ≤ 4
+  pub few : itemTotal (l .body) ≤ 32
+  pub works : (s : Statement) → Mem s (l .body) → Works (s .items) 0
   -- each reference is to an array that there is, at an offset from −255 to 255, and no iteration reaches outside
   pub known : (r : Reference) → Mem r (references k (l .body)) → r .array < length ns
   pub near : (r : Reference) → Mem r (references k (l .body)) → r .offset ≤ 510

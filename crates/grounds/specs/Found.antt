@@ -8,18 +8,18 @@ use mathlib.Core.List.{List, [], _∷_, _++_}
 use lib.ListN.{length, getD}
 use lib.Dec.{ltb, leb, eqb}
 use borrow.Author.Tests.{ltb-true, ltb-false, leb-true, leb-false, eqb-true, eqb-false, not-true, not-false, ne-eqb, eq-eqb}
-use Rattle.records.specs.declared.Kind.{Kind}
 use Rattle.records.specs.declared.Kind.the-variants as kind
 use Rattle.records.specs.declared.Record.{Record}
-use Rattle.records.specs.declared.Record.the-variants.{Unknown, Array, Loop, Read, Constant, Operation, End}
-use Rattle.records.specs.Bytes.{byte, four, offset, kindOf, recordOf, recordAt}
+use Rattle.records.specs.declared.Record.the-variants.{Unknown, Array, Loop, Read, Constant, Operation, End, Statement}
+use Rattle.records.specs.Bytes.{byte, kindOf, recordAt}
+use Rattle.records.specs.Same.{kindIn, kind-of-record}
 use Rattle.records.specs.History.{summary, lengths, operands}
 use Rattle.records.specs.ClearLaws.{nothing}
 use Rattle.records.specs.Grounds.{_if_else_, early, edge, fields, orElse, ground}
 use Rattle.grounds.specs.Places.{after, Records}
 use Rattle.grounds.specs.PlaceLaws.{records-within}
 use Rattle.grounds.specs.Statements.{arrays, elements, loops, latest, items, waiting, OutOfRange, ManyElements}
-use Rattle.grounds.specs.Statements.{Unnumbered, NinthOrTooFew, Outside, OutsideArray, AtWhole, Ground}
+use Rattle.grounds.specs.Statements.{Unnumbered, NinthOrTooFew, Outside, OutsideInLoop, OutsideArray, AtWhole, Ground}
 use Rattle.grounds.specs.Tests.{Test, test, kindTests, fieldTests, lastTests, tests, First}
 use Rattle.grounds.specs.Counted.{arrays-counted, elements-counted, loops-counted, Body, body-counted, Clears, loop-array, first-last, no-loop}
 
@@ -136,82 +136,90 @@ module _ (rs : List Record) (clears : Clears rs) where
       never (λ h. h) (asked-le 4 (omega arith) 32 (summary rs .items) 0
       (λ h. (some l, omega (arith, body l .items))) (λ h x. omega (arith, x .1, body l .items)) λ _. none)
 
-  early-first : (k : Kind) (s : List ℕ) (b : ℕ) → Finds (kindTests (recordOf k s b) rs) (early k (summary rs))
-  unfolding early recordOf
-  early-first kind.Unknown s b = record { first = inl (tt, refl) }
-  early-first kind.Array s b =
+  early-first : (r : Record) → Finds (kindTests r rs) (early (kindIn r) (summary rs))
+  unfolding early
+  early-first Unknown = record { first = inl (tt, refl) }
+  early-first (Array n) =
       asked-lt 2 (omega arith) 0 (summary rs .loops) _ (λ h. omega (arith, loops-counted rs)) (λ h x. omega (arith, loops-counted rs)) λ _.
       never (λ h. h) (asked-le 4 (omega arith) 16 (summary rs .arrays) 0
       (λ h. omega (arith, arrays-counted rs)) (λ h x. omega (arith, arrays-counted rs)) λ _. none)
-  early-first kind.Loop s b = loop-first
-  early-first kind.Read s b = item-first
-  early-first kind.Constant s b = item-first
-  early-first kind.Operation s b = item-first
-  early-first kind.End s b =
+  early-first (Loop f l q o) = loop-first
+  early-first (Read q o) = item-first
+  early-first (Constant n) = item-first
+  early-first (Operation o) = item-first
+  early-first End =
       asked-eq 2 (omega arith) (summary rs .loops) 0 _ (λ h. inr (omega (arith, loops-counted rs)))
       (λ h. ⊎-elim (λ e. omega (arith, loop-array rs clears (some h))) (λ e. omega (arith, loops-counted rs))) λ _.
       asked-ne 6 (omega arith) (summary rs .waiting) 1 0 (λ h. not-one h) (λ h. one h) λ _. never (λ h. h) none
+  early-first (Statement q o) =
+      asked-eq 2 (omega arith) (summary rs .loops) 0 _ (λ h. omega (arith, loops-counted rs)) (λ h x. omega (arith, loops-counted rs)) λ l.
+      asked-ne 6 (omega arith) (summary rs .waiting) 1 _ (λ h. not-one h) (λ h. one h) λ _.
+      asked-le 4 (omega arith) 4 (summary rs .statements) 0
+      (λ h. (some l, omega (arith, body l .statements))) (λ h x. omega (arith, x .1, body l .statements)) λ _. none
 
   -- 3 and 5, 4, 6, 7
   in-loop : (r : ℕ) → (2 if eqb (summary rs .loops) 0 else r) ≡ 0 → summary rs .loops ≢ 0
   in-loop r z = eqb-false _ _ (nothing 1 _ r z .0)
 
-  fields-first : (k : Kind) (s : List ℕ) (b : ℕ) → early k (summary rs) ≡ 0
-      → Finds (fieldTests (recordOf k s b) rs ++ lastTests (recordOf k s b) rs) (fields (recordOf k s b) (summary rs) (lengths rs))
-  unfolding early fields recordOf
-  fields-first kind.Unknown s b z = never (λ h. h) (never (λ h. h) (never (λ h. h) none))
-  fields-first kind.Array s b z =
-      let n = four s b in
+  -- 7 of the latest loop
+  edge-in-loop : (q o : ℕ) → summary rs .loops ≢ 0 → q < summary rs .arrays
+      → Finds (test 7 (OutsideInLoop q o rs) ∷ []) (edge (summary rs .first) (summary rs .last) o (getD (lengths rs) q 0))
+  edge-in-loop q o l known =
+      let t = body l in
+      rw (t .first, t .last)
+      (edge-first (latest rs .first) (latest rs .last) o (getD (lengths rs) q 0) (first-last rs clears)
+      (λ out. (some l, omega (arith, arrays-counted rs), out)) (λ x. x .2))
+
+  fields-first : (r : Record) → early (kindIn r) (summary rs) ≡ 0
+      → Finds (fieldTests r rs ++ lastTests r rs) (fields r (summary rs) (lengths rs))
+  unfolding early fields
+  fields-first Unknown z = never (λ h. h) (never (λ h. h) (never (λ h. h) none))
+  fields-first (Array n) z =
       both (asked-eq 3 (omega arith) n 0 _ (λ h. omega arith) (λ h x. omega arith) λ _.
       asked-lt 3 (omega arith) 65536 n _ (λ h. omega arith) (λ h x. omega arith) λ _.
       asked-lt 4 (omega arith) 262144 (summary rs .elements + n) 0 (λ h. omega (arith, elements-counted rs)) (λ h x. omega (arith, elements-counted rs)) λ _.
       never (λ h. h) (never (λ h. h) none))
-  fields-first kind.Loop s b z =
-      let f = four s b in
-      let l = four s (b + 4) in
-      let q = byte s (b + 8) in
-      let o = offset s (b + 9) in
+  fields-first (Loop f l q o) z =
       asked-lt 3 (omega arith) 131071 l _ (λ h. omega arith) (λ h x. omega arith) λ _.
       asked-lt 3 (omega arith) l f _ (λ h. omega arith) (λ h x. omega arith) λ up.
       asked-le 5 (omega arith) (summary rs .arrays) q _ (λ h. omega (arith, arrays-counted rs)) (λ h x. omega (arith, arrays-counted rs)) λ known.
       asked-lt 3 (omega arith) 510 o _ (λ h. omega arith) (λ h x. omega arith) λ _.
       never (λ h. h) (never (λ h. h) (edge-first f l o (getD (lengths rs) q 0) up (λ out. (omega (arith, arrays-counted rs), out)) (λ x. x .1)))
-  fields-first kind.Read s b z =
-      let q = byte s b in
-      let o = offset s (b + 1) in
+  fields-first (Read q o) z =
       let l = in-loop _ z in
-      let t = body l in
       asked-le 5 (omega arith) (summary rs .arrays) q _ (λ h. omega (arith, arrays-counted rs)) (λ h x. omega (arith, arrays-counted rs)) λ known.
       asked-lt 3 (omega arith) 510 o _ (λ h. omega arith) (λ h x. omega arith) λ _.
       never (λ h. h) (asked-le 6 (omega arith) 8 (summary rs .waiting) _
-      (λ h. (some l, omega (arith, t .waiting))) (λ h x. omega (arith, x .1, t .waiting)) λ _.
-      rw (t .first, t .last)
-      (edge-first (latest rs .first) (latest rs .last) o (getD (lengths rs) q 0) (first-last rs clears)
-      (λ out. (some l, omega (arith, arrays-counted rs), out)) (λ x. x .2)))
-  fields-first kind.Constant s b z =
+      (λ h. (some l, omega (arith, body l .waiting))) (λ h x. omega (arith, x .1, body l .waiting)) λ _.
+      edge-in-loop q o l known)
+  fields-first (Constant n) z =
       let l = in-loop _ z in
       never (λ h. h) (asked-le 6 (omega arith) 8 (summary rs .waiting) 0
       (λ h. (some l, omega (arith, body l .waiting))) (λ h x. omega (arith, x .1, body l .waiting)) λ _.
       never (λ h. h) none)
-  fields-first kind.Operation s b z =
-      let o = byte s b in
+  fields-first (Operation o) z =
       let l = in-loop _ z in
       both (asked-eq 3 (omega arith) o 0 _ (λ h. omega arith) (λ h x. omega arith) λ _.
       asked-lt 3 (omega arith) 5 o _ (λ h. omega arith) (λ h x. omega arith) λ _.
       never (λ h. h) (asked-lt 6 (omega arith) (summary rs .waiting) (operands o) 0
       (λ h. (some l, omega (arith, body l .waiting))) (λ h x. omega (arith, x .1, body l .waiting)) λ _. never (λ h. h) none))
-  fields-first kind.End s b z = never (λ h. h) (never (λ h. h) (never (λ h. h) none))
+  fields-first End z = never (λ h. h) (never (λ h. h) (never (λ h. h) none))
+  fields-first (Statement q o) z =
+      let l = in-loop _ z in
+      asked-le 5 (omega arith) (summary rs .arrays) q _ (λ h. omega (arith, arrays-counted rs)) (λ h x. omega (arith, arrays-counted rs)) λ known.
+      asked-lt 3 (omega arith) 510 o _ (λ h. omega arith) (λ h x. omega arith) λ _.
+      never (λ h. h) (never (λ h. h) (edge-in-loop q o l known))
 
   ground-finds : (s : List ℕ) (p : ℕ) → Finds (tests s p rs) (ground s p (summary rs) (lengths rs))
-  unfolding ground recordAt
+  unfolding ground
   ground-finds s p =
-      let k = kindOf (byte s p) in
-      let r = recordOf k s (p + 1) in
-      asked-le 1 (omega arith) (length s) p _ (λ h. h) (λ h x. omega arith) λ there.
-      then (kindTests r rs) (test 1 (length s < after s p) ∷ (fieldTests r rs ++ lastTests r rs)) (early k (summary rs)) _
+      let r = recordAt s p in
+      rw (← (kind-of-record s p))
+      (asked-le 1 (omega arith) (length s) p _ (λ h. h) (λ h x. omega arith) λ there.
+      then (kindTests r rs) (test 1 (length s < after s p) ∷ (fieldTests r rs ++ lastTests r rs)) (early (kindIn r) (summary rs)) _
       (λ z. omega arith, (λ z. omega arith, (λ z. omega arith, tt)))
-      (early-first k s (p + 1)) λ z.
-      asked-lt 1 (omega arith) (length s) (after s p) _ (λ h. h) (λ h x. omega arith) λ fits. fields-first k s (p + 1) z
+      (early-first r) λ z.
+      asked-lt 1 (omega arith) (length s) (after s p) _ (λ h. h) (λ h x. omega arith) λ fits. fields-first r z)
 
   pub ground-first : (s : List ℕ) (p : ℕ) → First (tests s p rs) (ground s p (summary rs) (lengths rs))
   ground-first s p = ground-finds s p .first
@@ -252,6 +260,9 @@ module _ (s : List ℕ) (p g : ℕ) where
     later-ground (Constant n) e fits f = last-ground (Constant n) e fits f
     later-ground (Operation o) e fits f = by f (λ h. whole (Operation o) e fits OutOfRange h) λ _ f. last-ground (Operation o) e fits f
     later-ground End e fits f = last-ground End e fits f
+    later-ground (Statement q o) e fits f =
+        by f (λ h. whole (Statement q o) e fits Unnumbered h) λ _ f.
+        by f (λ h. whole (Statement q o) e fits OutOfRange h) λ _ f. last-ground (Statement q o) e fits f
 
     pub first-ground : First (tests s p rs) g → Ground g s p
     first-ground found =

@@ -30,3 +30,4 @@ end-length s p e = span-kind (byte s p) ∙ go (kindOf (byte s p)) e
     go kind.Constant e = let z : _≡_ {A = ℕ} 0 1 = cc in omega arith
     go kind.Operation e = let z : _≡_ {A = ℕ} 0 1 = cc in omega arith
     go kind.End e = refl
+    go kind.Statement e = let z : _≡_ {A = ℕ} 0 1 = cc in omega arith

@@ -1,4 +1,4 @@
--- The first 2,077 bytes of an input decide its answer: every table has ended or met a ground by then.
+-- The first 2,364 bytes of an input decide its answer: every table has ended or met a ground by then.
 use Prim.Native.Nat.{ℕ, zero, suc, _+_, _≤_, _<_}
 use native.Mathlib.Omega.{arith}
 use native.Mathlib.Decide.{decLe}
@@ -67,9 +67,10 @@ module _ (s : List ℕ) (n : ℕ) where
   record-take kind.Constant b h = rw (four-take b h)
   record-take kind.Operation b h = rw (byte-take b (omega arith))
   record-take kind.End b h = refl
+  record-take kind.Statement b h = rw (byte-take b (omega arith), offset-take (b + 1) (omega arith))
 
 -- an input of n bytes or more, and its first n
-module _ (s : List ℕ) (n : ℕ) (enough : 2077 ≤ n) (long : n ≤ length s) where
+module _ (s : List ℕ) (n : ℕ) (enough : 2364 ≤ n) (long : n ≤ length s) where
   first-n : length (take n s) ≡ n
   first-n = length-take-le n s long
 
@@ -130,8 +131,8 @@ module _ (s : List ℕ) (n : ℕ) (enough : 2077 ≤ n) (long : n ≤ length s) 
   unfolding reading
   whole-take = from-take (suc (length s)) (suc (length (take n s))) 0 [] start tt (omega arith) (omega (arith, first-n))
 
--- any number of bytes from 2,077 on is enough
-pub reading-take : (s : List ℕ) (n : ℕ) → 2077 ≤ n → reading (take n s) ≡ reading s
+-- any number of bytes from 2,364 on is enough
+pub reading-take : (s : List ℕ) (n : ℕ) → 2364 ≤ n → reading (take n s) ≡ reading s
 reading-take s n h = go (decLe n (length s))
   where
     go : Dec (n ≤ length s) → reading (take n s) ≡ reading s

@@ -5,7 +5,7 @@ use mathlib.Core.Logic.{_⊎_, _≢_}
 use mathlib.Core.List.{List, [], _∷_}
 use lib.ListN.{length, getD}
 use Rattle.records.specs.declared.Record.{Record}
-use Rattle.records.specs.declared.Record.the-variants.{Unknown, Array, Loop, Read, Constant, Operation, End}
+use Rattle.records.specs.declared.Record.the-variants.{Unknown, Array, Loop, Read, Constant, Operation, End, Statement}
 use Rattle.records.specs.Bytes.{recordAt}
 use Rattle.records.specs.History.{lengths, operands}
 use Rattle.model.specs.Table.{Item, read, constant, operation}
@@ -34,18 +34,24 @@ loops (Read q o ∷ rs) = loops rs
 loops (Constant n ∷ rs) = loops rs
 loops (Operation o ∷ rs) = loops rs
 loops (End ∷ rs) = loops rs
+loops (Statement q o ∷ rs) = loops rs
 
--- the latest loop: its first, its last, and its items so far, the latest first
+-- the latest loop: its first, its last, the items of its latest statement so far, and those of each statement before it, all the latest first
 pub record Latest : Type 0 where
   pub first : ℕ
   pub last : ℕ
-  pub items : List Item
+  pub body : List Item
+  pub bodies : List (List Item)
 
 abbrev pub begun : ℕ → ℕ → Latest
-begun f l = record { first = f; last = l; items = [] }
+begun f l = record { first = f; last = l; body = []; bodies = [] }
 
 abbrev pub withItem : Item → Latest → Latest
-withItem x b = record { first = b .first; last = b .last; items = x ∷ b .items }
+withItem x b = record { first = b .first; last = b .last; body = x ∷ b .body; bodies = b .bodies }
+
+-- a further statement
+abbrev pub withStatement : Latest → Latest
+withStatement b = record { first = b .first; last = b .last; body = []; bodies = b .body ∷ b .bodies }
 
 unfoldable pub latest : List Record → Latest
 latest [] = begun 0 0
@@ -56,12 +62,20 @@ latest (Read q o ∷ rs) = withItem (read q o) (latest rs)
 latest (Constant n ∷ rs) = withItem (constant n) (latest rs)
 latest (Operation o ∷ rs) = withItem (operation o) (latest rs)
 latest (End ∷ rs) = latest rs
+latest (Statement q o ∷ rs) = withStatement (latest rs)
 
--- how many items its body has
+-- how many statements it has, and how many items in all of them
+abbrev pub statementCount : List Record → ℕ
+statementCount rs = length (latest rs .bodies) + 1
+
+abbrev pub itemsIn : List (List Item) → ℕ
+itemsIn [] = 0
+itemsIn (xs ∷ b) = length xs + itemsIn b
+
 abbrev pub items : List Record → ℕ
-items rs = length (latest rs .items)
+items rs = length (latest rs .body) + itemsIn (latest rs .bodies)
 
--- how many numbers wait after items: a read or a constant adds one, an operation takes one or two and adds one
+-- how many numbers wait after the items of a statement: a read or a constant adds one, an operation takes one or two and adds one
 unfoldable pub waitingAfter : List Item → ℕ
 waitingAfter [] = 0
 waitingAfter (read q o ∷ xs) = waitingAfter xs + 1
@@ -69,7 +83,7 @@ waitingAfter (constant n ∷ xs) = waitingAfter xs + 1
 waitingAfter (operation o ∷ xs) = waitingAfter xs - operands o + 1
 
 abbrev pub waiting : List Record → ℕ
-waiting rs = waitingAfter (latest rs .items)
+waiting rs = waitingAfter (latest rs .body)
 
 -- WHAT A GROUND SAYS OF A RECORD, after the records rs
 
@@ -82,6 +96,7 @@ Misplaced (Read q o) rs = loops rs ≡ 0
 Misplaced (Constant n) rs = loops rs ≡ 0
 Misplaced (Operation o) rs = loops rs ≡ 0
 Misplaced End rs = (arrays rs ≡ 0) ⊎ (loops rs ≡ 0)
+Misplaced (Statement q o) rs = loops rs ≡ 0
 
 -- 3: a field outside its range, or first above last. (An offset is kept with 255 added.)
 abbrev pub BadLength : ℕ → Type 0
@@ -104,8 +119,9 @@ OutOfRange (Read q o) rs = BadOffset o
 OutOfRange (Constant n) rs = ⊥
 OutOfRange (Operation o) rs = BadOperation o
 OutOfRange End rs = ⊥
+OutOfRange (Statement q o) rs = BadOffset o
 
--- 4: one array, loop or item too many
+-- 4: one array, loop, item or statement too many
 abbrev pub ItemTooMany : List Record → Type 0
 ItemTooMany rs = (0 < loops rs) × (32 < items rs + 1)
 
@@ -117,6 +133,7 @@ OneTooMany (Read q o) rs = ItemTooMany rs
 OneTooMany (Constant n) rs = ItemTooMany rs
 OneTooMany (Operation o) rs = ItemTooMany rs
 OneTooMany End rs = ⊥
+OneTooMany (Statement q o) rs = (0 < loops rs) × (4 < statementCount rs + 1)
 
 -- 4: an element too many
 abbrev pub ManyElements : Record → List Record → Type 0
@@ -127,6 +144,7 @@ ManyElements (Read q o) rs = ⊥
 ManyElements (Constant n) rs = ⊥
 ManyElements (Operation o) rs = ⊥
 ManyElements End rs = ⊥
+ManyElements (Statement q o) rs = ⊥
 
 -- 5: no array of that number. (Arrays are numbered from 0.)
 abbrev pub NoneNumbered : ℕ → List Record → Type 0
@@ -140,8 +158,9 @@ Unnumbered (Read q o) rs = NoneNumbered q rs
 Unnumbered (Constant n) rs = ⊥
 Unnumbered (Operation o) rs = ⊥
 Unnumbered End rs = ⊥
+Unnumbered (Statement q o) rs = NoneNumbered q rs
 
--- 6: the body before a loop or the end does not leave one
+-- 6: the body before a loop, a further statement or the end does not leave one
 abbrev pub NotOneLeft : Record → List Record → Type 0
 NotOneLeft Unknown rs = ⊥
 NotOneLeft (Array n) rs = ⊥
@@ -150,6 +169,7 @@ NotOneLeft (Read q o) rs = ⊥
 NotOneLeft (Constant n) rs = ⊥
 NotOneLeft (Operation o) rs = ⊥
 NotOneLeft End rs = (0 < loops rs) × (waiting rs ≢ 1)
+NotOneLeft (Statement q o) rs = (0 < loops rs) × (waiting rs ≢ 1)
 
 -- 6: a ninth, or too few waiting numbers
 abbrev pub NinthOrTooFew : Record → List Record → Type 0
@@ -160,19 +180,25 @@ NinthOrTooFew (Read q o) rs = (0 < loops rs) × (8 < waiting rs + 1)
 NinthOrTooFew (Constant n) rs = (0 < loops rs) × (8 < waiting rs + 1)
 NinthOrTooFew (Operation o) rs = (0 < loops rs) × (waiting rs < operands o)
 NinthOrTooFew End rs = ⊥
+NinthOrTooFew (Statement q o) rs = ⊥
 
 -- 7: some iteration i, from first to last, reaches outside an array of n elements: the element i + o - 255 is below 0, or not below n
 abbrev pub Outside : ℕ → ℕ → ℕ → ℕ → Type 0
 Outside first last o n = (i : ℕ) × (first ≤ i) × (i ≤ last) × ((i + o < 255) ⊎ (n + 255 ≤ i + o))
 
+-- of the latest loop
+abbrev pub OutsideInLoop : ℕ → ℕ → List Record → Type 0
+OutsideInLoop q o rs = (0 < loops rs) × (q < arrays rs) × Outside (latest rs .first) (latest rs .last) o (getD (lengths rs) q 0)
+
 abbrev pub OutsideArray : Record → List Record → Type 0
 OutsideArray Unknown rs = ⊥
 OutsideArray (Array n) rs = ⊥
 OutsideArray (Loop f l q o) rs = (q < arrays rs) × Outside f l o (getD (lengths rs) q 0)
-OutsideArray (Read q o) rs = (0 < loops rs) × (q < arrays rs) × Outside (latest rs .first) (latest rs .last) o (getD (lengths rs) q 0)
+OutsideArray (Read q o) rs = OutsideInLoop q o rs
 OutsideArray (Constant n) rs = ⊥
 OutsideArray (Operation o) rs = ⊥
 OutsideArray End rs = ⊥
+OutsideArray (Statement q o) rs = OutsideInLoop q o rs
 
 -- THE GROUNDS OF AN INPUT s AT A PLACE p
 module _ (s : List ℕ) (p : ℕ) where
@@ -196,7 +222,7 @@ module _ (s : List ℕ) (p : ℕ) where
   abbrev pub BadField : Type 0
   BadField = AtWhole OutOfRange
 
-  -- 4: one array, loop, item or element too many
+  -- 4: one array, loop, item, statement or element too many
   abbrev pub Crowd : Type 0
   Crowd = AtKind OneTooMany ⊎ AtWhole ManyElements
 

@@ -6,7 +6,7 @@ use mathlib.Core.Logic.{_⊎_}
 use mathlib.Core.List.{List, [], _∷_, _++_}
 use lib.ListN.{length}
 use Rattle.records.specs.declared.Record.{Record}
-use Rattle.records.specs.declared.Record.the-variants.{Unknown, Array, Loop, Read, Constant, Operation, End}
+use Rattle.records.specs.declared.Record.the-variants.{Unknown, Array, Loop, Read, Constant, Operation, End, Statement}
 use Rattle.records.specs.Bytes.{recordAt}
 use Rattle.grounds.specs.Places.{after, Records}
 use Rattle.grounds.specs.Statements.{Misplaced, NotOneLeft, OneTooMany, ManyElements, NinthOrTooFew, OutsideArray}
@@ -33,6 +33,7 @@ fieldTests (Read q o) rs = test 5 (NoneNumbered q rs) ∷ test 3 (BadOffset o) �
 fieldTests (Constant n) rs = []
 fieldTests (Operation o) rs = test 3 (BadOperation o) ∷ []
 fieldTests End rs = []
+fieldTests (Statement q o) rs = test 5 (NoneNumbered q rs) ∷ test 3 (BadOffset o) ∷ []
 
 -- the element total (4), 6, 7
 abbrev pub lastTests : Record → List Record → List Test

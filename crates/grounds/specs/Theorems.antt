@@ -8,17 +8,17 @@ use lib.ListN.{length, getD}
 use Rattle.refusals.specs.declared.Refusal.{Refusal}
 use Rattle.refusals.specs.Refusals.{met}
 use Rattle.records.specs.declared.Record.{Record}
-use Rattle.records.specs.declared.Record.the-variants.{Unknown, Array, Loop, Read, Constant, Operation, End}
+use Rattle.records.specs.declared.Record.the-variants.{Unknown, Array, Loop, Read, Constant, Operation, End, Statement}
 use Rattle.records.specs.Bytes.{recordAt}
 use Rattle.records.specs.History.{summary, lengths}
-use Rattle.records.specs.Clear.{Clear}
+use Rattle.records.specs.Clear.{Clear, Within}
 use Rattle.refusals.specs.Answers.{accepted, refused}
 use Rattle.reader.specs.Reading.{Answer, reading}
 use Rattle.model.specs.Table.{Table}
 use Rattle.grounds.specs.Places.{Records}
 use Rattle.grounds.specs.PlaceLaws.{end-length}
 use Rattle.grounds.specs.Statements.{loops, Misplaced, OutOfRange, OneTooMany, ManyElements, Unnumbered, NotOneLeft, NinthOrTooFew}
-use Rattle.grounds.specs.Statements.{OutsideArray, Torn, Tail, Ground}
+use Rattle.grounds.specs.Statements.{OutsideInLoop, OutsideArray, Torn, Tail, Ground}
 use Rattle.grounds.specs.StatementLaws.{by-number, ground-number, ground-place}
 use Rattle.grounds.specs.Tests.{tests, First}
 use Rattle.grounds.specs.Counted.{arrays-counted, elements-counted, loops-counted, body-counted, Clears, loop-array}
@@ -63,6 +63,7 @@ module _ (rs : List Record) (clears : Clears rs) where
   not-misplaced End c g =
       let some : 0 < loops rs = omega (arith, c .0, loops-counted rs) in
       ⊎-elim (λ e. omega (arith, loop-array rs clears some)) (λ e. omega arith) g
+  not-misplaced (Statement q o) c g = omega (arith, c .0, loops-counted rs)
 
   not-out-of-range : Refuted OutOfRange rs
   not-out-of-range Unknown c g = g
@@ -73,6 +74,7 @@ module _ (rs : List Record) (clears : Clears rs) where
   not-out-of-range (Constant n) c g = g
   not-out-of-range (Operation o) c g = ⊎-elim (λ e. omega (arith, c .2)) (λ e. omega (arith, c .3)) g
   not-out-of-range End c g = g
+  not-out-of-range (Statement q o) c g = omega (arith, c .4)
 
   not-one-too-many : Refuted OneTooMany rs
   not-one-too-many Unknown c g = g
@@ -82,6 +84,7 @@ module _ (rs : List Record) (clears : Clears rs) where
   not-one-too-many (Constant n) c g = omega (arith, c .1, g .1, body-counted rs (g .0) .items)
   not-one-too-many (Operation o) c g = omega (arith, c .1, g .1, body-counted rs (g .0) .items)
   not-one-too-many End c g = g
+  not-one-too-many (Statement q o) c g = omega (arith, c .2, g .1, body-counted rs (g .0) .statements)
 
   not-many-elements : Refuted ManyElements rs
   not-many-elements Unknown c g = g
@@ -91,6 +94,7 @@ module _ (rs : List Record) (clears : Clears rs) where
   not-many-elements (Constant n) c g = g
   not-many-elements (Operation o) c g = g
   not-many-elements End c g = g
+  not-many-elements (Statement q o) c g = g
 
   not-unnumbered : Refuted Unnumbered rs
   not-unnumbered Unknown c g = g
@@ -100,6 +104,7 @@ module _ (rs : List Record) (clears : Clears rs) where
   not-unnumbered (Constant n) c g = g
   not-unnumbered (Operation o) c g = g
   not-unnumbered End c g = g
+  not-unnumbered (Statement q o) c g = omega (arith, c .3, arrays-counted rs)
 
   one-left : Refuted NotOneLeft rs
   one-left Unknown c g = g
@@ -109,6 +114,7 @@ module _ (rs : List Record) (clears : Clears rs) where
   one-left (Constant n) c g = g
   one-left (Operation o) c g = g
   one-left End c g = g .1 (sym (body-counted rs (g .0) .waiting) ∙ c .1)
+  one-left (Statement q o) c g = g .1 (sym (body-counted rs (g .0) .waiting) ∙ c .1)
 
   not-ninth-or-too-few : Refuted NinthOrTooFew rs
   not-ninth-or-too-few Unknown c g = g
@@ -118,17 +124,22 @@ module _ (rs : List Record) (clears : Clears rs) where
   not-ninth-or-too-few (Constant n) c g = omega (arith, c .2, g .1, body-counted rs (g .0) .waiting)
   not-ninth-or-too-few (Operation o) c g = omega (arith, c .4, g .1, body-counted rs (g .0) .waiting)
   not-ninth-or-too-few End c g = g
+  not-ninth-or-too-few (Statement q o) c g = g
+
+  inside-loop : (q o : ℕ) → Within (summary rs .first) (summary rs .last) o (getD (lengths rs) q 0) → OutsideInLoop q o rs → ⊥
+  inside-loop q o w g =
+      let b = body-counted rs (g .0) in
+      not-outside (summary rs .first) (summary rs .last) o (getD (lengths rs) q 0) (w .0) (w .1) (rw (b .first, b .last) (g .2))
 
   not-outside-array : Refuted OutsideArray rs
   not-outside-array Unknown c g = g
   not-outside-array (Array n) c g = g
   not-outside-array (Loop f l q o) c g = not-outside f l o (getD (lengths rs) q 0) (c .6 .0) (c .6 .1) (g .1)
-  not-outside-array (Read q o) c g =
-      let b = body-counted rs (g .0) in
-      not-outside (summary rs .first) (summary rs .last) o (getD (lengths rs) q 0) (c .5 .0) (c .5 .1) (rw (b .first, b .last) (g .2))
+  not-outside-array (Read q o) c g = inside-loop q o (c .5) g
   not-outside-array (Constant n) c g = g
   not-outside-array (Operation o) c g = g
   not-outside-array End c g = g
+  not-outside-array (Statement q o) c g = inside-loop q o (c .5) g
 
 -- A GROUND HOLDS AT NO PLACE BEFORE THAT OF THE REFUSAL, and with a table at none
 abbrev NotBefore : Answer → ℕ → Type 0

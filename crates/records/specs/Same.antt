@@ -36,11 +36,12 @@ kind-in kind.Operation s b = refl
 kind-in kind.End s b = refl
 kind-in kind.Statement s b = refl
 
-pub record-length : (s : List ℕ) (at : ℕ) (r : Record) → recordAt s at ≡ r → bodyLength (byte s at) ≡ spanOf (kindIn r)
+pub kind-of-record : (s : List ℕ) (at : ℕ) → kindIn (recordAt s at) ≡ kindOf (byte s at)
 unfolding recordAt
-record-length s at r e =
-    span-kind (byte s at)
-    ∙ ap spanOf (sym (kind-in (kindOf (byte s at)) s (at + 1)) ∙ ap kindIn e)
+kind-of-record s at = kind-in (kindOf (byte s at)) s (at + 1)
+
+pub record-length : (s : List ℕ) (at : ℕ) (r : Record) → recordAt s at ≡ r → bodyLength (byte s at) ≡ spanOf (kindIn r)
+record-length s at r e = span-kind (byte s at) ∙ ap spanOf (sym (kind-of-record s at) ∙ ap kindIn e)
 
 -- the n bytes from a on in s are those from b on in z
 abbrev pub Same : List ℕ → ℕ → List ℕ → ℕ → ℕ → Type 0
