@@ -3,10 +3,10 @@ use Prim.Native.Nat.{ℕ, zero, suc, _+_, _-_, _≤_, _<_}
 use native.Mathlib.Omega.{arith}
 use native.Mathlib.Decide.{ℕ-discrete, decLt}
 use native.Mathlib.Numerals.{add-one}
-use mathlib.Core.Path.{_≡_, refl, sym, ap, _∙_}
+use mathlib.Core.Path.{_≡_, refl, sym, ap, subst, _∙_}
 use mathlib.Core.Logic.{⊎-elim}
 use mathlib.Core.Bool.{true, false, cond}
-use mathlib.Core.List.{List, [], _∷_, _++_, append-assoc, List·Memᴰ·append-cases}
+use mathlib.Core.List.{List, [], _∷_, _++_, append-nil, append-assoc, List·Memᴰ·append-cases}
 use mathlib.Core.List.{List·Memᴰ as Mem}
 use mathlib.Core.List.{List·Memᴰ·cases-cons as cases-cons, List·Memᴰ·not-nil as not-nil}
 use lib.Dec.{eqb, ltb}
@@ -85,6 +85,14 @@ module _ (c : List ℕ) (k : ℕ) where
       ∙ ap (λ (xs : List Reference). rowRefs c k from ++ xs) (refs-split (from + 1) n past (omega arith))
       ∙ sym (append-assoc (rowRefs c k from) (refsIn c k (from + 1) (from + 1 + n)) (refsIn c k (from + 1 + n) past))
       ∙ ap (λ (xs : List Reference). xs ++ refsIn c k (from + 1 + n) past) (sym (refs-next from (from + 1 + n) (omega arith))))
+
+  -- one row more
+  pub refs-up : (from r : ℕ) → from ≤ r → refsIn c k from (r + 1) ≡ refsIn c k from r ++ rowRefs c k r
+  refs-up from r l =
+      let e : from + (r - from) ≡ r = omega arith in
+      subst (λ (m : ℕ). refsIn c k from (r + 1) ≡ refsIn c k from m ++ refsIn c k m (r + 1)) e (refs-split from (r - from) (r + 1) (omega arith))
+      ∙ ap (λ (xs : List Reference). refsIn c k from r ++ xs)
+      (refs-next r (r + 1) (omega arith) ∙ ap (λ (xs : List Reference). rowRefs c k r ++ xs) (refs-end (r + 1) (r + 1) (omega arith)) ∙ append-nil (rowRefs c k r))
 
   -- there are no more of them than rows
   row-few : (r : ℕ) → length (rowRefs c k r) ≤ 1

@@ -2,7 +2,9 @@
 pub mod Serial
 -- ground 9: the statement, and that the test decides it
 pub mod Meeting
--- the test decides it, and names the lowest read
+-- the test decides it, and names the least pair
 pub mod MeetingLaws
 -- a table is accepted where no loop collides
 pub mod Parallel
+-- what the code asks of a loop's rows
+pub mod Rows

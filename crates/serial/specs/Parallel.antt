@@ -9,7 +9,7 @@ use Rattle.refusals.specs.Answers.{accepted, refused}
 use Rattle.refusals.specs.AnswerLaws.{not-both}
 use Rattle.reader.specs.Reading.{Answer, reading}
 use Rattle.serial.specs.declared.Collision.{Collision}
-use Rattle.serial.specs.declared.Collision.the-variants.{Nothing, Read}
+use Rattle.serial.specs.declared.Collision.the-variants.{Nothing, Pair}
 use Rattle.serial.specs.Serial.{loopHit, afterLoop, serialFrom, through, table}
 
 -- nothing in the n loops from loop k on
@@ -33,7 +33,7 @@ clear-from t u k (suc n) e = go (loopHit (loop t k)) refl e (clear-from t u (suc
         at : (j : ℕ) → k ≤ j → j < k + suc n → Dec (j ≡ k) → Clear t (suc k) n → loopHit (loop t j) ≡ Nothing
         at j l m (yes z) c = rw z f
         at j l m (no z) c = c j (omega arith) (omega arith)
-    go (Read i) f h ih = absurd (not-both h)
+    go (Pair i j) f h ih = absurd (not-both h)
 
 -- no loop collides
 abbrev pub Parallel : Table → Type 0

@@ -1,95 +1,128 @@
 // Ground 9: two different iterations of one loop meet at an element, one of them storing.
 use arithmetic::wide;
+use model::Reference;
 use overlap::overlaps;
 use records::STORE;
 use records::Store;
 use refusals::Refusal;
 use refusals::SERIAL;
 ghost use mathlib.Core.Path.{_≡_};
-ghost use Prim.Native.Nat.{ℕ, _-_, _<_, _≤_};
+ghost use Prim.Native.Nat.{ℕ, _<_, _≤_};
+ghost use lib.ListN.{length};
 ghost use Rattle.refusals.specs.Answers.{accepted, refusalOf};
 ghost use Rattle.model.specs.Table.{count};
-ghost use Rattle.reader.specs.Store.{Sized, itemsFrom, loopAt, tableIn};
+ghost use Rattle.reader.specs.Store.{Sized, loopAt, tableIn};
 ghost use Rattle.reader.specs.Stored.{Row};
+ghost use Rattle.reader.specs.Rows.{refsIn};
 ghost use Rattle.reader.specs.Held.{Held};
 ghost use Rattle.reader.specs.ReadInto.{ReadInto};
-ghost use Rattle.serial.specs.Serial.{collides, hit, loopHit, through, table};
+ghost use Rattle.serial.specs.Serial.{collides, loopHit, through, table};
+ghost use Rattle.serial.specs.Rows.{collidesRow, Partner};
 
-// Whether a read of a loop meets its destination in another iteration, and which, numbered from 0 among the loop's reads.
+// Whether two references of a loop meet in two different iterations, one of them storing; and which: their numbers among the loop's references,
+// which are counted from 0 in byte order, the lower one first.
 pub enum Collision {
     Nothing,
-    Read(usize),
+    Pair(usize, usize),
 }
 
-// A read of array b at offset o, and a destination in array a at offset c, of a loop from first to last.
-fn collide(first: u32, last: u32, a: u32, c: u32, b: u32, o: u32) -> bool
-    requires { ⌜ (c < 65536) × (o < 65536) ⌝ }
-    ensures { λ r. ⌜ r ≡ collides first last a c b o ⌝ }
+// Two references of a loop from first to last.
+fn collide(first: u32, last: u32, x: Reference, y: Reference) -> bool
+    requires { ⌜ (x .offset < 65536) × (y .offset < 65536) ⌝ }
+    ensures { λ r. ⌜ r ≡ collides first last x y ⌝ }
 {
-    if b != a {
+    if x.array != y.array {
         return false;
     }
-    if o == c {
+    if x.offset == y.offset {
         return false;
     }
     let f = wide(first);
     let l = wide(last);
-    overlaps(f, l, wide(c), f, l, wide(o))
+    if x.stores {
+        return overlaps(f, l, x.offset, f, l, y.offset);
+    }
+    if y.stores {
+        return overlaps(f, l, x.offset, f, l, y.offset);
+    }
+    false
 }
 
-// The reads among the rows from `from` up to `past`, of a loop from first to last whose destination is in array a at offset c.
-fn first_hit(
-    store: &Store,
-    from: usize,
-    past: usize,
-    first: u32,
-    last: u32,
-    a: u32,
-    c: u32,
-) -> Collision
-    requires { ⌜ (past ≤ 528) × (c < 65536) × ((r : ℕ) → r < past → Row (now store) r) ⌝ }
-    ensures { λ r. ⌜ r ≡ hit first last a c (itemsFrom (now (store .entry)) from (past - from)) 0 ⌝ }
+// A reference x and the row `row` of one loop: most rows are told by their array alone.
+fn row_collides(store: &Store, x: Reference, row: usize, first: u32, last: u32) -> bool
+    requires { ⌜ (row < 576) × Row (now store) row × (x .offset < 65536) ⌝ }
+    ensures { λ r. ⌜ r ≡ collidesRow (now (store .entry)) first last x row ⌝ }
 {
+    if wide(reader::array_at(store, row)) != x.array {
+        return false;
+    }
+    if reader::CONSTANT <= reader::kind_at(store, row) {
+        return false;
+    }
+    let y = reader::reference_at(store, 0, row);
+    collide(first, last, x, y)
+}
+
+// The first row behind `row`, up to `past`, whose reference collides with that of `row`; `past` if there is none, or `row` has no reference.
+fn partner(store: &Store, row: usize, past: usize, first: u32, last: u32) -> usize
+    requires { ⌜ (row < past) × (past ≤ 576) × ((r : ℕ) → r < past → Row (now store) r) ⌝ }
+    ensures { λ o. ⌜ Partner (now (store .entry)) first last row past o ⌝ }
+{
+    if reader::CONSTANT <= reader::kind_at(store, row) {
+        return past;
+    }
+    let x = reader::reference_at(store, 0, row);
+    let mut other = row + 1;
+    while other < past {
+        if row_collides(store, x, other, first, last) {
+            return other;
+        }
+        other += 1;
+    }
+    past
+}
+
+// How many references the rows from `from` up to `past` have.
+fn references_in(store: &Store, from: usize, past: usize) -> usize
+    requires { ⌜ past ≤ 576 ⌝ }
+    ensures { λ n. ⌜ n ≡ length (refsIn (now (store .entry)) 0 from past) ⌝ }
+{
+    let mut n: usize = 0;
     let mut row = from;
-    let mut reads: usize = 0;
     while row < past {
-        if reader::kind_at(store, row) == reader::READ {
-            if collide(
-                first,
-                last,
-                a,
-                c,
-                reader::array_at(store, row),
-                reader::value_at(store, row),
-            ) {
-                return Collision::Read(reads);
-            }
-            reads += 1;
+        if reader::kind_at(store, row) < reader::CONSTANT {
+            n += 1;
         }
         row += 1;
     }
-    Collision::Nothing
+    n
 }
 
-// The first read of loop k that collides.
+// The first pair of references of loop k that collides. Behind the last destination there are reads alone, and no two of them do.
 fn loop_hit(k: usize, store: &Store) -> Collision
     requires { ⌜ Held (now store) × (k < count (tableIn (now store))) ⌝ }
     ensures { λ r. ⌜ r ≡ loopHit (loopAt (now (store .entry)) k) ⌝ }
 {
     let from = reader::start_at(store, k);
     let past = reader::start_at(store, k + 1);
-    first_hit(
-        store,
-        from + 1,
-        past,
-        reader::first_at(store, k),
-        reader::last_at(store, k),
-        reader::array_at(store, from),
-        reader::value_at(store, from),
-    )
+    let first = reader::first_at(store, k);
+    let last = reader::last_at(store, k);
+    let end = reader::last_destination(store, k);
+    let mut row = from;
+    while row <= end {
+        let other = partner(store, row, past, first, last);
+        if other < past {
+            return Collision::Pair(
+                references_in(store, from, row),
+                references_in(store, from, other),
+            );
+        }
+        row += 1;
+    }
+    Collision::Nothing
 }
 
-// The loops of a table in a store, from the first on: 9 carries the lowest that collides, and names its first read that does.
+// The loops of a table in a store, from the first on: 9 carries the lowest that collides, and names its first pair that does.
 fn check_loops(store: &Store) -> Refusal
     requires { ⌜ Held (now store) ⌝ }
     ensures { λ r. ⌜ ReadInto (through (accepted (tableIn (now (store .entry))))) r (now (store .entry)) ⌝ }
@@ -100,7 +133,7 @@ fn check_loops(store: &Store) -> Refusal
         let hit = loop_hit(k, store);
         match hit {
             Collision::Nothing => k += 1,
-            Collision::Read(n) => return Refusal::naming(SERIAL, k, n, 0),
+            Collision::Pair(m, n) => return Refusal::naming(SERIAL, k, m, n),
         }
     }
     Refusal::none()

@@ -44,7 +44,7 @@ returns c =
     let g = c .before .before .hit .given in
     rw (c .naming .ensures)
     (loop-collides (now (b .args .store)) (b .pre) _ (l .k) (l .inv) (d .before .loop-test .taken) (d .loop-hit .result)
-    (d .loop-hit .ensures) (g .0 .0) (g .1))
+    (d .loop-hit .ensures) (g .0 .0) (g .0 .1 .0) (g .1))
 
 returns-2 : tie.Need-returns-2 Inv-loop μ-loop
 returns-2 c =
