@@ -1,17 +1,12 @@
--- Reading through 9: a refusal is given only where its ground holds, 9 carries the lowest loop that meets and names its lowest read that
--- collides, and an accepted table meets none of 1 to 9.
+-- Reading through 9: a refusal is given only where its ground holds, 9 carries the lowest loop that meets and names its least pair of references
+-- that collides, and an accepted table meets none of 1 to 9.
 use Prim.Native.Nat.{ℕ, zero, suc, _+_, _≤_, _<_}
 use native.Mathlib.Omega.{arith}
 use native.Mathlib.Decide.{ℕ-discrete, decLt}
 use mathlib.Core.Path.{_≡_, refl, sym, ap, subst, _∙_}
 use mathlib.Core.Logic.{_⊎_, inl, inr}
-use mathlib.Core.List.{List, [], _∷_, _++_}
-use mathlib.Core.List.{List·Memᴰ as Mem, List·Memᴰ·tail as mthere}
-use lib.ListN.{length, getD}
-use Rattle.order.specs.Lists.{nth-mem}
-use Rattle.model.specs.declared.Reference.{Reference}
-use Rattle.model.specs.References.{reads, refs}
-use Rattle.model.specs.Table.{Table, Statement, loop, count}
+use mathlib.Core.List.{List}
+use Rattle.model.specs.Table.{Table, loop, count}
 use Rattle.model.specs.Sound.{Sound}
 use Rattle.refusals.specs.declared.Refusal.{Refusal}
 use Rattle.refusals.specs.Refusals.{naming}
@@ -19,10 +14,10 @@ use Rattle.refusals.specs.Answers.{accepted, refused, refusalOf}
 use Rattle.refusals.specs.AnswerLaws.{not-both, after-refused}
 use Rattle.reader.specs.Reading.{Answer, reading}
 use Rattle.serial.specs.declared.Collision.{Collision}
-use Rattle.serial.specs.declared.Collision.the-variants.{Nothing, Read}
+use Rattle.serial.specs.declared.Collision.the-variants.{Nothing, Pair}
 use Rattle.serial.specs.Serial.{loopHit, afterLoop, serialFrom, through, table}
-use Rattle.serial.specs.Meeting.{Serial, Collides, FirstMeeting, allReads}
-use Rattle.serial.specs.MeetingLaws.{hit-collides, lower-apart, none-parallel}
+use Rattle.serial.specs.Meeting.{Serial, FirstMeeting}
+use Rattle.serial.specs.MeetingLaws.{hit-collides, lower-apart, nearer-apart, none-parallel, collides-serial}
 use Rattle.serial.specs.Parallel.{accepted-parallel}
 use Rattle.grounds.specs.StatementLaws.{ground-number}
 use Rattle.grounds.specs.Theorems.{refused-ground, refused-unnamed, accepted-none}
@@ -34,11 +29,12 @@ use Rattle.grounds.specs.AcceptedLaws.{accepted-valid, valid-known, valid-withi
 module _ (t : Table) where
   record Lowest (k n : ℕ) (r : Refusal) : Type 0 where
     number : ℕ
-    read : ℕ
-    is : r ≡ naming 9 number read 0
+    lower : ℕ
+    higher : ℕ
+    is : r ≡ naming 9 number lower higher
     low : k ≤ number
     high : number < k + n
-    hits : loopHit (loop t number) ≡ Read read
+    hits : loopHit (loop t number) ≡ Pair lower higher
     earlier : (j : ℕ) → k ≤ j → j < number → loopHit (loop t j) ≡ Nothing
 
   lowest-from : (k n : ℕ) (r : Refusal) → serialFrom t k n ≡ refused r → Lowest k n r
@@ -52,7 +48,8 @@ module _ (t : Table) where
           let w = ih g in
           record {
             number = w .number;
-            read = w .read;
+            lower = w .lower;
+            higher = w .higher;
             is = w .is;
             low = omega (arith, w .low);
             high = omega (arith, w .high);
@@ -63,9 +60,10 @@ module _ (t : Table) where
           at : (j : ℕ) → k ≤ j → Dec (j ≡ k) → (suc k ≤ j → loopHit (loop t j) ≡ Nothing) → loopHit (loop t j) ≡ Nothing
           at j l (yes q) later = rw q f
           at j l (no q) later = later (omega arith)
-      go (Read i) f g ih = record {
+      go (Pair i j) f g ih = record {
         number = k;
-        read = i;
+        lower = i;
+        higher = j;
         is = sym (ap refusalOf g);
         low = omega arith;
         high = omega arith;
@@ -73,41 +71,20 @@ module _ (t : Table) where
         earlier = λ j l h. absurd (omega arith);
       }
 
--- a numbered read is one of the loop's references
-read-in : (t : Table) (k n : ℕ) (d : Reference) (st : Statement) → loop t k .body ≡ st ∷ [] → n < length (allReads k (loop t k .body))
-    → Mem (getD (allReads k (loop t k .body)) n d) (refs t k)
-read-in t k n d st body l =
-    rw body (mthere (nth-mem (reads k (st .items) ++ []) d n (rw body at l)))
-
 -- THE THEOREMS
 module _ (s : List ℕ) where
-  -- a read that collides makes two iterations meet
-  collides-serial : (t : Table) (k n : ℕ) → (st : Statement) → loop t k .body ≡ st ∷ [] → Collides t k n → Serial t k
-  collides-serial t k n st body c = record {
-    one = c .one;
-    other = c .other;
-    one-inside = c .one-inside;
-    other-inside = c .other-inside;
-    differ = c .differ;
-    left = c .target;
-    right = getD (allReads k (loop t k .body)) n (c .target);
-    left-in = c .target-in;
-    right-in = read-in t k n (c .target) st body (c .numbered);
-    meet = c .meet;
-  }
-
-  first-meeting : (t : Table) → reading s ≡ accepted t → (r : Refusal) (w : Lowest t 0 (count t) r) → FirstMeeting t (w .number) (w .read)
-  first-meeting t f r w =
-      let v = accepted-valid s t f .each in
+  first-meeting : (t : Table) (r : Refusal) (w : Lowest t 0 (count t) r) → FirstMeeting t (w .number) (w .lower) (w .higher)
+  first-meeting t r w =
       let p = w .number in
       let few : p < count t = omega (arith, w .high) in
-      let c = hit-collides t p (v p few .statement) (v p few .only) (w .read) few (w .hits) in
+      let c = hit-collides t p (w .lower) (w .higher) (w .hits) few in
       record {
         there = few;
-        meets = collides-serial t p (w .read) (v p few .statement) (v p few .only) c;
-        lowest-loop = λ k l. none-parallel t k (v k (omega arith) .statement) (v k (omega arith) .only) (w .earlier k (omega arith) l);
+        meets = collides-serial t p (w .lower) (w .higher) c;
+        lowest-loop = λ k l. none-parallel t k (w .earlier k (omega arith) l);
         collides = c;
-        lowest-read = lower-apart t p (v p few .statement) (v p few .only) (w .read) (w .hits);
+        least-lower = lower-apart t p (w .lower) (w .higher) (w .hits);
+        least-higher = nearer-apart t p (w .lower) (w .higher) (w .hits);
       }
 
   -- a refusal is given only where its ground holds
@@ -119,7 +96,7 @@ module _ (s : List ℕ) where
       go (inl f) = subst (λ (q : Refusal). Told q s) (sym (refused-unnamed s r f)) (ground (refused-ground s r f))
       go (inr (t, f, g)) =
           let w = lowest-from t 0 (count t) r g in
-          subst (λ (q : Refusal). Told q s) (sym (w .is)) (serial t f (first-meeting t f r w))
+          subst (λ (q : Refusal). Told q s) (sym (w .is)) (serial t f (first-meeting t r w))
 
   -- a ground that is told is not 0
   pub told-some : (r : Refusal) → Told r s → r .ground ≡ 0 → ⊥
@@ -130,8 +107,7 @@ module _ (s : List ℕ) where
   pub accepted-read : (t : Table) → table s ≡ accepted t → (reading s ≡ accepted t) × ((k : ℕ) → k < count t → Serial t k → ⊥)
   accepted-read t e =
       let (f, none) = accepted-parallel s t e in
-      let v = accepted-valid s t f .each in
-      (f, λ k l. none-parallel t k (v k l .statement) (v k l .only) (none k l))
+      (f, λ k l. none-parallel t k (none k l))
 
   -- so it keeps all limits
   pub valid : (t : Table) → table s ≡ accepted t → Valid t
@@ -145,32 +121,39 @@ module _ (s : List ℕ) where
       let z : u ≡ t = cc in
       accepted-read t e .1 p (rw z at (g .there)) (rw z at (g .meets))
 
-  -- the loop and the read of 9 are the only ones: where the bytes are read and two iterations meet, that is the answer
-  pub nine-where : (t : Table) (p n : ℕ) → reading s ≡ accepted t → FirstMeeting t p n → table s ≡ refused (naming 9 p n 0)
-  nine-where t p n f m = go (table s) refl
+  -- the loop and the pair of 9 are the only ones: where the bytes are read and two iterations meet, that is the answer
+  pub nine-where : (t : Table) (p m n : ℕ) → reading s ≡ accepted t → FirstMeeting t p m n → table s ≡ refused (naming 9 p m n)
+  nine-where t p m n f w = go (table s) refl
     where
-      same-loop : (q i : ℕ) → FirstMeeting t q i → Dec (p < q) → Dec (q < p) → p ≡ q
-      same-loop q i w (yes l) d = absurd (w .lowest-loop p l (m .meets))
-      same-loop q i w (no l) (yes d) = absurd (m .lowest-loop q d (w .meets))
-      same-loop q i w (no l) (no d) = omega arith
+      same-loop : (q i j : ℕ) → FirstMeeting t q i j → Dec (p < q) → Dec (q < p) → p ≡ q
+      same-loop q i j v (yes l) d = absurd (v .lowest-loop p l (w .meets))
+      same-loop q i j v (no l) (yes d) = absurd (w .lowest-loop q d (v .meets))
+      same-loop q i j v (no l) (no d) = omega arith
 
-      same-read : (i : ℕ) → FirstMeeting t p i → Dec (n < i) → Dec (i < n) → n ≡ i
-      same-read i w (yes l) d = absurd (w .lowest-read n l (m .collides))
-      same-read i w (no l) (yes d) = absurd (m .lowest-read i d (w .collides))
-      same-read i w (no l) (no d) = omega arith
+      same-lower : (i j : ℕ) → FirstMeeting t p i j → Dec (m < i) → Dec (i < m) → m ≡ i
+      same-lower i j v (yes l) d = absurd (v .least-lower m n l (w .collides))
+      same-lower i j v (no l) (yes d) = absurd (w .least-lower i j d (v .collides))
+      same-lower i j v (no l) (no d) = omega arith
 
-      same : (r : Refusal) → Told r s → r ≡ naming 9 p n 0
+      same-higher : (j : ℕ) → FirstMeeting t p m j → Dec (n < j) → Dec (j < n) → n ≡ j
+      same-higher j v (yes l) d = absurd (v .least-higher n l (w .collides))
+      same-higher j v (no l) (yes d) = absurd (w .least-higher j d (v .collides))
+      same-higher j v (no l) (no d) = omega arith
+
+      same : (r : Refusal) → Told r s → r ≡ naming 9 p m n
       same r (ground {n = k} {p = q} g) = absurd (accepted-none s t f k q g)
-      same r (serial {p = q} {n = i} u h w) =
+      same r (serial {p = q} {m = i} {n = j} u h v) =
           let z : accepted u ≡ accepted t = sym h ∙ f in
           let y : u ≡ t = cc in
-          let v : FirstMeeting t q i = subst (λ (x : Table). FirstMeeting x q i) y w in
-          let a : p ≡ q = same-loop q i v (decLt p q) (decLt q p) in
-          let b : n ≡ i = same-read i (subst (λ (x : ℕ). FirstMeeting t x i) (sym a) v) (decLt n i) (decLt i n) in
-          rw (a, b)
+          let x : FirstMeeting t q i j = subst (λ (x : Table). FirstMeeting x q i j) y v in
+          let a : p ≡ q = same-loop q i j x (decLt p q) (decLt q p) in
+          let b : m ≡ i = same-lower i j (subst (λ (k : ℕ). FirstMeeting t k i j) (sym a) x) (decLt m i) (decLt i m) in
+          let c : n ≡ j =
+          same-higher j (subst (λ (k : ℕ). FirstMeeting t p k j) (sym b) (subst (λ (k : ℕ). FirstMeeting t k i j) (sym a) x)) (decLt n j) (decLt j n) in
+          rw (a, b, c)
 
-      go : (a : Answer) → table s ≡ a → table s ≡ refused (naming 9 p n 0)
-      go (accepted u) e = absurd (accepted-free u e (naming 9 p n 0) (serial t f m))
+      go : (a : Answer) → table s ≡ a → table s ≡ refused (naming 9 p m n)
+      go (accepted u) e = absurd (accepted-free u e (naming 9 p m n) (serial t f w))
       go (refused r) e = e ∙ ap refused (same r (refused-told r e))
 
   pub accepted-sound : (t : Table) → table s ≡ accepted t → Sound t
