@@ -33,7 +33,7 @@ encoded all = encodeAll (recordsOf (tableOf all))
 encoded-end : (all : List Record) → encoded all ≡ encodeAll (before all) ++ encode End
 unfolding recordsOf
 encoded-end all =
-    ap encodeAll (sym (append-assoc (arrayRecords (lengths all)) (loopRecords (loopsOf all [])) (End ∷ [])))
+    ap encodeAll (sym (append-assoc (arrayRecords (lengths all)) (loopRecords (loopsOf all [] [])) (End ∷ [])))
     ∙ encode-append (before all) (End ∷ [])
     ∙ ap (λ (l : List ℕ). encodeAll (before all) ++ l) (encode-one End)
 

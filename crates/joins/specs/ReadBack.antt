@@ -62,12 +62,12 @@ module _ (ours theirs : List Record) (own : Onward [] ours) (b : Opening theirs)
       let e : summary ours .arrays ≡ summary rs .arrays = sym (arrays-counted ours) ∙ ap length lens ∙ arrays-counted rs in
       rw (e, lens) (w, omega (arith, opens .0), clear .2, clear .3, clear .4, clear .5, clear .6)
 
-  joined-onward : (all : List Record) × Onward [] all × Behind (loopsOf ours []) theirs all
+  joined-onward : (all : List Record) × Onward [] all × Behind (loopsOf ours [] []) theirs all
   joined-onward =
-      let ls = loopsOf ours [] in
+      let ls = loopsOf ours [] [] in
       let begun : Behind ls (Loop f l q o ∷ rs) (Loop f l q o ∷ ours) = behind-first ls rs ours f l q o none lens refl in
       let (all, more, end) =
-      right-part ls (Loop f l q o ∷ rs) theirs (Loop f l q o ∷ ours) onward begun (omega (arith, loops-counted ours [])) in
+      right-part ls (Loop f l q o ∷ rs) theirs (Loop f l q o ∷ ours) onward begun (omega (arith, loops-counted ours [] [])) in
       (all, left-part [] ours all own (goes first other more), end)
     where
       other : Loop f l q o ≡ End → ⊥
@@ -77,9 +77,9 @@ records-joined : (ours theirs : List Record) → Onward [] ours → Onward [] th
     → count (tableOf ours) + count (tableOf theirs) ≤ 16
     → reading (encodeAll (recordsOf (together (tableOf ours) (tableOf theirs)))) ≡ accepted (together (tableOf ours) (tableOf theirs))
 records-joined ours theirs own other same few =
-    let loops : summary ours .loops + summary theirs .loops ≤ 16 = omega (arith, loops-counted ours [], loops-counted theirs []) in
+    let loops : summary ours .loops + summary theirs .loops ≤ 16 = omega (arith, loops-counted ours [] [], loops-counted theirs [] []) in
     let (all, onward, end) = joined-onward ours theirs own (opening theirs other) same loops in
-    let z : tableOf all ≡ together (tableOf ours) (tableOf theirs) = rw (end .lens ∙ sym same, end .table []) in
+    let z : tableOf all ≡ together (tableOf ours) (tableOf theirs) = rw (end .lens ∙ sym same, end .table [] []) in
     rw z at (onward-accepted all onward)
 
 pub reading-joined : (left right : List ℕ) (t u : Table) → reading left ≡ accepted t → reading right ≡ accepted u → t .lengths ≡ u .lengths

@@ -1,4 +1,4 @@
--- The bytes of the longest table, and of an input that is refused at the furthest place.
+-- The bytes of the longest table, of an input that is refused at the furthest place, and of one whose answer its last byte decides.
 use Prim.Native.Nat.{ℕ, zero, suc}
 use mathlib.Core.List.{List, [], _∷_, _++_}
 
@@ -19,20 +19,36 @@ constant = 4 ∷ 0 ∷ 0 ∷ 0 ∷ 0 ∷ []
 abbrev add : List ℕ
 add = 5 ∷ 1 ∷ []
 
-abbrev negate : List ℕ
-negate = 5 ∷ 5 ∷ []
+-- a further statement, storing at A0[i]
+abbrev statement : List ℕ
+statement = 7 ∷ 0 ∷ 0 ∷ 0 ∷ []
 
--- 32 items that leave one number: sixteen constants, fifteen additions, one negation
+-- n items and one more, n + 1 constants and n additions, that leave one number
+abbrev sumOf : ℕ → List ℕ
+sumOf n = constant ++ times n (constant ++ add)
+
+-- four statements with 32 items in all, eighteen constants and fourteen additions, each of which leaves one number
 abbrev full : List ℕ
-full = constant ++ (times 15 (constant ++ add) ++ negate)
+full = loop ++ (sumOf 14 ++ times 3 (statement ++ constant))
 
--- 32 items that leave eight
+-- four statements of which the last leaves seven and eight: with 32 items and with 31
+abbrev seven : List ℕ
+seven = loop ++ (sumOf 11 ++ (times 2 (statement ++ constant) ++ (statement ++ times 7 constant)))
+
 abbrev eight : List ℕ
-eight = constant ++ (times 12 (constant ++ add) ++ times 7 constant)
+eight = loop ++ (sumOf 10 ++ (times 2 (statement ++ constant) ++ (statement ++ times 8 constant)))
+
+-- sixteen arrays, fifteen full loops, and then
+abbrev after : List ℕ → List ℕ
+after l = times 16 array ++ (times 15 full ++ l)
 
 abbrev pub longest : List ℕ
-longest = times 16 array ++ (times 16 (loop ++ full) ++ (6 ∷ []))
+longest = after (full ++ (6 ∷ []))
 
 -- the end record stands where a body is left unfinished
 abbrev pub furthest : List ℕ
-furthest = times 16 array ++ (times 15 (loop ++ full) ++ (loop ++ (eight ++ (6 ∷ []))))
+furthest = after (seven ++ (6 ∷ []))
+
+-- a ninth number
+abbrev pub ninth : List ℕ
+ninth = after (eight ++ constant)
