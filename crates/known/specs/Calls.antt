@@ -48,13 +48,13 @@ pub record Calls : Type 0 where
   pub indices-least : refusalFor (array 65 ++ loop 0 2 0 (ahead 0) ++ one ++ end) 3 ≡ none
   pub indices-below : refusalFor (array 65 ++ loop 0 1 0 (ahead 0) ++ one ++ end) 3 ≡ met 11 0
   -- after 1 to 9 come 19, 20, 10, 17, 11, 12, 15, 13, as far as the call has them
-  pub serial-processors : refusalFor (itself 9) 0 ≡ naming 9 0 0 0
+  pub serial-processors : refusalFor (itself 9) 0 ≡ naming 9 0 0 1
   pub processors-short : refusalFor (tableOf 1 1) 65 ≡ met 10 0
   pub short-memory : runRefusal example 6 0 ≡ met 11 0
-  pub serial-memory : plainRefusal (itself 9) 0 ≡ naming 9 0 0 0
+  pub serial-memory : plainRefusal (itself 9) 0 ≡ naming 9 0 0 1
   pub processors-memory : saidFrom 2 (10 ∷ zeros 63) [] ≡ refuses (met 10 0)
   pub memory-state : saidFrom 0 (10 ∷ zeros 63) [] ≡ refuses (met 12 0)
-  pub serial-buffer : refusalOf (thresholds (itself 9) 0) ≡ naming 9 0 0 0
+  pub serial-buffer : refusalOf (thresholds (itself 9) 0) ≡ naming 9 0 0 1
   pub short-buffer : refusalOf (blocksGiven example (settings 6) 0) ≡ met 11 0
 
 pub calls : Calls

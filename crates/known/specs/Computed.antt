@@ -4,13 +4,13 @@ use mathlib.Core.List.{List, [], _∷_, _++_}
 use lib.ListN.{take}
 use Rattle.records.specs.Bytes.{two, four, offset, kindOf, bodyLength, recordOf, recordAt}
 use Rattle.records.specs.Grounds.{early, edge, fields, ground, passed, tested}
-use Rattle.records.specs.History.{operands, withArray, withLoop, withItem, advanced, blank, summary, lengths}
+use Rattle.records.specs.History.{operands, withArray, withLoop, withItem, withStatement, advanced, blank, summary, lengths}
 use Rattle.model.specs.declared.Iteration.{Iteration}
 use Rattle.model.specs.Table.{count}
 use Rattle.refusals.specs.declared.Refusal.{Refusal}
 use Rattle.refusals.specs.Answers.{AnswerOf, accepted, refused, refusalOf}
 use Rattle.reader.specs.Reading.{loopsOf, follow, readFrom, reading}
-use Rattle.serial.specs.Serial.{collides, hit, loopHit, serialFrom, through, table}
+use Rattle.serial.specs.Serial.{collides, hit, pairHit, loopHit, serialFrom, through, table}
 use Rattle.chains.specs.Dependence.{dependence}
 use Rattle.chains.specs.TableGraph.{graph}
 use Rattle.chains.specs.Walk.{required, raised, walk, numbers, shifts, peels}
@@ -34,8 +34,8 @@ use Rattle.printing.specs.Printing.{textOf, text}
 
 -- the refusal of a table, 1 to 9; `none` where it is accepted
 unfoldable pub refusal : List ℕ → Refusal
-unfolding table through serialFrom loopHit hit collides reading readFrom follow loopsOf tested ground early fields passed edge two four offset
-    kindOf bodyLength recordOf recordAt operands withArray withLoop withItem advanced blank summary lengths
+unfolding table through serialFrom loopHit pairHit hit collides reading readFrom follow loopsOf tested ground early fields passed edge two four offset
+    kindOf bodyLength recordOf recordAt operands withArray withLoop withItem withStatement advanced blank summary lengths
 refusal s = refusalOf (table s)
 
 -- that of a plan for P processors, 1 to 11, lines having one index

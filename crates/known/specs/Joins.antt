@@ -30,8 +30,8 @@ pub record Joins : Type 0 where
   pub unlike-length : joining (tableOf 1 1) (tableOf 2 1) 4096 ≡ refused (met 14 0)
   pub unlike-number : joining (tableOf 1 1) (array 1 ++ tableOf 1 1) 4096 ≡ refused (met 14 0)
   -- left, then right, each through 9, then 14, 4, 13; a place counts in the table that meets the ground
-  pub left-right : joining (itself 9) [] 0 ≡ refused (naming 9 0 0 0)
-  pub right-unlike : joining example (itself 9) 0 ≡ refused (naming 9 0 0 0)
+  pub left-right : joining (itself 9) [] 0 ≡ refused (naming 9 0 0 1)
+  pub right-unlike : joining example (itself 9) 0 ≡ refused (naming 9 0 0 1)
   pub right-place : joining example (tableOf 1 1 ++ end) 0 ≡ refused (met 8 23)
   pub unlike-crowd : joining (tableOf 1 9) (tableOf 2 8) 4096 ≡ refused (met 14 0)
   pub crowd-buffer : joining (tableOf 1 9) (tableOf 1 8) 0 ≡ refused (met 4 0)

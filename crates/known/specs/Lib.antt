@@ -32,10 +32,6 @@ pub mod Runs
 pub mod Outputs
 -- calls on lines of several indices
 pub mod LineCalls
--- plans by hand
-pub mod Hands
--- calls with a plan by hand
-pub mod HandCalls
 -- two tables joined
 pub mod Joins
 -- the listing's

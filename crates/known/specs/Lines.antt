@@ -72,7 +72,7 @@ pub record Lines : Type 0 where
   pub longest-line : refusalOn example 1 64 ≡ none
   pub long-line : refusalOn example 1 65 ≡ met 17 0
   -- 9 before 17; 10 of P and of a named processor before 17; 17 before 11
-  pub serial-line : refusalOn (itself 9) 1 0 ≡ naming 9 0 0 0
+  pub serial-line : refusalOn (itself 9) 1 0 ≡ naming 9 0 0 1
   pub processors-line : refusalOn example 0 0 ≡ met 10 0
   pub number-line : namedOn example 2 65 2 ≡ met 10 0
   pub line-short : refusalOn example 11 0 ≡ met 17 0

@@ -27,6 +27,10 @@ loop first last a offset = 2 ∷ number first ++ number last ++ a ∷ offset
 abbrev pub store : ℕ → List ℕ
 store a = loop 1 10 a (ahead 0)
 
+-- a further statement of a loop, which stores at an offset in array a
+abbrev pub further : ℕ → List ℕ → List ℕ
+further a offset = 7 ∷ a ∷ offset
+
 abbrev pub read : ℕ → List ℕ → List ℕ
 read a offset = 3 ∷ a ∷ offset
 

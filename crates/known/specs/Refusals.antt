@@ -15,7 +15,7 @@ pub record Refusals : Type 0 where
   -- 2 kind: kind unknown or out of its order, or no array or loop before end
   pub end-alone : refusal (6 ∷ []) ≡ met 2 0
   pub no-kind : refusal (0 ∷ []) ≡ met 2 0
-  pub seventh-kind : refusal (7 ∷ []) ≡ met 2 0
+  pub eighth-kind : refusal (8 ∷ []) ≡ met 2 0
   pub no-loop : refusal (array 1 ++ end) ≡ met 2 5
   pub item-before-loop : refusal (array 1 ++ one) ≡ met 2 5
   pub read-before-loop : refusal (array 1 ++ read 0 (ahead 0)) ≡ met 2 5
@@ -44,18 +44,19 @@ pub record Refusals : Type 0 where
   pub tail : refusal (1 ∷ 1 ∷ 0 ∷ 0 ∷ 0 ∷ 2 ∷ 0 ∷ 0 ∷ 0 ∷ 0 ∷ 0 ∷ 0 ∷ 0 ∷ 0 ∷ 0 ∷ 0 ∷ 0 ∷ 3 ∷ 0 ∷ 0 ∷ 0 ∷ 6 ∷ 0 ∷ []) ≡ met 8 22
   pub no-tail : refusal (begun ++ read 0 (ahead 0) ++ end) ≡ none
   pub long-tail : refusal (begun ++ read 0 (ahead 0) ++ end ++ times 3 end) ≡ met 8 22
-  -- 9 serial: two different iterations of one loop meet at an element, one storing. It carries the lowest such loop, and a read
-  pub serial : refusal (1 ∷ 3 ∷ 0 ∷ 0 ∷ 0 ∷ 2 ∷ 0 ∷ 0 ∷ 0 ∷ 0 ∷ 1 ∷ 0 ∷ 0 ∷ 0 ∷ 0 ∷ 0 ∷ 0 ∷ 3 ∷ 0 ∷ 1 ∷ 0 ∷ 6 ∷ []) ≡ naming 9 0 0 0
+  -- 9 serial: two different iterations of one loop meet at an element, one storing. It carries the lowest such loop, and names a pair
+  -- of its references; with one statement the destination, 0, and the read's number and one
+  pub serial : refusal (1 ∷ 3 ∷ 0 ∷ 0 ∷ 0 ∷ 2 ∷ 0 ∷ 0 ∷ 0 ∷ 0 ∷ 1 ∷ 0 ∷ 0 ∷ 0 ∷ 0 ∷ 0 ∷ 0 ∷ 3 ∷ 0 ∷ 1 ∷ 0 ∷ 6 ∷ []) ≡ naming 9 0 0 1
   pub third-read : refusal
       (1 ∷ 12 ∷ 0 ∷ 0 ∷ 0 ∷ 1 ∷ 12 ∷ 0 ∷ 0 ∷ 0 ∷ 2 ∷ 1 ∷ 0 ∷ 0 ∷ 0 ∷ 10 ∷ 0 ∷ 0 ∷ 0 ∷ 0 ∷ 0 ∷ 0 ∷ 3 ∷ 1 ∷ 0 ∷ 0 ∷ 3 ∷ 0 ∷ 0 ∷ 0 ∷ 5 ∷ 1
       ∷ 3 ∷ 0 ∷ 255 ∷ 255 ∷ 5 ∷ 1 ∷ 6 ∷ [])
-      ≡ naming 9 0 2 0
+      ≡ naming 9 0 0 3
   -- 11 to 20, A0[i] = A0[i-9] meets, and A0[i-10] does not; of two such loops it is the lower one
-  pub nine-back : refusal (array 21 ++ loop 11 20 0 (ahead 0) ++ read 0 (behind 9) ++ end) ≡ naming 9 0 0 0
+  pub nine-back : refusal (array 21 ++ loop 11 20 0 (ahead 0) ++ read 0 (behind 9) ++ end) ≡ naming 9 0 0 1
   pub ten-back : refusal (array 21 ++ loop 11 20 0 (ahead 0) ++ read 0 (behind 10) ++ end) ≡ none
-  pub lower-loop : refusal (array 3 ++ times 2 (loop 0 1 0 (ahead 0) ++ read 0 (ahead 1)) ++ end) ≡ naming 9 0 0 0
+  pub lower-loop : refusal (array 3 ++ times 2 (loop 0 1 0 (ahead 0) ++ read 0 (ahead 1)) ++ end) ≡ naming 9 0 0 1
   -- a constant is no read: A0[i] = 1 + A0[i+1]
-  pub constant-uncounted : refusal (array 3 ++ loop 0 1 0 (ahead 0) ++ one ++ read 0 (ahead 1) ++ add ++ end) ≡ naming 9 0 0 0
+  pub constant-uncounted : refusal (array 3 ++ loop 0 1 0 (ahead 0) ++ one ++ read 0 (ahead 1) ++ add ++ end) ≡ naming 9 0 0 1
 
 pub refusals : Refusals
 unfolding refusal
@@ -66,7 +67,7 @@ refusals = record {
   last-byte-absent = refl;
   end-alone = refl;
   no-kind = refl;
-  seventh-kind = refl;
+  eighth-kind = refl;
   no-loop = refl;
   item-before-loop = refl;
   read-before-loop = refl;

@@ -5,10 +5,11 @@ use native.Mathlib.Decide.{decLt}
 use native.Mathlib.Numerals.{add-one}
 use mathlib.Core.Path.{_≡_, refl, sym, ap, subst, _∙_}
 use mathlib.Core.Logic.{_⊎_, ⊎-elim}
-use mathlib.Core.Bool.{Bool, true, false, false≢true, and-false}
+use mathlib.Core.Bool.{Bool, true, false, false≢true, and-false, _||_}
 use mathlib.Core.List.{List, [], _∷_, _++_, List·Memᴰ·append-cases}
 use mathlib.Core.List.{List·Memᴰ as Mem, List·Memᴰ·head as mhere, List·Memᴰ·tail as mthere}
 use mathlib.Core.List.{List·Memᴰ·cases-cons as cases-cons, List·Memᴰ·not-nil as not-nil}
+use lib.Dec.{eqb}
 use lib.ListN.{length, length-append}
 use borrow.Author.Tests.{lt-ltb, le-ltb, eq-eqb, ne-eqb}
 use Rattle.overlap.specs.Booleans.{not-true}
@@ -47,7 +48,11 @@ module _ (f l : ℕ) (r q : Reference) where
   unfolding collides
   same-offset e = sym (rw (eq-eqb (r .offset) (q .offset) e) (and-false (touch r q)))
 
-  pub reads-apart : r .stores ≡ false → q .stores ≡ false → collides f l r q ≡ false
+  pub neither-stores : (r .stores || q .stores) ≡ false → collides f l r q ≡ false
+  unfolding collides touch
+  neither-stores e = rw (e, and-false (eqb (r .array) (q .array)))
+
+  reads-apart : r .stores ≡ false → q .stores ≡ false → collides f l r q ≡ false
   reads-apart a b = untouched (λ t. ⊎-elim (λ s. false≢true (sym a ∙ s)) (λ s. false≢true (sym b ∙ s)) (t .1))
 
   pub touching : (x : Bool) → r .array ≡ q .array → (r .offset ≡ q .offset → ⊥) → (r .stores ≡ true) ⊎ (q .stores ≡ true)

@@ -7,6 +7,7 @@ use records::Store;
 use refusals::Refusal;
 use refusals::SERIAL;
 ghost use mathlib.Core.Path.{_≡_};
+ghost use mathlib.Core.Bool.{_||_};
 ghost use Prim.Native.Nat.{ℕ, _<_, _≤_};
 ghost use lib.ListN.{length};
 ghost use Rattle.refusals.specs.Answers.{accepted, refusalOf};
@@ -26,6 +27,16 @@ pub enum Collision {
     Pair(usize, usize),
 }
 
+// At least one of two references is a destination.
+fn one_stores(x: bool, y: bool) -> bool
+    ensures { λ r. ⌜ r ≡ (x || y) ⌝ }
+{
+    if x {
+        return true;
+    }
+    y
+}
+
 // Two references of a loop from first to last.
 fn collide(first: u32, last: u32, x: Reference, y: Reference) -> bool
     requires { ⌜ (x .offset < 65536) × (y .offset < 65536) ⌝ }
@@ -37,12 +48,9 @@ fn collide(first: u32, last: u32, x: Reference, y: Reference) -> bool
     if x.offset == y.offset {
         return false;
     }
-    let f = wide(first);
-    let l = wide(last);
-    if x.stores {
-        return overlaps(f, l, x.offset, f, l, y.offset);
-    }
-    if y.stores {
+    if one_stores(x.stores, y.stores) {
+        let f = wide(first);
+        let l = wide(last);
         return overlaps(f, l, x.offset, f, l, y.offset);
     }
     false
@@ -112,10 +120,9 @@ fn loop_hit(k: usize, store: &Store) -> Collision
     while row <= end {
         let other = partner(store, row, past, first, last);
         if other < past {
-            return Collision::Pair(
-                references_in(store, from, row),
-                references_in(store, from, other),
-            );
+            let lower = references_in(store, from, row);
+            let higher = references_in(store, from, other);
+            return Collision::Pair(lower, higher);
         }
         row += 1;
     }

@@ -76,7 +76,7 @@ pub record Hands : Type 0 where
   pub store-after-read : handedTo storeAfterRead 1 (plan2 0 0 0 1) ≡ naming 20 0 1 0
   pub store-after-read-met : handedTo storeAfterRead 1 (plan2 0 0 0 2) ≡ none
   -- the order: 9, 19, 20, 10, 17, 11
-  pub nine-first : handedTo (itself 9) 1 [] ≡ naming 9 0 0 0
+  pub nine-first : handedTo (itself 9) 1 [] ≡ naming 9 0 0 1
   pub nineteen-before-twenty : handedTo example 1 (plan2 10001 0 0 0) ≡ met 19 0
   pub nineteen-before-ten : handedTo example 0 [] ≡ met 19 0
   pub twenty-before-ten : handedTo example 0 (plan2 0 0 0 0) ≡ naming 20 0 1 0

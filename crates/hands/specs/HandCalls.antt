@@ -18,11 +18,11 @@ use Rattle.printing.specs.Printing.{text, listingGiven}
 use Rattle.turns.specs.Turn.{Said, performs, refuses, waits}
 use Rattle.stepping.specs.Step.{step}
 use Rattle.stepping.specs.Run.{runAnswer, runMemory, runIdle}
 use Rattle.known.specs.Records.{number, times}
 use Rattle.known.specs.Bytes.{example}
 use Rattle.known.specs.Computed.{told, fusedIn, peeledIn, listed}
 use Rattle.known.specs.Memory.{whole, own, elementOf, runRefusal, saidFrom, idleIn, elementIn}
-use Rattle.known.specs.Hands.{plan2}
+use Rattle.hands.specs.Hands.{plan2}
 
 -- two processors: a plan with other numbers than the example's own; one in which the first loop has a shift and a peel
 abbrev pub hand : Settings
