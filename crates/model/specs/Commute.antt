@@ -11,6 +11,7 @@ use lib.ListN.{getD, set}
 use lib.Seq.{getD-set-other, set-comm}
 use lib.IntN.{pos}
 use lib.Ieee.{Float, nan, binary64, ofInt}
+use Rattle.order.specs.Sequences.{runAll}
 use Rattle.order.specs.Reorder.{runAll-past, Commute}
 use Rattle.model.specs.declared.Iteration.{Iteration}
 use Rattle.model.specs.declared.Reference.{Reference}
@@ -83,6 +84,23 @@ module _ (ns : List ℕ) where
       (set-comm m (element j (destination l z)) (element i (destination k s)) _ _
       (λ e. free (destination k s) (destination l z) (mhere refl) (mhere refl) (inl refl) (sym e)))
 
+  -- LISTS OF STATEMENTS: what one stores, the other neither reads nor stores
+  abbrev pub Apart : ℕ → ℕ → List Statement → ℕ → ℕ → List Statement → Type 0
+  Apart k i b l j d =
+      (r q : Reference) → Mem r (references k b) → Mem q (references l d) → (r .stores ≡ true) ⊎ (q .stores ≡ true) → element i r ≢ element j q
+
+  -- so they commute
+  pub bodies-commute : (k i : ℕ) (b : List Statement) (l j : ℕ) (d : List Statement) → Apart k i b l j d → (m : List Float)
+      → runAll (performed ns i) b (runAll (performed ns j) d m) ≡ runAll (performed ns j) d (runAll (performed ns i) b m)
+  bodies-commute k i b l j d apart m = sym (runAll-past (performed ns i) (runAll (performed ns j) d) b outer m)
+    where
+      free : (s z : Statement) → Mem s b → Mem z d → Free k i s l j z
+      free s z g h r q u v = apart r q (statement-mem k g u) (statement-mem l h v)
+
+      outer : (s : Statement) → Mem s b → (m : List Float)
+          → runAll (performed ns j) d (performed ns i s m) ≡ performed ns i s (runAll (performed ns j) d m)
+      outer s g m = sym (runAll-past (performed ns j) (performed ns i s) d (λ z h. performed-commute k i s l j z (free s z g h)) m)
+
 -- ITERATIONS: two of them share an element, and one of them stores there
 abbrev pub Clash : Table → Iteration → Iteration → Type 0
 Clash t x y =
@@ -102,12 +120,5 @@ module _ (t : Table) (sound : Sound t) where
 
   pub commutes : (x y : Iteration) → Inside t x → Inside t y → (Clash t x y → ⊥) → Commute (run t) x y
   commutes x y m n free =
-      λ s. sym (runAll-past (performed lengths (x .index)) (run t y) (loop t (x .number) .body) outer s)
-    where
-      outer : (a : Statement) → Mem a (loop t (x .number) .body) → (s : List Float)
-          → run t y (performed lengths (x .index) a s) ≡ performed lengths (x .index) a (run t y s)
-      outer a g s =
-          sym
-          (runAll-past (performed lengths (y .index)) (performed lengths (x .index) a) (loop t (y .number) .body)
-          (λ b h. performed-commute lengths (x .number) (x .index) a (y .number) (y .index) b
-          (λ r q i j o e. free (clash x y r q m n (statement-mem (x .number) g i) (statement-mem (y .number) h j) o e))) s)
+      bodies-commute lengths (x .number) (x .index) (loop t (x .number) .body) (y .number) (y .index) (loop t (y .number) .body)
+      (λ r q g h o e. free (clash x y r q m n g h o e))

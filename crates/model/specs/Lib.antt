@@ -12,3 +12,5 @@ pub mod PlainRunLaws
 pub mod Sound
 -- which iterations commute
 pub mod Commute
+-- an iteration of several statements, by computation
+pub mod RunKnown
