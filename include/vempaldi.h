@@ -118,7 +118,7 @@ enum vempaldi_size {
 struct vempaldi_settings {
     uint32_t processors; /* P, how many processors there are: 1 to 64, else 10 */
     uint32_t line;       /* W, how many iterations a line has, counted from the least first of all loops: 1 to 64, else 17. Where an
-                          * iteration stores 8 bytes and a cache line has 64, it is 8. Blocks begin on whole lines */
+                          * iteration stores 8 bytes in an array and a cache line has 64, it is 8. Blocks begin on whole lines */
     uint32_t by_hand;     /* 0: shifts and peels are those of vempaldi_shifts_and_peels. Any other number: those in `plan` */
     uint32_t plan_length; /* how many bytes the plan by hand has: 8 for each loop of the table, else 19 */
     uint8_t plan[VEMPALDI_AMOUNT_BYTES]; /* for each loop in table order its shift and its peel, as vempaldi_shifts_and_peels writes them.
