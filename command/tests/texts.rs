@@ -12,7 +12,7 @@ const RIVER: &str = "examples/river.txt";
 /// What is printed of a text is what is printed of its table, but for the file's name.
 #[test]
 fn a_text_is_taken_as_its_table() {
-    for name in ["boundary", "example", "jacobi", "ll18", "river"] {
+    for name in ["boundary", "coast", "example", "jacobi", "ll18", "reach", "river"] {
         let (text, table) = (format!("examples/{name}.txt"), format!("examples/{name}.table"));
         let same = |words: &[&str]| {
             let (left, right) = (run(&[words, &[&text]].concat()), run(&[words, &[&table]].concat()));
@@ -295,9 +295,10 @@ fn refusals_are_told_with_their_word() {
 fn meeting_iterations_are_told_with_names() {
     let text = "array Stage 12\narray Q 12\nloop 1 10 -> Stage[i]: Q[i]\n  Stage[i-1] +\n";
     let said = "\
--:4:3: refused 9 serial at loop 0 (record 2, byte 10), its read 1 (record 4, byte 26): iteration 2 reads Stage[1], which iteration 1 stores
+-:4:3: refused 9 serial at loop 0, references 0 (record 2, byte 10) and 2 (record 4, byte 26): \
+iteration 2 reads Stage[1], which iteration 1 stores
 \x20 loop 0, i = 1 to 10: Stage[i] = Q[i] + Stage[i-1]
-\x20                                        ^^^^^^^^^^ iteration i reads the element that the earlier iteration i-1 stores (i = 2 to 10)
+\x20                      ^^^^^^^^          ^^^^^^^^^^ iteration i reads the element that the earlier iteration i-1 stores (i = 2 to 10)
 ";
     assert_eq!(run_of(&["check", "-"], text), (1, said.to_string(), String::new()));
     assert_eq!(run_of(&["run", "-p2", "-"], text), (1, String::new(), said.to_string()));
@@ -344,10 +345,10 @@ fn stands(text: &str, line: usize, column: usize, token: &str) {
 fn whatever_is_wrong_with_a_text_stands_where_it_is_told() {
     let mut random = Random::new(71);
     let examples =
-        ["example", "jacobi", "river"].map(|name| String::from_utf8(bytes(&format!("examples/{name}.txt"))).expect("text"));
+        ["coast", "example", "reach", "river"].map(|name| String::from_utf8(bytes(&format!("examples/{name}.txt"))).expect("text"));
     let (mut wrong, mut refused) = (0, 0);
     for round in 0..6_000 {
-        let text = scribbled(&mut random, &examples[round % 3]);
+        let text = scribbled(&mut random, &examples[round % 4]);
         let made = match make(&text) {
             Ok(made) => made,
             Err(error) => {
@@ -358,8 +359,8 @@ fn whatever_is_wrong_with_a_text_stands_where_it_is_told() {
             }
         };
         if let Err(refusal) = vempaldi::check(&made.bytes) {
-            let found = match refusal.read() {
-                Some(read) => explain_serial(&made.bytes, &made.names, refusal.place, read),
+            let found = match refusal.references() {
+                Some(pair) => explain_serial(&made.bytes, &made.names, refusal.place, pair),
                 None => explain(&made.bytes, &made.names, &refusal),
             };
             let found = found.unwrap_or_else(|| panic!("no words for {refusal}\n{text}"));
