@@ -322,7 +322,7 @@ fn every_read_of_any_body_has_its_place() {
             table.loops.iter().for_each(placed);
         }
     }
-    let (table, _) = decode(&encode(&tables::full(&mut random, 4, 4)));
+    let (table, _) = decode(&encode(&tables::full(&mut random, 4, 4, 4)));
     table.loops.iter().for_each(placed);
     for name in ["reach", "coast"] {
         let (table, ended) = decode(&bytes(&format!("examples/{name}.table")));
