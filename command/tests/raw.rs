@@ -72,7 +72,15 @@ fn every_ground_of_reading_has_its_number_and_its_place() {
         (stored().end(), "refused 6 17\n"),
         (new().array(1).a_loop(0, 1, 0, 0), "refused 7 5\n"),
         (stored().read(0, 0).end().raw(&[0]), "refused 8 22\n"),
-        (new().array(3).a_loop(0, 1, 0, 0).read(0, 1).end(), "refused 9 0 0\n"),
+        (new().array(3).a_loop(0, 1, 0, 0).read(0, 1).end(), "refused 9 0 0 1\n"),
+        (new().array(1).statement(0, 0), "refused 2 5\n"),
+        (stored().statement(0, 0), "refused 6 17\n"),
+        (stored().repeat(4, |table| table.constant(1).statement(0, 0)), "refused 4 49\n"),
+        (stored().constant(1).raw(&[7, 0, 0]), "refused 1 22\n"),
+        (stored().constant(1).statement(1, 256), "refused 5 22\n"),
+        (stored().constant(1).statement(0, 256), "refused 3 22\n"),
+        (stored().constant(1).statement(0, 1), "refused 7 22\n"),
+        (new().array(3).a_loop(0, 1, 0, 0).constant(1).statement(0, 1).constant(1).end(), "refused 9 0 0 1\n"),
     ] {
         for command in ["check", "dump"] {
             is(&fed(&[command, "--raw", "-"], &table.bytes), 1, line);
@@ -186,7 +194,7 @@ fn make_says_whether_its_table_is_accepted() {
     assert_eq!(out.read(), bytes(EXAMPLE));
     let out = Output::new("not-made");
     let make = ["make", "--raw", "-", "-o", &out.0];
-    is(&fed(&make, b"array A 21\nloop 1 10 -> A[i]: A[i+9]\n"), 1, "refused 9 0 0\n");
+    is(&fed(&make, b"array A 21\nloop 1 10 -> A[i]: A[i+9]\n"), 1, "refused 9 0 0 1\n");
     is(&fed(&make, b"array A 12\nloop 1 20 -> A[i]: 1"), 1, "refused 7 5\n");
     is(&fed(&make, b""), 1, "refused 2 0\n");
     assert!(out.is_absent());
@@ -349,7 +357,7 @@ fn what_would_stand_beside_the_answer_is_a_usage_error() {
 #[test]
 fn help_says_the_forms() {
     let help = run(&["--help"]).out;
-    for said in ["--raw", "refused NUMBER PLACE", "refused 9 LOOP READ", "accepted", "idle N", "the count of bytes written"] {
+    for said in ["--raw", "refused NUMBER PLACE", "refused 9 LOOP LOWER HIGHER", "accepted", "idle N", "the count of bytes written"] {
         assert!(help.contains(said), "{said}");
     }
 }
