@@ -129,7 +129,9 @@ impl Place<'_> {
                 (sum > MOST_ELEMENTS).then_some((words, Field::Length))
             }
             2 if before.loops == MOST_LOOPS => one_more(MOST_LOOPS, "loop".to_string()),
-            7 if before.statements == MOST_STATEMENTS => one_more(MOST_STATEMENTS, format!("statement of loop {}", before.open())),
+            7 if before.statements == MOST_STATEMENTS => {
+                one_more(MOST_STATEMENTS, format!("statement of loop {}", before.open()))
+            }
             3..=5 if before.items == MOST_ITEMS => one_more(MOST_ITEMS, format!("item of loop {}", before.open())),
             _ => None,
         }

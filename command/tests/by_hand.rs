@@ -255,7 +255,8 @@ fn a_written_plan_is_read_again() {
                   0 0         # loop 0, i = 1 to 10: A0[i] = A1[i] + 1\n\
                   1 1         # loop 1, i = 1 to 10: A2[i] = A0[i-1] + A0[i+1]\n";
     assert_eq!(written, wanted);
-    for file in ["boundary.table", "coast.txt", "example.txt", "jacobi.table", "ll18.txt", "reach.table", "river.txt"].map(|name| format!("examples/{name}"))
+    for file in ["boundary.table", "coast.txt", "example.txt", "jacobi.table", "ll18.txt", "reach.table", "river.txt"]
+        .map(|name| format!("examples/{name}"))
     {
         for more in [&[][..], &["--raw"], &["--json"]] {
             let found = run(&[&["plan", &file, "-p3", "--write-plan", &out.0], more].concat());

@@ -374,7 +374,9 @@ fn the_words_hold_of_every_pair_of_references() {
         let read_then_stored = format!("array A 20\narray B 20\nloop 10 14 -> B[i]: A[i{one:+}]\n-> A[i{other:+}]: 1\n");
         let stored_then_read = format!("array A 20\narray B 20\nloop 10 14 -> A[i{other:+}]: 1\n-> B[i]: A[i{one:+}]\n");
         let stored_twice = format!("array A 20\narray B 20\nloop 10 14 -> A[i{other:+}]: 1\n-> A[i{one:+}]: 1\n");
-        for (text, pair, does) in [(read_then_stored, "1 2", "reads"), (stored_then_read, "0 2", "reads"), (stored_twice, "0 1", "stores")] {
+        for (text, pair, does) in
+            [(read_then_stored, "1 2", "reads"), (stored_then_read, "0 2", "reads"), (stored_twice, "0 1", "stores")]
+        {
             let others = |i: i32| (10..=14).find(move |&j| j != i && i + one == j + other);
             let meeting: Vec<i32> = (10..=14).filter(|&i| others(i).is_some()).collect();
             let raw = fed(&["check", "--raw", "-"], text.as_bytes()).out;

@@ -222,7 +222,8 @@ fn a_row_has_its_loops_statement() {
 /// Several statements stand side by side, cut where there is no room for all, and a pointer that rests there shows them.
 #[test]
 fn a_row_has_all_statements_of_its_loop() {
-    let wanted = ["QN[i] = Q[i] * 9 / 10 + (H[i-1] - H[i+1]) / 5; HN[i] = H[i] + (Q[i-1] - QN[i]) / 50", "Q[i] = QN[i]; H[i] = HN[i]"];
+    let wanted =
+        ["QN[i] = Q[i] * 9 / 10 + (H[i-1] - H[i+1]) / 5; HN[i] = H[i] + (Q[i-1] - QN[i]) / 50", "Q[i] = QN[i]; H[i] = HN[i]"];
     let drawn = Drawn::new(&run(&["draw", "examples/reach.txt", "-p", "4"]).out);
     let rows: Vec<&xml::Element> = drawn.root.with("small").into_iter().filter(|one| one.title().contains(" = ")).collect();
     // Both loops before the barrier, and the second past it.

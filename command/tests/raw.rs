@@ -357,7 +357,9 @@ fn what_would_stand_beside_the_answer_is_a_usage_error() {
 #[test]
 fn help_says_the_forms() {
     let help = run(&["--help"]).out;
-    for said in ["--raw", "refused NUMBER PLACE", "refused 9 LOOP LOWER HIGHER", "accepted", "idle N", "the count of bytes written"] {
+    for said in
+        ["--raw", "refused NUMBER PLACE", "refused 9 LOOP LOWER HIGHER", "accepted", "idle N", "the count of bytes written"]
+    {
         assert!(help.contains(said), "{said}");
     }
 }

@@ -424,8 +424,8 @@ fn stands(text: &str, line: usize, column: usize, token: &str) {
 #[test]
 fn whatever_is_wrong_with_a_text_stands_where_it_is_told() {
     let mut random = Random::new(71);
-    let examples =
-        ["coast", "example", "reach", "river"].map(|name| String::from_utf8(bytes(&format!("examples/{name}.txt"))).expect("text"));
+    let examples = ["coast", "example", "reach", "river"]
+        .map(|name| String::from_utf8(bytes(&format!("examples/{name}.txt"))).expect("text"));
     let (mut wrong, mut refused) = (0, 0);
     for round in 0..6_000 {
         let text = scribbled(&mut random, &examples[round % 4]);

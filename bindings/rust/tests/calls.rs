@@ -131,7 +131,8 @@ fn serial_names_the_lowest_colliding_pair() {
     let refusal = check(SERIAL).expect_err("refused");
     assert_eq!((refusal.ground, refusal.place, refusal.named), (Ground::Serial, 0, [0, 3]));
     assert_eq!(refusal.references(), Some((0, 3)));
-    let text = "refused 9 serial at loop 0, references 0 and 3: two different iterations of one loop meet at an element, one storing";
+    let text =
+        "refused 9 serial at loop 0, references 0 and 3: two different iterations of one loop meet at an element, one storing";
     assert_eq!(refusal.to_string(), text);
 }
 
