@@ -139,55 +139,56 @@ fn an_iteration_is_one_step() {
     assert_eq!(memory, wanted);
 }
 
-/// Ten iterations of a loop, whose references count on over its statements.
+/// An array and an offset.
+type Referred = (usize, i32);
+
+/// A loop from 1 to 10: each statement stores the sum of what it reads, or 5 where it reads nothing.
+fn stated(statements: &[(Referred, &[Referred])]) -> Vec<u8> {
+    let (own, further) = statements.split_first().expect("a statement");
+    let mut b = begun(3, own.0 .0, own.0 .1);
+    sum(&mut b, own.1);
+    for ((array, offset), reads) in further {
+        b.statement(*array, *offset);
+        sum(&mut b, reads);
+    }
+    b.end().expect("a table")
+}
+
+fn sum(b: &mut Builder, reads: &[Referred]) {
+    for (at, (array, offset)) in reads.iter().enumerate() {
+        b.read(*array, *offset);
+        if at > 0 {
+            b.operation(Operation::Add);
+        }
+    }
+    if reads.is_empty() {
+        b.constant(5);
+    }
+}
+
+/// A loop's references count on over its statements.
 #[test]
 fn nine_names_the_lowest_pair_of_any_two_references() {
-    let pair = |fill: &dyn Fn(&mut Builder), stored, offset| {
-        let mut b = begun(3, stored, offset);
-        fill(&mut b);
-        told(&b.end().expect("a table"))
-    };
-    let no = (0, 0, [0, 0]);
-    // A1[i] = A0[i]; A0[i+1] = 5: the read stands before the destination that it meets.
-    let later = |offset: i32| {
-        move |b: &mut Builder| {
-            b.read(0, 0);
-            b.statement(0, offset);
-            b.constant(5);
-        }
-    };
-    assert_eq!(pair(&later(1), 1, 0), (9, 0, [1, 2]));
-    assert_eq!(pair(&later(-1), 1, 0), (9, 0, [1, 2]));
-    assert_eq!(pair(&later(0), 1, 0), no);
-    // A0[i] = 1; A0[i+1] = 2, and both at one place.
-    let twice = |offset: i32| {
-        move |b: &mut Builder| {
-            b.constant(1);
-            b.statement(0, offset);
-            b.constant(2);
-        }
-    };
-    assert_eq!(pair(&twice(1), 0, 0), (9, 0, [0, 1]));
-    assert_eq!(pair(&twice(0), 0, 0), no);
-    // A2[i] = A0[i-1] + A0[i+1]; A1[i] = A1[i]; A0[i] = A1[i-1]: both reads of A0 meet the last destination, 5, and the second statement's
-    // destination, 3, meets the last read, 6. The pairs are 1 and 5, 2 and 5, 3 and 6.
-    let several = |b: &mut Builder| {
-        b.read(0, -1);
-        b.read(0, 1);
-        b.operation(Operation::Add);
-        b.statement(1, 0);
-        b.read(1, 0);
-        b.statement(0, 0);
-        b.read(1, -1);
-    };
-    assert_eq!(pair(&several, 2, 0), (9, 0, [1, 5]));
-    // Two reads never make one: A2[i] = A0[i-1]; A1[i] = A0[i+1].
-    let reads = |b: &mut Builder| {
-        b.read(0, -1);
-        b.statement(1, 0);
-        b.read(0, 1);
-    };
-    assert_eq!(pair(&reads, 2, 0), no);
+    for (statements, wanted) in [
+        // The read stands before the destination that it meets; at one offset they do not meet.
+        (&[((1, 0), &[(0, 0)][..]), ((0, 1), &[])][..], Some([1, 2])),
+        (&[((1, 0), &[(0, 0)]), ((0, -1), &[])], Some([1, 2])),
+        (&[((1, 0), &[(0, 0)]), ((0, 0), &[])], None),
+        // Two destinations, apart and at one offset.
+        (&[((0, 0), &[]), ((0, 1), &[])], Some([0, 1])),
+        (&[((0, 0), &[]), ((0, 0), &[])], None),
+        // A read of a later statement meets the first destination.
+        (&[((0, 0), &[]), ((1, 0), &[(2, 0), (0, 1)])], Some([0, 3])),
+        // A2[i] = A0[i-1] + A0[i+1]; A1[i] = A1[i]; A0[i] = A1[i-1]: the pairs are 1 and 5, 2 and 5, 3 and 6.
+        (&[((2, 0), &[(0, -1), (0, 1)]), ((1, 0), &[(1, 0)]), ((0, 0), &[(1, -1)])], Some([1, 5])),
+        // A2[i] = A1[i]; A1[i] = 5; A1[i+1] = A1[i-1]: reference 1 meets 3, and 2 meets 3 and 4; 3 meets 4.
+        (&[((2, 0), &[(1, 0)]), ((1, 0), &[]), ((1, 1), &[(1, -1)])], Some([1, 3])),
+        // Two reads never make one.
+        (&[((2, 0), &[(0, -1)]), ((1, 0), &[(0, 1)])], None),
+    ] {
+        let wanted = wanted.map_or((0, 0, [0, 0]), |pair| (9, 0, pair));
+        assert_eq!(told(&stated(statements)), wanted, "{statements:?}");
+    }
 }
 
 /// Ten iterations: nine apart still meet, ten apart no more.
