@@ -28,9 +28,9 @@ extern "C" {
 /* The version of this header; vempaldi_version() is that of the library linked. While the first number is 0, a new second number may
  * change what callers see (CHANGELOG.md says what). */
 #define VEMPALDI_VERSION_MAJOR 0
-#define VEMPALDI_VERSION_MINOR 4
+#define VEMPALDI_VERSION_MINOR 5
 #define VEMPALDI_VERSION_PATCH 0
-#define VEMPALDI_VERSION 400 /* the three numbers as one: MAJOR * 10000 + MINOR * 100 + PATCH */
+#define VEMPALDI_VERSION 500 /* the three numbers as one: MAJOR * 10000 + MINOR * 100 + PATCH */
 
 /* The grounds of refusal. An answer is four numbers: answer[0] the ground's number, answer[1] its place, answer[2] and answer[3] what the
  * refusal names. An accepted call answers 0, 0, 0, 0.
@@ -39,12 +39,12 @@ extern "C" {
  *    1     torn        the bytes end inside a record or before the end record                        byte     0, 0
  *    2     kind        a kind is unknown or out of its order, or no array or loop before the end     byte     0, 0
  *    3     field       a field is outside its range, or first is above last                          byte     0, 0
- *    4     crowd       one array, loop, item or element too many                                     byte(*)  0, 0
+ *    4     crowd       one array, loop, statement, item or element too many                          byte(*)  0, 0
  *    5     array       there is no array of that number                                              byte     0, 0
  *    6     body        too few waiting numbers, a ninth, or not one left                             byte     0, 0
  *    7     edge        some iteration reaches outside the array                                      byte     0, 0
  *    8     tail        bytes follow the end record                                                   byte     0, 0
- *    9     serial      two different iterations of one loop meet at an element, one storing          loop     read, 0
+ *    9     serial      two different iterations of one loop meet at an element, one storing          loop     lower, higher
  *   10     processors  P is outside 1 to 64, or a processor's number is not below P                  0        0, 0
  *   11     short       fewer lines than processors, or P >= 2 and some block below the threshold     0        0, 0
  *   12     memory      the memory's length is not the table's element total                          0        0, 0
@@ -59,10 +59,11 @@ extern "C" {
  * No call gives 16 or 18.
  * 'byte' is the place of the record's kind byte, counted from 0 (the table's length if that byte is absent); for 8 it is the first
  * byte too many. (*) In joining, 4 for more than 16 loops in all has place 0; 4 of one of its tables has that table's byte.
- * 'loop' is the lowest loop of which two iterations meet, and 'read' is the lowest of its reads that meets the destination in another
- * iteration, numbered from 0 among that loop's reads in byte order. So the answer to a table is always the same. Once a loop may have
- * several statements, 9 will name a pair of references in answer[2] and answer[3]; a loop with one statement will then have its
- * destination, 0, and this read's number and one.
+ * 6 for a body that does not leave one number has the byte of the record behind that body: a further statement, a loop or the end.
+ * 'loop' is the lowest loop of which two iterations meet, and 'lower' and 'higher' are two references of it, at least one of them a
+ * destination, that are at one element in two different iterations. A loop's references are its destinations and its reads, numbered from
+ * 0 in byte order, so the loop record's own destination is 0. Of all such pairs it is the one whose lower number is least, and with that
+ * whose higher number is least: the answer to a table is always the same. In a loop with one statement the lower one is always 0.
  * 'earlier' and 'later' are a pair of loops with a dependence from the one to the other that the plan does not meet: the lowest earlier
  * loop of such pairs, and with it the lowest later one.
  * Where several grounds hold, the first record decides, then the order 8, 9, 19, 20, 10, 17, 11, 12, 15, 13; in joining left's 1 to 9, then
@@ -94,16 +95,16 @@ enum vempaldi_ground {
     { "accepted", "torn", "kind", "field", "crowd", "array", "body", "edge", "tail", "serial", "processors", "short", "memory", "buffer", \
       "unlike", "state", "", "line", "", "plan", "unmet" }
 
-/* How many bytes follow a record's kind byte, by kind: array, loop, read, constant, operation, end. There is no kind 0. */
-#define VEMPALDI_BODY_LENGTHS { 0, 4, 11, 3, 4, 1, 0 }
+/* How many bytes follow a record's kind byte, by kind: array, loop, read, constant, operation, end, statement. There is no kind 0. */
+#define VEMPALDI_BODY_LENGTHS { 0, 4, 11, 3, 4, 1, 0, 3 }
 
 /* Sizes that always suffice. */
 enum vempaldi_size {
     VEMPALDI_MOST_PROCESSORS = 64,
     VEMPALDI_LONGEST_LINE = 64,
     VEMPALDI_MOST_AMOUNT = 10000,   /* no shift and no peel of a plan by hand is above it */
-    VEMPALDI_TABLE_BYTES = 2065,    /* the longest accepted table, so also of a joined one */
-    VEMPALDI_DECIDING_BYTES = 2077, /* no byte past these changes an answer: reading so many of a file is enough */
+    VEMPALDI_TABLE_BYTES = 2353,    /* the longest accepted table, so also of a joined one */
+    VEMPALDI_DECIDING_BYTES = 2362, /* no byte past these changes an answer: reading so many of a file is enough */
     VEMPALDI_FACTS_BYTES = 268,     /* facts of 16 arrays and 16 loops */
     VEMPALDI_AMOUNT_BYTES = 128,    /* shifts and peels of 16 loops, so also of a plan by hand */
     VEMPALDI_RANGE_BYTES = 128,     /* a processor's ranges in 16 loops */
@@ -117,7 +118,7 @@ enum vempaldi_size {
 struct vempaldi_settings {
     uint32_t processors; /* P, how many processors there are: 1 to 64, else 10 */
     uint32_t line;       /* W, how many iterations a line has, counted from the least first of all loops: 1 to 64, else 17. Where an
-                          * iteration stores 8 bytes and a cache line has 64, it is 8. Blocks begin on whole lines */
+                          * iteration stores 8 bytes in an array and a cache line has 64, it is 8. Blocks begin on whole lines */
     uint32_t by_hand;     /* 0: shifts and peels are those of vempaldi_shifts_and_peels. Any other number: those in `plan` */
     uint32_t plan_length; /* how many bytes the plan by hand has: 8 for each loop of the table, else 19 */
     uint8_t plan[VEMPALDI_AMOUNT_BYTES]; /* for each loop in table order its shift and its peel, as vempaldi_shifts_and_peels writes them.
@@ -234,8 +235,9 @@ void vempaldi_plain_run(const uint8_t *table, size_t table_length, double *memor
 /* One step of one processor. The first step of a row gets 64 counts of 0; each later one the counts and the memory as the step before
  * left them, and the same settings. Once every iteration has been reported, in whatever order the processors were named, the memory is
  * bit for bit what vempaldi_plain_run leaves from the same start, for every P, W and plan by hand that is accepted.
- * An iteration writes the memory (one element), this processor's count (one more) and the report. Waiting and finished write the
- * report alone: its kind, 0, 0. Refuses with 1 to 9, 19, 20, 10 (of P, then of `processor`), 17, 11, 12, 15.
+ * An iteration is one step, with all statements of its loop. It writes the memory (an element for each statement, so up to four), this
+ * processor's count (one more) and the report. Waiting and finished write the report alone: its kind, 0, 0.
+ * Refuses with 1 to 9, 19, 20, 10 (of P, then of `processor`), 17, 11, 12, 15.
  * Two threads must not step the same memory at the same time. */
 void vempaldi_step(const uint8_t *table, size_t table_length, struct vempaldi_settings settings, uint32_t processor,
                    uint32_t counts[64], double *memory, size_t memory_length, uint32_t report[3], uint64_t answer[4]);

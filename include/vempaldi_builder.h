@@ -28,7 +28,8 @@ enum vempaldi_record {
     VEMPALDI_RECORD_READ = 3,
     VEMPALDI_RECORD_CONSTANT = 4,
     VEMPALDI_RECORD_OPERATION = 5,
-    VEMPALDI_RECORD_END = 6
+    VEMPALDI_RECORD_END = 6,
+    VEMPALDI_RECORD_STATEMENT = 7
 };
 
 /* The operations of a body. All but negate take two waiting numbers, the later one being the right operand. */
@@ -46,8 +47,8 @@ enum vempaldi_builder_error {
     VEMPALDI_NO_ROOM = 2   /* a record too many for the room: the table would be refused, and vempaldi_check of the bytes says with what */
 };
 
-/* The room: the bytes that decide, and the rest of the longest record that begins at the last of them. Every accepted table fits. Where a
- * record does not, the bytes that decide are all there, so the library's answer is that of the whole table. */
+/* The room, 2,373 bytes: the bytes that decide, and the rest of the longest record that begins at the last of them. Every accepted table
+ * fits. Where a record does not, the bytes that decide are all there, so the library's answer is that of the whole table. */
 enum { VEMPALDI_BUILDER_BYTES = VEMPALDI_DECIDING_BYTES + 11 };
 
 struct vempaldi_builder {
@@ -125,7 +126,7 @@ static inline int64_t vempaldi_builder_array(struct vempaldi_builder *builder, i
 }
 
 /* Opens a loop: i goes from `first` to `last`, and element i + `offset` of the array `destination` is stored. The items of its body follow;
- * the next loop or the end closes it. (One statement a loop; a call that opens a further statement can come to stand beside this one.) */
+ * a further statement, the next loop or the end closes it. */
 static inline void vempaldi_builder_open_loop(struct vempaldi_builder *builder, int64_t first, int64_t last, int64_t destination,
                                               int64_t offset)
 {
@@ -143,17 +144,30 @@ static inline void vempaldi_builder_open_loop(struct vempaldi_builder *builder, 
     vempaldi_builder_put(body, offset, 2);
 }
 
-/* An item: element i + `offset` of an array. */
-static inline void vempaldi_builder_read(struct vempaldi_builder *builder, int64_t array, int64_t offset)
+/* Used by the two calls below: a record whose fields are an array's number and an offset. */
+static inline void vempaldi_builder_reference(struct vempaldi_builder *builder, enum vempaldi_record kind, int64_t array, int64_t offset)
 {
     uint8_t *body;
     if (!vempaldi_builder_refers(builder, array, offset))
         return;
-    body = vempaldi_builder_record(builder, VEMPALDI_RECORD_READ);
+    body = vempaldi_builder_record(builder, kind);
     if (body == NULL)
         return;
     body = vempaldi_builder_put(body, array, 1);
     vempaldi_builder_put(body, offset, 2);
+}
+
+/* Opens a further statement of the loop, behind a finished body: in the same iteration, element i + `offset` of `array` is stored next. The
+ * items of its own body follow. A loop has up to four statements, that of vempaldi_builder_open_loop among them. */
+static inline void vempaldi_builder_statement(struct vempaldi_builder *builder, int64_t array, int64_t offset)
+{
+    vempaldi_builder_reference(builder, VEMPALDI_RECORD_STATEMENT, array, offset);
+}
+
+/* An item: element i + `offset` of an array. */
+static inline void vempaldi_builder_read(struct vempaldi_builder *builder, int64_t array, int64_t offset)
+{
+    vempaldi_builder_reference(builder, VEMPALDI_RECORD_READ, array, offset);
 }
 
 /* An item: a whole number, 0 to 4,294,967,295. */

@@ -52,7 +52,7 @@ all_build() {
 examples() {
     local name
     : > "$made/examples.script"
-    for name in boundary example jacobi ll18 river; do
+    for name in boundary coast example jacobi ll18 reach river; do
         awk -f tests/builders/from-text.awk "examples/$name.txt" > "$made/one.script"
         cat "$made/one.script" >> "$made/examples.script"
         echo "0 $(wc -l < "$made/one.script") $(wc -c < "examples/$name.table") x$(hexadecimal "examples/$name.table")"
@@ -60,14 +60,14 @@ examples() {
     all_build "$made/examples.script" "$made/examples.lines"
 }
 
-# Fields' ends as they are typed; then 417 arrays, which leave room for 3 bytes more: neither an array nor, after that error, an end.
+# Fields' ends as they are typed; then 474 arrays, which leave room for 3 bytes more: neither an array nor, after that error, an end.
 edges() {
     grep -v '^#' tests/builders/edges.txt | grep '|\|^end' | sed 's/ | /\n/g' > "$made/edges.script"
     grep '^[0-9]' tests/builders/edges.txt > "$made/edges.lines"
-    [ "$(wc -l < "$made/edges.lines")" -eq 21 ] || wrong "edges.txt has not its 21 tables"
-    yes 'array 1' | head -n 418 >> "$made/edges.script"
+    [ "$(wc -l < "$made/edges.lines")" -eq 26 ] || wrong "edges.txt has not its 26 tables"
+    yes 'array 1' | head -n 475 >> "$made/edges.script"
     echo end >> "$made/edges.script"
-    echo "2 417 2085 x$(yes 0101000000 | head -n 417 | tr -d '\n')" >> "$made/edges.lines"
+    echo "2 474 2370 x$(yes 0101000000 | head -n 474 | tr -d '\n')" >> "$made/edges.lines"
     all_build "$made/edges.script" "$made/edges.lines"
 }
 
@@ -75,6 +75,7 @@ edges() {
 made_tables() {
     local at
     awk -v seed=$seed -v count=$fair -v wild=0 -f tests/builders/random.awk > "$made/fair.script"
+    [ "$(grep -c '^statement ' "$made/fair.script")" -ge 1000 ] || wrong "fewer than 1000 further statements in the random tables"
     awk -v directory="$made/texts" -f tests/builders/to-text.awk "$made/fair.script"
     for ((at = 0; at < fair; at++)); do
         "$CARGO_TARGET_DIR/release/vempaldi" make "$made/texts/$at.txt" -o "$made/one.table" || wrong "make refuses texts/$at.txt"
@@ -102,4 +103,4 @@ examples
 edges
 made_tables
 wild_tables
-echo "builders: C, C++, Fortran and Rust build 4 examples, 22 edges, $fair tables as make writes them, and $wild rows of any calls alike"
+echo "builders: C, C++, Fortran and Rust build 7 examples, 27 edges, $fair tables as make writes them, and $wild rows of any calls alike"

@@ -14,8 +14,9 @@ function refuse(numbers) {
     exit
 }
 
-# A reference of loop k: its array and its offset. Number 0 is the destination.
-function refer(k, word) {
+# A reference of loop k: its array, its offset, and whether it is a destination.
+function refer(k, word, stored) {
+    stores[k, count[k] + 0] = stored
     array[k, count[k] + 0] = word
     sub(/\[.*/, "", array[k, count[k] + 0])
     offset[k, count[k] + 0] = word
@@ -28,7 +29,7 @@ function meet(j, k, d) { return max(first[j], first[k] - d) <= min(last[j], last
 
 # Whether the dependence between two references of loops j and k, if it is one, is met.
 function met(j, m, k, n, d) {
-    if (array[j, m] != array[k, n] || (m && n)) return 1
+    if (array[j, m] != array[k, n] || (!stores[j, m] && !stores[k, n])) return 1
     d = offset[j, m] - offset[k, n]
     return !meet(j, k, d) || (shift[k] >= shift[j] + max(0, -d) && peel[k] >= peel[j] + max(0, d))
 }
@@ -44,7 +45,7 @@ FILENAME == ARGV[1] && $1 == "sweeps" { sweeps = $0 }
 FILENAME == ARGV[1] { next }
 { sub(/#.*/, "") }
 $1 == "loop" { first[loops + 0] = $2 + 0; last[loops++ + 0] = $3 + 0 }
-loops { for (at = 1; at <= NF; at++) if ($at ~ /\[/) refer(loops - 1, $at) }
+loops { for (at = 1; at <= NF; at++) if ($at ~ /\[/) refer(loops - 1, $at, at > 1 && $(at - 1) == "->") }
 
 END {
     if (refused) exit

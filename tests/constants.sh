@@ -26,6 +26,7 @@ rust RECORD_READ a builder's method stands for each kind
 rust RECORD_CONSTANT a builder's method stands for each kind
 rust RECORD_OPERATION a builder's method stands for each kind
 rust RECORD_END a builder's method stands for each kind
+rust RECORD_STATEMENT a builder's method stands for each kind
 rust BUILT a table that was built is Ok
 rust NO_FIELD an error says it by BuildFault, which has no numbers
 rust NO_ROOM an error says it by BuildFault, which has no numbers

@@ -63,12 +63,15 @@ expected() {
     printf '%s\n' "$iterations iterations on $elements elements, same bits as the plain run" "$last_array"
 }
 
-# The line of a refusal, from the call that is refused, number, word and place; a read for 9, a loop for 20.
+# The line of a refusal, from the call that is refused, number, word and place; two references for 9, a loop for 20.
 refusal() {
-    local call=$1 number=$2 word=$3 place=$4 read=${5:-} named=read
-    [ "$number" -ne 20 ] || named=loop
+    local call=$1 number=$2 word=$3 place=$4 named=${5:-} other=${6:-}
     if [ "$language" != rust ]; then
-        echo "$call: refused $number $word, place $place${read:+, $named $read}"
+        case $number in
+        9) named=", references $named and $other" ;;
+        20) named=", loop $named" ;;
+        esac
+        echo "$call: refused $number $word, place $place$named"
         return
     fi
     case $number in
@@ -76,12 +79,12 @@ refusal() {
     2) echo "refused 2 kind at byte $place: a kind is unknown or out of its order, or there is no array or loop before the end" ;;
     6) echo "refused 6 body at byte $place: too few waiting numbers, a ninth, or not one left" ;;
     8) echo "refused 8 tail at byte $place: bytes follow the end record" ;;
-    9) echo "refused 9 serial at loop $place, read $read: two different iterations of one loop meet at an element, one storing" ;;
+    9) echo "refused 9 serial at loop $place, references $named and $other: two different iterations of one loop meet at an element, one storing" ;;
     10) echo "refused 10 processors: P is outside 1 to 64, or a processor's number is not below P" ;;
     11) echo "refused 11 short: fewer lines than processors, or a block below the threshold" ;;
     17) echo "refused 17 line: a line's length is outside 1 to 64" ;;
     19) echo "refused 19 plan: a plan by hand has not 8 bytes for each loop, or a number above 10,000" ;;
-    20) echo "refused 20 unmet from loop $place to loop $read: a plan by hand does not meet some dependence" ;;
+    20) echo "refused 20 unmet from loop $place to loop $named: a plan by hand does not meet some dependence" ;;
     esac
 }
 
@@ -195,26 +198,34 @@ try_typed() {
     try "refused 20 0 1" 65 65 0 0 0 0
 }
 
-# 1 to 10, A0 of 21 elements, A0[i] = A0[i] + A0[i+10] + A0[i+9] + A0[i+1]: the reads 2 and 3 meet the destination in another iteration.
+# 1 to 10, A0 of 21 elements, A0[i] = A0[i] + A0[i+10] + A0[i+9] + A0[i+1]: the references 3 and 4 meet the destination, 0, in another iteration.
 serial_table() {
     printf '\1\25\0\0\0'
     printf '\2\1\0\0\0\12\0\0\0\0\0\0'
     printf '\3\0\0\0\3\0\12\0\5\1\3\0\11\0\5\1\3\0\1\0\5\1\6'
 }
 
-# Sixteen arrays, fifteen loops of the longest body that is accepted (16 constants, 15 sums, one change of sign), and a loop of 20 constants and
-# 12 sums that leave eight numbers. The end record, byte 2,076, finds them. No refusal lies further on.
+# A read before the destination that it meets: 1 to 10, A1[i] = A0[i]; A0[i+1] = 5. Iteration 2 reads A0[2] as reference 1, which iteration 1 stores as reference 2.
+serial_statements() {
+    printf '\1\14\0\0\0\1\14\0\0\0'
+    printf '\2\1\0\0\0\12\0\0\0\1\0\0\3\0\0\0'
+    printf '\7\0\1\0\4\5\0\0\0\6'
+}
+
+# Sixteen arrays, fifteen of the longest loops that are accepted (four statements with 18 constants and 14 sums in all), and one of 21 constants
+# and 11 sums whose last statement leaves seven numbers. The end record, byte 2,361, finds them. No refusal lies further on.
 longest_table() {
-    local n constant='\4\1\0\0\0' sum='\5\1' negate='\5\5' head='\2\0\0\0\0\0\0\0\0\0\0\0'
+    local n constant='\4\1\0\0\0' sum='\5\1' head='\2\0\0\0\0\0\0\0\0\0\0\0' statement='\7\0\0\0'
     repeat 16 '\1\1\0\0\0'
     for n in {1..15}; do
         printf "$head$constant"
-        repeat 15 "$constant$sum"
-        printf "$negate"
+        repeat 14 "$constant$sum"
+        repeat 3 "$statement$constant"
     done
-    printf "$head"
-    repeat 8 "$constant"
-    repeat 12 "$sum$constant"
+    printf "$head$constant"
+    repeat 11 "$constant$sum"
+    repeat 3 "$statement$constant"
+    repeat 6 "$constant"
     printf '\6'
 }
 
@@ -227,14 +238,16 @@ repeat() {
 try_refused() {
     local table=$made/refused.table
     serial_table > "$table"
-    says 1 "" "$(refusal facts 9 serial 0 2)" "$table" 2
+    says 1 "" "$(refusal facts 9 serial 0 0 3)" "$table" 2
+    serial_statements > "$table"
+    says 1 "" "$(refusal facts 9 serial 0 1 2)" "$table" 2
     longest_table > "$table"
-    [ "$(wc -c < "$table")" -eq 2077 ] || { echo "the longest refused table has $(wc -c < "$table") bytes, not 2077"; exit 1; }
-    says 1 "" "$(refusal facts 6 body 2076)" "$table" 2
+    [ "$(wc -c < "$table")" -eq 2362 ] || { echo "the longest refused table has $(wc -c < "$table") bytes, not 2362"; exit 1; }
+    says 1 "" "$(refusal facts 6 body 2361)" "$table" 2
     head -c 3000 /dev/zero >> "$table"
-    says 1 "" "$(refusal facts 6 body 2076)" "$table" 2
-    head -c 2076 "$table" > "$made/torn.table"
-    says 1 "" "$(refusal facts 1 torn 2076)" "$made/torn.table" 2
+    says 1 "" "$(refusal facts 6 body 2361)" "$table" 2
+    head -c 2361 "$table" > "$made/torn.table"
+    says 1 "" "$(refusal facts 1 torn 2361)" "$made/torn.table" 2
     : > "$table"
     says 1 "" "$(refusal facts 1 torn 0)" "$table" 2
     head -c 60 examples/example.table > "$table"

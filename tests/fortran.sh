@@ -217,9 +217,13 @@ for table in examples/*.table; do
         for processors in 0 1 2 3 8 65; do try "$processors" "$(with_lines "$processors" "$line")" "$line"; done
     done
 done
-# A0[i] = A0[i] + A0[i+10] + A0[i+9] + A0[i+1], 1 to 10: the reads 2 and 3 meet the destination in another iteration.
+# A0[i] = A0[i] + A0[i+10] + A0[i+9] + A0[i+1], 1 to 10: the references 3 and 4 meet the destination, 0, in another iteration.
 printf '\1\25\0\0\0\2\1\0\0\0\12\0\0\0\0\0\0\3\0\0\0\3\0\12\0\5\1\3\0\11\0\5\1\3\0\1\0\5\1\6' > "$made/serial.table"
-no_table "9 0 2 0" > "$made/expected"
+no_table "9 0 0 3" > "$made/expected"
+same "$made/serial.table" 1
+# A1[i] = A0[i]; A0[i+1] = 5, 1 to 10: the read, 1, meets the second destination, 2, in another iteration.
+printf '\1\14\0\0\0\1\14\0\0\0\2\1\0\0\0\12\0\0\0\1\0\0\3\0\0\0\7\0\1\0\4\5\0\0\0\6' > "$made/serial.table"
+no_table "9 0 1 2" > "$made/expected"
 same "$made/serial.table" 1
 head -c 60 examples/example.table > "$made/torn.table"
 no_table "1 60 0 0" > "$made/expected"

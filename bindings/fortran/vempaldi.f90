@@ -4,9 +4,9 @@
 ! indices, processors and blocks are numbered from 0, as in the table.
 !
 ! An answer is four numbers. answer(1) is the ground's number, 0 where the call was accepted; answer(2) its place, a byte or a loop
-! counted from 0, and 0 for too many loops in joining; answer(3) and answer(4) are what the refusal names: for 9 the lowest read of that
-! loop that meets the destination in another iteration, counted from 0 among the loop's reads, and 0; for 20, whose place is the earlier of
-! two loops, the later one, and 0. For every other ground, and where accepted, both are 0.
+! counted from 0, and 0 for too many loops in joining; answer(3) and answer(4) are what the refusal names: for 9 the lower and the higher of
+! two references of that loop, its destinations and reads being counted from 0 in byte order; for 20, whose place is the earlier of two
+! loops, the later one, and 0. For every other ground, and where accepted, both are 0.
 !
 ! What settles a table's lists beside the table itself is
 ! - `processors`, how many processors there are (1 to 64);
@@ -27,8 +27,8 @@ module vempaldi
   implicit none
   private
 
-  ! The version of this module; vempaldi_version() is that of the library linked, its three numbers as one: 400 is 0.4.0.
-  integer, parameter, public :: vempaldi_version_major = 0, vempaldi_version_minor = 4, vempaldi_version_patch = 0
+  ! The version of this module; vempaldi_version() is that of the library linked, its three numbers as one: 500 is 0.5.0.
+  integer, parameter, public :: vempaldi_version_major = 0, vempaldi_version_minor = 5, vempaldi_version_patch = 0
 
   ! The first number of an answer.
   integer, parameter, public :: vempaldi_accepted = 0, vempaldi_torn = 1, vempaldi_kind = 2, vempaldi_field = 3, &
@@ -42,8 +42,8 @@ module vempaldi
   ! No plan has more processors, no line more iterations, no plan by hand a higher shift or peel. No byte of a table past the deciding
   ! ones changes an answer. The other sizes always suffice; the procedures below use them.
   integer, parameter, public :: vempaldi_most_processors = 64, vempaldi_longest_line = 64, vempaldi_most_amount = 10000, &
-    vempaldi_deciding_bytes = 2077
-  integer, parameter, public :: vempaldi_table_bytes = 2065, vempaldi_facts_bytes = 268, vempaldi_amount_bytes = 128, &
+    vempaldi_deciding_bytes = 2362
+  integer, parameter, public :: vempaldi_table_bytes = 2353, vempaldi_facts_bytes = 268, vempaldi_amount_bytes = 128, &
     vempaldi_range_bytes = 128, vempaldi_block_bytes = 512, vempaldi_listing_bytes = 50000
 
   public :: vempaldi_version, vempaldi_check, vempaldi_join, vempaldi_facts

@@ -25,15 +25,17 @@ module vempaldi_builder
   implicit none
   private
 
-  ! How many bytes follow a record's kind byte, by kind: array, loop, read, constant, operation, end. There is no kind 0.
-  integer, parameter, public :: vempaldi_body_lengths(0:6) = [0, 4, 11, 3, 4, 1, 0]
+  ! How many bytes follow a record's kind byte, by kind: array, loop, read, constant, operation, end, statement. There is no
+  ! kind 0.
+  integer, parameter, public :: vempaldi_body_lengths(0:7) = [0, 4, 11, 3, 4, 1, 0, 3]
 
-  ! The room: the 2,077 bytes that decide, and the rest of the longest record that begins at the last of them. Every accepted table fits.
+  ! The room: the 2,362 bytes that decide, and the rest of the longest record that begins at the last of them. Every accepted table fits.
   ! Where a record does not, the bytes that decide are all there, so the library's answer is that of the whole table.
-  integer, parameter, public :: vempaldi_builder_bytes = 2077 + 11
+  integer, parameter, public :: vempaldi_builder_bytes = 2362 + 11
 
   integer, parameter, public :: vempaldi_record_array = 1, vempaldi_record_loop = 2, vempaldi_record_read = 3
   integer, parameter, public :: vempaldi_record_constant = 4, vempaldi_record_operation = 5, vempaldi_record_end = 6
+  integer, parameter, public :: vempaldi_record_statement = 7
 
   ! The operations of a body. All but negate take two waiting numbers, the later one being the right operand.
   integer, parameter, public :: vempaldi_add = 1, vempaldi_subtract = 2, vempaldi_multiply = 3, vempaldi_divide = 4
@@ -55,12 +57,13 @@ module vempaldi_builder
     procedure :: start
     generic :: array => array_32, array_64
     generic :: open_loop => open_loop_32, open_loop_64
+    generic :: statement => statement_32, statement_64
     generic :: read => read_32, read_64
     generic :: constant => constant_32, constant_64
     generic :: operation => operation_32, operation_64
     procedure :: end => end_table
-    procedure, private :: array_32, array_64, open_loop_32, open_loop_64, read_32, read_64
-    procedure, private :: constant_32, constant_64, operation_32, operation_64, fits, refers, begins, put
+    procedure, private :: array_32, array_64, open_loop_32, open_loop_64, statement_32, statement_64, read_32, read_64
+    procedure, private :: constant_32, constant_64, operation_32, operation_64, fits, refers, refer, begins, put
   end type
 
 contains
@@ -86,8 +89,7 @@ contains
   end subroutine
 
   ! Opens a loop: i goes from `first` to `last`, and element i + `offset` of the array `destination` is stored. The items of its body
-  ! follow; the next loop or the end closes it. (One statement a loop; a call that opens a further statement can come to stand beside
-  ! this one.)
+  ! follow; a further statement, the next loop or the end closes it.
   subroutine open_loop_64(self, first, last, destination, offset)
     class(table_builder), intent(inout) :: self
     integer(int64), intent(in) :: first, last, destination, offset
@@ -101,14 +103,19 @@ contains
     call self%put(offset, 2)
   end subroutine
 
+  ! Opens a further statement of the loop, behind a finished body: in the same iteration, element i + `offset` of `array` is stored next.
+  ! The items of its own body follow. A loop has up to four statements, that of open_loop among them.
+  subroutine statement_64(self, array, offset)
+    class(table_builder), intent(inout) :: self
+    integer(int64), intent(in) :: array, offset
+    call self%refer(vempaldi_record_statement, array, offset)
+  end subroutine
+
   ! An item: element i + `offset` of an array.
   subroutine read_64(self, array, offset)
     class(table_builder), intent(inout) :: self
     integer(int64), intent(in) :: array, offset
-    if (.not. self%refers(array, offset)) return
-    if (.not. self%begins(vempaldi_record_read)) return
-    call self%put(array, 1)
-    call self%put(offset, 2)
+    call self%refer(vempaldi_record_read, array, offset)
   end subroutine
 
   ! An item: a whole number, 0 to 4,294,967,295.
@@ -149,6 +156,12 @@ contains
     call self%open_loop_64(int(first, int64), int(last, int64), int(destination, int64), int(offset, int64))
   end subroutine
 
+  subroutine statement_32(self, array, offset)
+    class(table_builder), intent(inout) :: self
+    integer(int32), intent(in) :: array, offset
+    call self%statement_64(int(array, int64), int(offset, int64))
+  end subroutine
+
   subroutine read_32(self, array, offset)
     class(table_builder), intent(inout) :: self
     integer(int32), intent(in) :: array, offset
@@ -182,6 +195,17 @@ contains
     refers = self%fits(array, 0_int64, most_byte)
     if (refers) refers = self%fits(offset, -most_offset - 1, most_offset)
   end function
+
+  ! A record whose fields are an array's number and an offset.
+  subroutine refer(self, kind, array, offset)
+    class(table_builder), intent(inout) :: self
+    integer, intent(in) :: kind
+    integer(int64), intent(in) :: array, offset
+    if (.not. self%refers(array, offset)) return
+    if (.not. self%begins(kind)) return
+    call self%put(array, 1)
+    call self%put(offset, 2)
+  end subroutine
 
   ! Writes a record's kind byte if there is room for all of the record and was no error; its fields follow then.
   logical function begins(self, kind)

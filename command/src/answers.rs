@@ -56,7 +56,11 @@ pub fn made(options: &Options, product: &[u8], lines: &str) -> Result<Outcome, F
 
 /// `refused`, the number, the place, and what the refusal names, which is something for 9 and 20 alone.
 fn line(refusal: &Refusal) -> String {
-    let named = refusal.read().or(refusal.loops().map(|(_, later)| later)).map_or(String::new(), |named| format!(" {named}"));
+    let named = match (refusal.references(), refusal.loops()) {
+        (Some((lower, higher)), _) => format!(" {lower} {higher}"),
+        (_, Some((_, later))) => format!(" {later}"),
+        _ => String::new(),
+    };
     format!("refused {} {}{named}\n", refusal.ground.number(), refusal.place)
 }
 

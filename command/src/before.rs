@@ -9,9 +9,12 @@ pub struct Before {
     /// The lengths of the arrays.
     pub arrays: Vec<u32>,
     pub loops: usize,
-    /// First and last of the last loop, and what its body has and leaves so far.
+    /// First and last of the last loop, and how many statements and items it has so far.
     pub bounds: (u32, u32),
+    pub statements: usize,
     pub items: usize,
+    /// What the body of its last statement has and leaves so far.
+    pub own_items: usize,
     pub waiting: usize,
 }
 
@@ -32,12 +35,25 @@ impl Before {
             2 => {
                 let one = a_loop(record.body);
                 (self.loops, self.bounds) = (self.loops + 1, (one.first, one.last));
-                (self.items, self.waiting) = (0, 0);
+                (self.statements, self.items) = (0, 0);
+                self.open_statement();
             }
-            3 | 4 => (self.items, self.waiting) = (self.items + 1, self.waiting + 1),
-            5 => (self.items, self.waiting) = (self.items + 1, (self.waiting + 1).saturating_sub(operands(record.body[0]))),
+            3 | 4 => self.take_item(0),
+            5 => self.take_item(operands(record.body[0])),
+            7 => self.open_statement(),
             _ => {}
         }
+    }
+
+    fn open_statement(&mut self) {
+        self.statements += 1;
+        (self.own_items, self.waiting) = (0, 0);
+    }
+
+    /// An item that takes so many waiting numbers and leaves one.
+    fn take_item(&mut self, takes: usize) {
+        (self.items, self.own_items) = (self.items + 1, self.own_items + 1);
+        self.waiting = (self.waiting + 1).saturating_sub(takes);
     }
 
     pub fn elements(&self) -> u32 {
@@ -47,6 +63,14 @@ impl Before {
     /// The last loop's number.
     pub fn open(&self) -> usize {
         self.loops.saturating_sub(1)
+    }
+
+    /// The open body: `the body of loop 1`, or behind a further statement `the body of statement 2 of loop 1`, which count from 0.
+    pub fn open_body(&self) -> String {
+        match self.statements {
+            0 | 1 => format!("the body of loop {}", self.open()),
+            count => format!("the body of statement {} of loop {}", count - 1, self.open()),
+        }
     }
 }
 

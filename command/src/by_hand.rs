@@ -1,7 +1,7 @@
 //! `--plan PLAN`: a plan by hand from a file, in bytes or as text; `--write-plan OUT`: a plan's shifts and peels as such a text.
 
 use crate::batch;
-use crate::infix::assignment;
+use crate::infix::assignments;
 use crate::input::Input;
 use crate::options::Options;
 use crate::outcome::Failure;
@@ -106,7 +106,7 @@ pub fn write(options: &Options, input: &Input, settings: Settings) -> Result<(),
     }
 }
 
-/// A line for each loop, which a comment names, with its statement where all of it can be read again.
+/// A line for each loop, which a comment names, with its statements where all of it can be read again.
 fn text(input: &Input, amounts: &[Amounts]) -> String {
     let loops = decode(&input.table).0.loops;
     let rows = |said: &dyn Fn(&Loop) -> String| -> String {
@@ -115,7 +115,7 @@ fn text(input: &Input, amounts: &[Amounts]) -> String {
         };
         loops.iter().zip(amounts).enumerate().map(row).collect()
     };
-    let whole = rows(&|one| assignment(one, &input.names).map_or(String::new(), |infix| format!(": {}", infix.text)));
+    let whole = rows(&|one| assignments(one, &input.names).map_or(String::new(), |infix| format!(": {}", infix.text)));
     let head = format!("# SHIFT PEEL of each loop of {}, in table order\n", in_one_line(&input.name));
     match head.len() + whole.len() {
         0..=MOST_BYTES => head + &whole,

@@ -44,7 +44,7 @@ pub fn explain(table: &[u8], names: &Names, refusal: &Refusal) -> Option<Explana
         _ => None,
     }?;
     // An unfinished body is told at the record that would follow it, and is about the last record that it has.
-    let unfinished = refusal.ground == Ground::Body && matches!(table.get(at), Some(2 | 6));
+    let unfinished = refusal.ground == Ground::Body && matches!(table.get(at), Some(2 | 6 | 7));
     let record = if unfinished { place.before.records.saturating_sub(1) } else { place.before.records };
     Some(Explanation { words, record, field })
 }
@@ -84,6 +84,7 @@ impl Place<'_> {
         match (kind, self.before.arrays.len(), self.before.loops) {
             (1, _, 1..) => whole(format!("an array behind loop {}, arrays come before all loops", self.before.open())),
             (3..=5, _, 0) => whole(format!("{} before any loop, items belong to a loop", a_kind(kind))),
+            (7, _, 0) => whole("a statement before any loop, it is a further one of a loop".to_string()),
             (6, 0, _) => whole("the end comes before any array".to_string()),
             (6, _, 0) => whole("the end comes before any loop".to_string()),
             _ => whole(outside("kind", kind, &KINDS)?),
@@ -96,9 +97,9 @@ impl Place<'_> {
             1 => Some((outside("length", number(body), &LENGTHS)?, Field::Length)),
             2 => {
                 let one = a_loop(body);
-                self.bounds(one.first, one.last).or_else(|| self.offset(one.offset))
+                self.bounds(one.first, one.last).or_else(|| self.offset(offset(&body[9..])))
             }
-            3 => self.offset(offset(&body[1..])),
+            3 | 7 => self.offset(offset(&body[1..])),
             5 => whole(outside("operation", body[0], &OPERATION_CODES)?),
             _ => None,
         }
@@ -128,16 +129,19 @@ impl Place<'_> {
                 (sum > MOST_ELEMENTS).then_some((words, Field::Length))
             }
             2 if before.loops == MOST_LOOPS => one_more(MOST_LOOPS, "loop".to_string()),
+            7 if before.statements == MOST_STATEMENTS => {
+                one_more(MOST_STATEMENTS, format!("statement of loop {}", before.open()))
+            }
             3..=5 if before.items == MOST_ITEMS => one_more(MOST_ITEMS, format!("item of loop {}", before.open())),
             _ => None,
         }
     }
 
-    /// The number of the array that a loop stores or that a read reads.
+    /// The number of the array that a loop or a statement stores or that a read reads.
     fn named_array(&self) -> Option<u8> {
         match self.record()? {
             (2, body) => Some(body[8]),
-            (3, body) => Some(body[0]),
+            (3 | 7, body) => Some(body[0]),
             _ => None,
         }
     }
@@ -155,7 +159,7 @@ impl Place<'_> {
     fn body(&self) -> Found {
         let before = &self.before;
         match *self.table.get(self.at)? {
-            2 | 6 => self.unfinished(),
+            2 | 6 | 7 => self.unfinished(),
             3 | 4 if before.waiting == MOST_WAITING => {
                 whole(format!("a {} waiting number, at most {MOST_WAITING} may wait", ordinal(MOST_WAITING + 1)))
             }
@@ -171,11 +175,11 @@ impl Place<'_> {
     }
 
     fn unfinished(&self) -> Found {
-        let open = self.before.open();
-        match (self.before.items, self.before.waiting) {
-            (0, _) => whole(format!("the body of loop {open} is empty, one number must be left")),
+        let body = self.before.open_body();
+        match (self.before.own_items, self.before.waiting) {
+            (0, _) => whole(format!("{body} is empty, one number must be left")),
             (_, 1) => None,
-            (_, left) => whole(format!("the body of loop {open} leaves {left} numbers, one must be left")),
+            (_, left) => whole(format!("{body} leaves {left} numbers, one must be left")),
         }
     }
 
@@ -183,9 +187,10 @@ impl Place<'_> {
         let (array, offset, (first, last), field) = match self.record()? {
             (2, body) => {
                 let one = a_loop(body);
-                (one.array, one.offset, (one.first, one.last), Field::Reference)
+                (body[8], offset(&body[9..]), (one.first, one.last), Field::Reference)
             }
             (3, body) => (body[0], offset(&body[1..]), self.before.bounds, Field::Whole),
+            (7, body) => (body[0], offset(&body[1..]), self.before.bounds, Field::Reference),
             _ => return None,
         };
         let length = *self.before.arrays.get(usize::from(array))?;

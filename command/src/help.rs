@@ -101,9 +101,9 @@ text wrong (join: or names that differ), 2 usage or input/output error.
 
 const REFUSED: &str = "
 A refusal says its number and word, the record and the byte, and what is wrong there; of a text also
-line, column and the line itself; 9 shows the loop with the read that it names marked, 20 both loops
-with the references in question. Records, bytes, arrays, loops, reads and processors count from 0,
-lines and columns of a text from 1.
+line, column and the line itself; 9 shows the loop with the two references that it names marked, 20
+both loops with the references in question. Records, bytes, arrays, loops, statements, references
+and processors count from 0, lines and columns of a text from 1.
 REFUSALS.md has an example of each and what to do about it (in docs of the source tree, installed
 in share/doc/vempaldi).
 ";
@@ -158,7 +158,8 @@ const RAW: &str = "
 file in the order given, without names. The standard error has usage and input/output errors alone
 (and what is wrong with a text; join: and names that differ; run: and a memory that differs). A
 refusal is one line:
-  refused NUMBER PLACE          for 9: refused 9 LOOP READ, for 20: refused 20 EARLIER LATER
+  refused NUMBER PLACE          for 9: refused 9 LOOP LOWER HIGHER, two references of the loop;
+                                for 20: refused 20 EARLIER LATER
 Accepted:
   check, dump, make: accepted   (check -q: nothing; dump: no text)
   plan, draw                    the plan's lines
@@ -172,8 +173,10 @@ const TEXT: &str = "
 The text of a table, # to the end of a line being a comment:
   array H 100                                   an array's name and length; A0, A1, .. are fine
   loop 1 98 -> Q[i]: H[i-1] H[i+1] - 2 /        first, last, what is stored, the body in postfix
+    -> S[i]: Q[i] 3 *                           a further statement of that loop, up to four in all
 Items of a body: NAME[i], NAME[i+3], NAME[i-3], a whole number, + - * / on the last two, neg on the
-last. A body may go on in further lines. What is wrong is told as FILE:LINE:COLUMN.
+last. A body may go on in further lines; a further statement begins a line of its own. What is wrong
+is told as FILE:LINE:COLUMN.
 ";
 
 /// Where the commands' options begin in the list of all commands.

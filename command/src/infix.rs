@@ -1,7 +1,7 @@
 //! Bodies and references as a person writes them.
 
 use crate::names::Names;
-use crate::records::{Item, Loop, OPERATIONS};
+use crate::records::{Item, Loop, Statement, OPERATIONS};
 use std::ops::Range;
 
 /// `H[i-1]`, or `A0[i-1]` where the array has no name.
@@ -13,19 +13,29 @@ pub fn reference(names: &Names, array: u8, offset: i16) -> String {
     }
 }
 
-/// A text and where each read stands in it, in the order of the table's bytes: an operation's left operand comes first in both.
+/// A text and where each reference stands in it, in the order of the table's bytes: a destination stands before its body and an operation's
+/// left operand before its right one in both.
+#[derive(Default)]
 pub struct Infix {
     pub text: String,
-    pub reads: Vec<Range<usize>>,
+    pub references: Vec<Range<usize>>,
 }
 
-/// `S[i] = H[i-1] + H[i+1]`, or nothing where the body does not leave one number.
-pub fn assignment(one: &Loop, names: &Names) -> Option<Infix> {
+/// All statements of a loop, as `Q[i] = H[i-1] - H[i+1]; S[i] = Q[i] / 2`, or nothing where some body does not leave one number.
+pub fn assignments(one: &Loop, names: &Names) -> Option<Infix> {
+    one.statements.iter().try_fold(Infix::default(), |before, statement| {
+        let next = assignment(statement, names)?;
+        Some(if before.text.is_empty() { next } else { before.followed("; ", next) })
+    })
+}
+
+/// `S[i] = H[i-1] + H[i+1]`
+fn assignment(one: &Statement, names: &Names) -> Option<Infix> {
     let mut waiting: Vec<Part> = Vec::new();
     for item in &one.items {
         let part = match *item {
-            Item::Read(array, offset) => Part::read(reference(names, array, offset)),
-            Item::Constant(value) => Part::constant(value),
+            Item::Read(array, offset) => Part::atom(Infix::of_reference(names, array, offset)),
+            Item::Constant(value) => Part::atom(Infix { text: value.to_string(), references: Vec::new() }),
             Item::Operation(5) => waiting.pop()?.negated(),
             Item::Operation(code) => {
                 let right = waiting.pop()?;
@@ -35,14 +45,27 @@ pub fn assignment(one: &Loop, names: &Names) -> Option<Infix> {
         waiting.push(part);
     }
     let whole = waiting.pop().filter(|_| waiting.is_empty())?;
-    Some(whole.infix.behind(&format!("{} = ", reference(names, one.array, one.offset))))
+    Some(Infix::of_reference(names, one.array, one.offset).followed(" = ", whole.infix))
 }
 
 impl Infix {
-    /// The same behind other text: every read stands that much further on.
+    fn of_reference(names: &Names, array: u8, offset: i16) -> Infix {
+        let text = reference(names, array, offset);
+        let whole = 0..text.len();
+        Infix { text, references: vec![whole] }
+    }
+
+    /// The same behind other text: every reference stands that much further on.
     fn behind(self, head: &str) -> Infix {
-        let moved = |read: Range<usize>| read.start + head.len()..read.end + head.len();
-        Infix { text: format!("{head}{}", self.text), reads: self.reads.into_iter().map(moved).collect() }
+        let moved = |one: Range<usize>| one.start + head.len()..one.end + head.len();
+        Infix { text: format!("{head}{}", self.text), references: self.references.into_iter().map(moved).collect() }
+    }
+
+    /// This, a sign, and the other behind it.
+    fn followed(self, sign: &str, other: Infix) -> Infix {
+        let mut both = other.behind(&format!("{}{sign}", self.text));
+        both.references = [self.references, both.references].concat();
+        both
     }
 
     fn bracketed(self) -> Infix {
@@ -59,13 +82,8 @@ struct Part {
 }
 
 impl Part {
-    fn read(text: String) -> Part {
-        let whole = 0..text.len();
-        Part { infix: Infix { text, reads: vec![whole] }, holds: 3 }
-    }
-
-    fn constant(value: u32) -> Part {
-        Part { infix: Infix { text: value.to_string(), reads: Vec::new() }, holds: 3 }
+    fn atom(infix: Infix) -> Part {
+        Part { infix, holds: 3 }
     }
 
     fn negated(self) -> Part {
@@ -76,10 +94,7 @@ impl Part {
     fn with(self, code: u8, right: Part) -> Part {
         let holds = if code <= 2 { 1 } else { 2 };
         let sign = OPERATIONS[usize::from(code) - 1];
-        let left = self.within(holds);
-        let mut infix = right.within(holds + 1).behind(&format!("{} {sign} ", left.text));
-        infix.reads = [left.reads, infix.reads].concat();
-        Part { infix, holds }
+        Part { infix: self.within(holds).followed(&format!(" {sign} "), right.within(holds + 1)), holds }
     }
 
     fn within(self, least: u8) -> Infix {

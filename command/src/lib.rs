@@ -41,10 +41,10 @@ mod unmet;
 mod wording;
 
 pub use explain::{explain, Explanation};
-pub use infix::{assignment, Infix};
+pub use infix::{assignments, Infix};
 pub use names::Names;
 pub use parse::{make, Made, TextError};
-pub use records::{decode, Item, Loop, Table};
+pub use records::{decode, Item, Loop, Reference, Statement, Table};
 pub use serial::explain_serial;
 pub use text::dump;
 

@@ -1,7 +1,7 @@
 //! `plan --json`: a table's plan or its refusal as one object. docs/plan.schema.json has its form.
 
 use crate::by_hand::in_force;
-use crate::infix::assignment;
+use crate::infix::assignments;
 use crate::input::Input;
 use crate::json::Value;
 use crate::parse::TextError;
@@ -62,14 +62,14 @@ fn arrays(input: &Input, facts: &Facts) -> Value {
 }
 
 fn loops(input: &Input, facts: &Facts, amounts: &[Amounts]) -> Value {
-    let statements = decode(&input.table).0.loops;
-    Value::list(facts.loops.iter().zip(amounts).zip(&statements), |((one, amounts), statement)| {
+    let decoded = decode(&input.table).0.loops;
+    Value::list(facts.loops.iter().zip(amounts).zip(&decoded), |((one, amounts), said)| {
         Value::Object(vec![
             ("first", one.first.into()),
             ("last", one.last.into()),
             ("shift", amounts.shift.into()),
             ("peel", amounts.peel.into()),
-            ("statement", assignment(statement, &input.names).map_or(String::new(), |infix| infix.text).into()),
+            ("statement", assignments(said, &input.names).map_or(String::new(), |infix| infix.text).into()),
         ])
     })
 }

@@ -103,6 +103,7 @@ struct Reference {
 }
 
 const LOOP_FORM: &str = "a loop is 'loop FIRST LAST -> NAME[i+OFFSET]: ITEMS'";
+const STATEMENT_FORM: &str = "a further statement is '-> NAME[i+OFFSET]: ITEMS' in a line of its own";
 const ARRAY_FORM: &str = "an array is 'array NAME LENGTH'";
 
 impl Maker {
@@ -111,6 +112,10 @@ impl Maker {
         match first.text {
             "array" => self.array(&first, line.behind(&first)),
             "loop" => self.a_loop(&first, line.behind(&first)),
+            word if word.starts_with("->") => {
+                let arrow = first.part(0..2);
+                self.statement(&arrow, line.behind(&arrow))
+            }
             _ if self.in_loop => self.items(line),
             word => Err(wrong(&first, format!("{} where a line begins with 'array' or 'loop'", quoted(word)))),
         }
@@ -153,7 +158,7 @@ impl Maker {
         let [first, last] = words[..] else { return Err(wrong(words.get(2).unwrap_or(keyword), LOOP_FORM)) };
         let bounds = [number(&first, "an index", &INDICES)?, number(&last, "an index", &INDICES)?];
         let store = store.trimmed();
-        let stored = self.reference(&store, "not what a loop stores: NAME[i], NAME[i+3] or NAME[i-3]")?;
+        let stored = self.stored(&store)?;
         let fields = [
             (Field::First, first.bytes()),
             (Field::Last, last.bytes()),
@@ -167,6 +172,21 @@ impl Maker {
         self.items(body)
     }
 
+    /// Whether there is a loop before it is the library's to say.
+    fn statement(&mut self, arrow: &Piece, said: Piece) -> Result<(), Wrong> {
+        let (store, body) = said.split(":").ok_or_else(|| wrong(arrow, format!("a ':' is missing: {STATEMENT_FORM}")))?;
+        let store = store.trimmed();
+        let stored = self.stored(&store)?;
+        let fields = [(Field::Reference, store.bytes()), (Field::Array, stored.array), (Field::Offset, stored.offset)];
+        self.record(&[&[7][..], &stored.encoded].concat(), arrow, &fields);
+        self.in_loop = true;
+        self.items(body)
+    }
+
+    fn stored(&self, store: &Piece) -> Result<Reference, Wrong> {
+        self.reference(store, "not what a loop stores: NAME[i], NAME[i+3] or NAME[i-3]")
+    }
+
     fn items(&mut self, said: Piece) -> Result<(), Wrong> {
         said.words().try_for_each(|word| self.item(&word))
     }
@@ -174,6 +194,8 @@ impl Maker {
     fn item(&mut self, word: &Piece) -> Result<(), Wrong> {
         if let Some(code) = OPERATIONS.iter().position(|name| *name == word.text) {
             self.record(&[5, code as u8 + 1], word, &[]);
+        } else if word.text.starts_with("->") {
+            return Err(wrong(word, format!("{} is no item: {STATEMENT_FORM}", quoted(word.text))));
         } else if looks_like_number(word.text) {
             // A sign would be taken by `parse`.
             let value = word.text.parse().ok().filter(|_| !word.text.starts_with('+'));

@@ -20,6 +20,13 @@ pub struct Table {
 pub struct Loop {
     pub first: u32,
     pub last: u32,
+    /// In the order in which an iteration runs them: that of the loop's own record, then those of records of kind 7.
+    pub statements: Vec<Statement>,
+}
+
+/// What is stored, and the body.
+#[derive(Clone, Debug, PartialEq, Eq)]
+pub struct Statement {
     pub array: u8,
     pub offset: i16,
     pub items: Vec<Item>,
@@ -36,13 +43,37 @@ pub enum Item {
 /// How operations are written in the text, by code from 1 on.
 pub const OPERATIONS: [&str; 5] = ["+", "-", "*", "/", "neg"];
 
+/// A destination or a read.
+#[derive(Clone, Copy, Debug, PartialEq, Eq)]
+pub struct Reference {
+    /// Its place among the references of its loop, from 0 on in byte order: 9 names references by it.
+    pub number: usize,
+    pub array: u8,
+    pub offset: i16,
+    pub stores: bool,
+}
+
 impl Loop {
-    /// The offsets of the body's reads in byte order: a read's position here is the number that 9 names.
-    pub fn read_offsets(&self) -> impl Iterator<Item = i16> + '_ {
-        self.items.iter().filter_map(|item| match item {
-            Item::Read(_, offset) => Some(*offset),
+    /// All references in byte order.
+    pub fn references(&self) -> Vec<Reference> {
+        let all = self.statements.iter().flat_map(Statement::references).enumerate();
+        all.map(|(number, (array, offset, stores))| Reference { number, array, offset, stores }).collect()
+    }
+}
+
+impl Statement {
+    /// Array and offset of the destination and then of each read, and whether it stores.
+    fn references(&self) -> impl Iterator<Item = (u8, i16, bool)> + '_ {
+        let reads = self.items.iter().filter_map(|item| match *item {
+            Item::Read(array, offset) => Some((array, offset, false)),
             _ => None,
-        })
+        });
+        [(self.array, self.offset, true)].into_iter().chain(reads)
+    }
+
+    /// Its record's bytes, which are also the last ones of a loop's, and no item yet.
+    fn of_body(body: &[u8]) -> Statement {
+        Statement { array: body[0], offset: offset(&body[1..]), items: Vec::new() }
     }
 }
 
@@ -59,6 +90,7 @@ pub fn kind_name(kind: u8) -> &'static str {
         4 => "constant",
         5 => "operation",
         6 => "end",
+        7 => "statement",
         _ => "unknown kind",
     }
 }
@@ -85,10 +117,11 @@ pub fn decode(bytes: &[u8]) -> (Table, bool) {
         match (record.kind, table.loops.last_mut()) {
             (1, None) => table.arrays.push(number(record.body)),
             (2, _) => table.loops.push(a_loop(record.body)),
-            (3..=5, Some(open)) => match item(&record) {
-                Some(item) => open.items.push(item),
-                None => return (table, false),
+            (3..=5, Some(open)) => match (item(&record), open.statements.last_mut()) {
+                (Some(item), Some(statement)) => statement.items.push(item),
+                _ => return (table, false),
             },
+            (7, Some(open)) => open.statements.push(Statement::of_body(record.body)),
             (6, _) => return (table, true),
             _ => return (table, false),
         }
@@ -98,7 +131,7 @@ pub fn decode(bytes: &[u8]) -> (Table, bool) {
 
 pub fn a_loop(body: &[u8]) -> Loop {
     let (first, last) = (number(&body[..4]), number(&body[4..8]));
-    Loop { first, last, array: body[8], offset: offset(&body[9..]), items: Vec::new() }
+    Loop { first, last, statements: vec![Statement::of_body(&body[8..])] }
 }
 
 fn item(record: &Record) -> Option<Item> {

@@ -29,8 +29,8 @@ impl Asked {
 pub fn describe(input: &Input, refusal: &Refusal, asked: &Asked) -> String {
     let place = text_place(input, refusal);
     let head = place.as_ref().map_or(input.name.clone(), |told| format!("{}:{}:{}", input.name, told.line, told.column));
-    let shown = match (refusal.read(), unmet(input, refusal, asked)) {
-        (Some(read), _) => Serial::new(&input.table, &input.names, refusal.place, read).marked(),
+    let shown = match (refusal.references(), unmet(input, refusal, asked)) {
+        (Some(pair), _) => Serial::new(&input.table, &input.names, refusal.place, pair).marked(),
         (_, Some(unmet)) => unmet.marked(),
         _ => place.map(|told| told.shown),
     };
@@ -46,8 +46,8 @@ pub fn text_place(input: &Input, refusal: &Refusal) -> Option<Told> {
 }
 
 fn explanation(input: &Input, refusal: &Refusal) -> Option<Explanation> {
-    match refusal.read() {
-        Some(read) => explain_serial(&input.table, &input.names, refusal.place, read),
+    match refusal.references() {
+        Some(pair) => explain_serial(&input.table, &input.names, refusal.place, pair),
         None => explain(&input.table, &input.names, refusal),
     }
 }
@@ -60,9 +60,9 @@ fn unmet<'a>(input: &'a Input, refusal: &Refusal, asked: &Asked) -> Option<Unmet
 /// In one line: number, word, record and byte, and what is wrong.
 pub fn message(input: &Input, refusal: &Refusal, asked: &Asked) -> String {
     let ground = refusal.ground;
-    let place = match (ground, refusal.read()) {
+    let place = match (ground, refusal.references()) {
         _ if ground == Ground::Unmet => format!(" from loop {} to loop {}", refusal.place, refusal.named[0]),
-        (_, Some(read)) => format!(" at {}", Serial::new(&input.table, &input.names, refusal.place, read).at()),
+        (_, Some(pair)) => format!(" at {}", Serial::new(&input.table, &input.names, refusal.place, pair).at()),
         (Ground::Tail, _) => format!(" at byte {}", refusal.place),
         _ if ground.has_byte() => format!(" at {}", record_at(&input.table, refusal.place as usize)),
         _ => String::new(),

@@ -1,92 +1,110 @@
-//! Refusal 9 in words: the read that it names, the iterations that meet there, and the loop's statement with the read marked.
+//! Refusal 9 in words: the two references that it names, the iterations that meet there, and the loop's statements with both marked.
 
 use crate::explain::{spread, Explanation};
-use crate::infix::assignment;
+use crate::infix::reference;
 use crate::names::Names;
-use crate::records::{decode, records, Loop, Record};
+use crate::records::{decode, records, Loop, Record, Reference};
 use crate::spans::Field;
+use crate::unmet::marked_loop;
 
-/// The loop and the read of a refusal 9, both by number, in a table.
+/// The loop and the two references of a refusal 9, all by number, in a table.
 pub struct Serial<'a> {
     table: &'a [u8],
     names: &'a Names,
     place: u64,
-    read: u64,
+    pair: (usize, usize),
 }
 
-/// The records of the loop and of its read, each with its number.
-struct Meeting<'a> {
-    open: (usize, Record<'a>),
-    read: (usize, Record<'a>),
+/// The loop and how two of its iterations meet: iteration i by `one` and iteration i + `apart` by `other`, which stores. `one` is the read
+/// of the two, and where both store the higher one.
+struct Meeting {
+    decoded: Loop,
+    one: Reference,
+    other: Reference,
+    apart: i64,
 }
 
 impl<'a> Serial<'a> {
-    pub fn new(table: &'a [u8], names: &'a Names, place: u64, read: u64) -> Serial<'a> {
-        Serial { table, names, place, read }
+    pub fn new(table: &'a [u8], names: &'a Names, place: u64, pair: (usize, usize)) -> Serial<'a> {
+        Serial { table, names, place, pair }
     }
 
-    fn meeting(&self) -> Option<Meeting<'a>> {
-        let mut rows = records(self.table).into_iter().enumerate();
-        let open = rows.by_ref().filter(|(_, record)| record.kind == 2).nth(usize::try_from(self.place).ok()?)?;
-        let mut own = rows.take_while(|(_, record)| record.kind != 2).filter(|(_, record)| record.kind == 3);
-        Some(Meeting { open, read: own.nth(usize::try_from(self.read).ok()?)? })
+    /// The record of a reference of the loop, with its number: destinations are in loops and statements.
+    fn record(&self, reference: usize) -> Option<(usize, Record<'a>)> {
+        let rows = records(self.table).into_iter().enumerate();
+        let loops = usize::try_from(self.place).ok()?;
+        let mut opened = 0;
+        let own = rows.skip_while(|(_, record)| {
+            opened += usize::from(record.kind == 2);
+            opened <= loops
+        });
+        own.filter(|(_, record)| matches!(record.kind, 2 | 3 | 7)).nth(reference)
     }
 
-    /// Loop and read with their records and bytes.
+    /// Loop and references, these with their records and bytes.
     pub fn at(&self) -> String {
-        let Some(Meeting { open, read }) = self.meeting() else { return format!("loop {}, read {}", self.place, self.read) };
-        let place = |(number, record): &(usize, Record)| format!("record {number}, byte {}", record.at);
-        format!("loop {} ({}), its read {} ({})", self.place, place(&open), self.read, place(&read))
+        let said = |reference: usize| match self.record(reference) {
+            Some((number, record)) => format!("{reference} (record {number}, byte {})", record.at),
+            None => reference.to_string(),
+        };
+        format!("loop {}, references {} and {}", self.place, said(self.pair.0), said(self.pair.1))
     }
 
-    /// The lowest iteration that reads what another one stores.
+    fn meeting(&self) -> Option<Meeting> {
+        let decoded = decode(self.table).0.loops.into_iter().nth(usize::try_from(self.place).ok()?)?;
+        let references = decoded.references();
+        let (lower, higher) = (*references.get(self.pair.0)?, *references.get(self.pair.1)?);
+        let (one, other) = if lower.stores { (higher, lower) } else { (lower, higher) };
+        let apart = i64::from(one.offset) - i64::from(other.offset);
+        Some(Meeting { decoded, one, other, apart })
+    }
+
+    /// The lowest iteration that is, by the first of the two, where another one stores. It is told where the higher reference stands: there
+    /// whoever reads on from the loop's beginning has met both.
     pub fn explain(&self) -> Option<Explanation> {
-        let Meeting { read: (record, _), .. } = self.meeting()?;
-        let (one, offset) = self.loop_and_offset()?;
-        let (lowest, _) = reading(&one, offset);
-        let apart = apart(&one, offset);
-        let element = format!("{}[{}]", self.names.of(usize::from(one.array)), lowest + i64::from(offset));
-        let words = format!("iteration {lowest} reads {element}, which iteration {} stores", lowest + apart);
-        Some(Explanation { words, record, field: Field::Whole })
+        let (record, Record { kind, .. }) = self.record(self.pair.1)?;
+        let meeting = self.meeting()?;
+        let (lowest, _) = meeting.iterations();
+        let element = format!("{}[{}]", self.names.of(usize::from(meeting.one.array)), lowest + i64::from(meeting.one.offset));
+        let (does, too) = if meeting.one.stores { ("stores", " too") } else { ("reads", "") };
+        let words = format!("iteration {lowest} {does} {element}, which iteration {} stores{too}", lowest + meeting.apart);
+        let field = if kind == 3 { Field::Whole } else { Field::Reference };
+        Some(Explanation { words, record, field })
     }
 
-    fn loop_and_offset(&self) -> Option<(Loop, i16)> {
-        let one = decode(self.table).0.loops.into_iter().nth(usize::try_from(self.place).ok()?)?;
-        let offset = one.read_offsets().nth(usize::try_from(self.read).ok()?)?;
-        Some((one, offset))
-    }
-
-    /// The loop's statement with its bounds, and below it the named read marked, in two lines.
+    /// The loop's statements with its bounds, and below them the two references marked, in two lines.
     pub fn marked(&self) -> Option<String> {
-        let (one, offset) = self.loop_and_offset()?;
-        let said = assignment(&one, self.names)?;
-        let span = said.reads.get(usize::try_from(self.read).ok()?)?;
-        let head = format!("  loop {}, i = {} to {}: ", self.place, one.first, one.last);
-        let (blanks, carets) = (" ".repeat(head.len() + span.start), "^".repeat(span.len()));
-        Some(format!("{head}{}\n{blanks}{carets} {}", said.text, meeting_words(&one, offset)))
+        let meeting = self.meeting()?;
+        let number = usize::try_from(self.place).ok()?;
+        let lines = marked_loop(number, &meeting.decoded, self.names, &[self.pair.0, self.pair.1])?;
+        Some(format!("{lines} {}", meeting.words(self.names)))
     }
 }
 
-/// With the read's offset o and the destination's c, iteration i reads the element i + o, and that is the one where iteration
-/// i + (o - c) stores.
-fn apart(one: &Loop, offset: i16) -> i64 {
-    i64::from(offset) - i64::from(one.offset)
+impl Meeting {
+    /// The iterations i of the loop whose other iteration is inside the bounds too.
+    fn iterations(&self) -> (i64, i64) {
+        let (first, last) = (i64::from(self.decoded.first), i64::from(self.decoded.last));
+        (first.max(first - self.apart), last.min(last - self.apart))
+    }
+
+    fn words(&self, names: &Names) -> String {
+        let (from, to) = self.iterations();
+        let when = if self.apart < 0 { "earlier" } else { "later" };
+        let other = format!("the {when} iteration i{:+} stores", self.apart);
+        let (by, with) = match self.one.stores {
+            true => (format!("stores as {}", said(names, &self.one)), format!(" as {}", said(names, &self.other))),
+            false => ("reads".to_string(), String::new()),
+        };
+        format!("iteration i {by} the element that {other}{with} (i = {})", spread(from, to))
+    }
 }
 
-/// The iterations i of the loop whose other iteration is inside the bounds too.
-fn reading(one: &Loop, offset: i16) -> (i64, i64) {
-    let (apart, first, last) = (apart(one, offset), i64::from(one.first), i64::from(one.last));
-    (first.max(first - apart), last.min(last - apart))
-}
-
-fn meeting_words(one: &Loop, offset: i16) -> String {
-    let (from, to) = reading(one, offset);
-    let apart = apart(one, offset);
-    let when = if apart < 0 { "earlier" } else { "later" };
-    format!("iteration i reads the element that the {when} iteration i{apart:+} stores (i = {})", spread(from, to))
+fn said(names: &Names, one: &Reference) -> String {
+    reference(names, one.array, one.offset)
 }
 
 /// What refusal 9 is about.
-pub fn explain_serial(table: &[u8], names: &Names, place: u64, read: u64) -> Option<Explanation> {
-    Serial::new(table, names, place, read).explain()
+pub fn explain_serial(table: &[u8], names: &Names, place: u64, pair: (usize, usize)) -> Option<Explanation> {
+    Serial::new(table, names, place, pair).explain()
 }

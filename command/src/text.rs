@@ -2,11 +2,11 @@
 
 use crate::answers;
 use crate::batch::{self, Words};
-use crate::infix::{assignment, reference};
+use crate::infix::{assignments, reference};
 use crate::names::Names;
 use crate::options::Options;
 use crate::outcome::{Failure, Outcome};
-use crate::records::{decode, Item, Loop, OPERATIONS};
+use crate::records::{decode, Item, Loop, Statement, OPERATIONS};
 use crate::refusals::{describe, Asked};
 use crate::wording::in_one_line;
 
@@ -46,11 +46,16 @@ pub fn dump(table: &[u8], names: &Names) -> String {
     text
 }
 
+/// The loop's own line, and a line for each further statement.
 fn a_loop(number: usize, one: &Loop, names: &Names) -> String {
-    let said = assignment(one, names).map_or(String::new(), |infix| format!(": {}", infix.text));
+    let said = assignments(one, names).map_or(String::new(), |infix| format!(": {}", infix.text));
+    let lines: Vec<String> = one.statements.iter().map(|one| statement(one, names)).collect();
+    format!("# loop {number}{said}\nloop {} {} {}\n", one.first, one.last, lines.join("\n  "))
+}
+
+fn statement(one: &Statement, names: &Names) -> String {
     let items: Vec<String> = one.items.iter().map(|one| item(one, names)).collect();
-    let store = reference(names, one.array, one.offset);
-    format!("# loop {number}{said}\nloop {} {} -> {store}: {}\n", one.first, one.last, items.join(" "))
+    format!("-> {}: {}", reference(names, one.array, one.offset), items.join(" "))
 }
 
 fn item(item: &Item, names: &Names) -> String {

@@ -1,19 +1,10 @@
 //! Refusal 20 in words: which number of the later loop is too low, for which dependence, and from where on it would do. Below them stand both
 //! loops, with the references of that dependence marked.
 
-use crate::infix::{assignment, reference};
+use crate::infix::{assignments, reference};
 use crate::names::Names;
-use crate::records::{decode, Item, Loop};
-use std::ops::Range;
+use crate::records::{decode, Loop, Reference};
 use vempaldi::{Amounts, Settings};
-
-/// A loop's destination, or its read of this number.
-#[derive(Clone, Copy)]
-struct Reference {
-    array: u8,
-    offset: i16,
-    read: Option<usize>,
-}
 
 /// Iteration i of the earlier loop and i + distance of the later one meet at an element.
 #[derive(Clone, Copy)]
@@ -73,7 +64,7 @@ impl<'a> Unmet<'a> {
         (!all.is_empty()).then(|| all.join("; "))
     }
 
-    /// Each loop's statement, with the references of the dependences marked below it.
+    /// Each loop's statements, with the references of the dependences marked below it.
     pub fn marked(&self) -> Option<String> {
         let low = Some(self.low()).filter(|low| !low.is_empty())?;
         let from = low.iter().map(|one| one.dependence.from).collect();
@@ -83,45 +74,32 @@ impl<'a> Unmet<'a> {
     }
 
     fn marked_loop(&self, number: usize, one: &Loop, marked: Vec<Reference>) -> Option<String> {
-        let said = assignment(one, self.names)?;
-        let head = format!("  loop {number}, i = {} to {}: ", one.first, one.last);
-        let mut marks = vec![' '; head.len() + said.text.len()];
-        for reference in marked {
-            let span = match reference.read {
-                Some(read) => said.reads.get(read)?.clone(),
-                None => self.destination(one),
-            };
-            marks[head.len() + span.start..head.len() + span.end].fill('^');
-        }
-        Some(format!("{head}{}\n{}", said.text, marks.iter().collect::<String>().trim_end()))
-    }
-
-    /// Where the destination stands in the loop's statement.
-    fn destination(&self, one: &Loop) -> Range<usize> {
-        0..reference(self.names, one.array, one.offset).len()
+        let numbers: Vec<usize> = marked.iter().map(|reference| reference.number).collect();
+        marked_loop(number, one, self.names, &numbers)
     }
 }
 
-/// All references of a loop, the destination first.
-fn references(one: &Loop) -> Vec<Reference> {
-    let reads = one.items.iter().filter_map(|item| match *item {
-        Item::Read(array, offset) => Some((array, offset)),
-        _ => None,
-    });
-    let reads = reads.enumerate().map(|(read, (array, offset))| Reference { array, offset, read: Some(read) });
-    [Reference { array: one.array, offset: one.offset, read: None }].into_iter().chain(reads).collect()
+/// A loop's bounds and statements, and in a second line marks below these of its references.
+pub fn marked_loop(number: usize, one: &Loop, names: &Names, references: &[usize]) -> Option<String> {
+    let said = assignments(one, names)?;
+    let head = format!("  loop {number}, i = {} to {}: ", one.first, one.last);
+    let mut marks = vec![' '; head.len() + said.text.len()];
+    for &reference in references {
+        let span = said.references.get(reference)?;
+        marks[head.len() + span.start..head.len() + span.end].fill('^');
+    }
+    Some(format!("{head}{}\n{}", said.text, marks.iter().collect::<String>().trim_end()))
 }
 
 /// Two references to one array, one of them storing, where some iterations of the two loops meet there.
 fn dependences(earlier: &Loop, later: &Loop) -> Vec<Dependence> {
     let mut found = Vec::new();
-    for from in references(earlier) {
-        for to in references(later) {
+    for from in earlier.references() {
+        for to in later.references() {
             let distance = i64::from(from.offset) - i64::from(to.offset);
             let first = i64::from(earlier.first).max(i64::from(later.first) - distance);
             let last = i64::from(earlier.last).min(i64::from(later.last) - distance);
-            let stores = from.read.is_none() || to.read.is_none();
-            if from.array == to.array && stores && first <= last {
+            if from.array == to.array && (from.stores || to.stores) && first <= last {
                 found.push(Dependence { from, to, distance });
             }
         }

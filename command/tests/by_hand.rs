@@ -103,6 +103,22 @@ fn what_is_not_met_is_20_and_says_what_would_do() {
 }
 
 /// The refusals of a table come before, and those of P and W behind.
+/// Loop 1 of the river's reach stores H in its second statement, which the first statement of loop 0 reads at -1 and 1; and Q in its first,
+/// which the second of loop 0 reads at -1. The first dependence that asks for most is told.
+#[test]
+fn a_dependence_of_any_statement_is_told() {
+    let told = fed(&["plan", "examples/reach.txt", "-p2", "--plan", "-"], b"0 0\n0 1\n");
+    let said = "\
+examples/reach.txt: refused 20 unmet from loop 0 to loop 1: loop 1's shift is 0 and must be at least 1: \
+loop 0's 0 plus 1 for H[i-1] -> H[i], distance -1
+\x20 loop 0, i = 1 to 198: QN[i] = Q[i] * 9 / 10 + (H[i-1] - H[i+1]) / 5; HN[i] = H[i] + (Q[i-1] - QN[i]) / 50
+\x20                                                ^^^^^^
+\x20 loop 1, i = 1 to 198: Q[i] = QN[i]; H[i] = HN[i]
+\x20                                     ^^^^
+";
+    is(&told, 1, "", said);
+}
+
 #[test]
 fn the_order_of_refusals_is_the_librarys() {
     let wrong = PlanFile::new("order.hand", "0 0\n");
@@ -239,7 +255,8 @@ fn a_written_plan_is_read_again() {
                   0 0         # loop 0, i = 1 to 10: A0[i] = A1[i] + 1\n\
                   1 1         # loop 1, i = 1 to 10: A2[i] = A0[i-1] + A0[i+1]\n";
     assert_eq!(written, wanted);
-    for file in ["boundary.table", "example.txt", "jacobi.table", "ll18.txt", "river.txt"].map(|name| format!("examples/{name}"))
+    for file in ["boundary.table", "coast.txt", "example.txt", "jacobi.table", "ll18.txt", "reach.table", "river.txt"]
+        .map(|name| format!("examples/{name}"))
     {
         for more in [&[][..], &["--raw"], &["--json"]] {
             let found = run(&[&["plan", &file, "-p3", "--write-plan", &out.0], more].concat());

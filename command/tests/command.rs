@@ -45,19 +45,19 @@ fn a_refusal_names_file_record_and_byte() {
 }
 
 #[test]
-fn meeting_iterations_are_named_by_loop_and_read() {
+fn meeting_iterations_are_named_by_loop_and_references() {
     // 1 to 10, A0 of 21 elements, A0[i] = A0[i+9].
     let text = b"array A 21\nloop 1 10 -> A[i]: A[i+9]\n";
     let told = fed(&["make", "-"], text);
     assert_eq!(told.status, 1);
-    let said = "-:2:20: refused 9 serial at loop 0 (record 1, byte 5), its read 0 (record 2, byte 17)";
+    let said = "-:2:20: refused 9 serial at loop 0, references 0 (record 1, byte 5) and 1 (record 2, byte 17)";
     assert!(told.err.starts_with(said), "{}", told.err);
     assert_eq!(fed(&["make", "-"], b"array A 21\nloop 1 10 -> A[i]: A[i+10]\n").status, 0);
 }
 
 #[test]
 fn make_gives_the_examples_bytes_and_names_wrong_lines() {
-    for name in ["boundary", "example", "jacobi", "ll18", "river"] {
+    for name in ["boundary", "coast", "example", "jacobi", "ll18", "reach", "river"] {
         let out = out_name(name);
         assert_eq!(run(&["make", &format!("examples/{name}.txt"), "-o", &out]).status, 0);
         assert_eq!(std::fs::read(&out).expect("written"), bytes(&format!("examples/{name}.table")));
@@ -168,10 +168,20 @@ fn lines_are_refused_in_words() {
     }
 }
 
+const TABLES: [&str; 7] = [
+    EXAMPLE,
+    "examples/boundary.table",
+    "examples/coast.table",
+    "examples/jacobi.table",
+    "examples/ll18.table",
+    "examples/reach.txt",
+    "examples/river.table",
+];
+
 /// Where there is a plan: lines may be too few, or leave a last block that is too short.
 #[test]
 fn run_agrees_with_the_plain_run_for_every_line() {
-    let all = [EXAMPLE, "examples/boundary.table", "examples/jacobi.table", "examples/ll18.table", "examples/river.table"];
+    let all = TABLES;
     let mut agree = 0;
     for line in 1..=64 {
         let line = line.to_string();
@@ -182,21 +192,21 @@ fn run_agrees_with_the_plain_run_for_every_line() {
             agree += good;
         }
     }
-    assert!(agree > 64 * 3 * 4, "{agree}");
+    assert!(agree > 64 * 3 * 6, "{agree}");
     let told = run(&["run", EXAMPLE, "-p2", "--line", "4", "--order", "none"]);
     assert!(told.out.contains(": 20 iterations on 2 processors in lines of 4, idle 0: agrees"), "{}", told.out);
 }
 
 #[test]
 fn run_agrees_with_the_plain_run_in_every_order() {
-    let all = [EXAMPLE, "examples/boundary.table", "examples/jacobi.table", "examples/ll18.table", "examples/river.table"];
+    let all = TABLES;
     for order in ["turns", "falling", "none", "random:1", "3,3,3,3,0,255", "@examples/river.txt"] {
         for memory in ["index", "zero", "random:5"] {
             let words = [&["run", "-p", "4", "--order", order, "--memory", memory], &all[..]].concat();
             let told = run(&words);
             assert_eq!(told.status, 0, "{}", told.out);
-            assert_eq!(told.out.matches("bit for bit").count(), 5);
-            assert_eq!(told.err, "5 files: 5 agree, 0 refused or different\n");
+            assert_eq!(told.out.matches("bit for bit").count(), 7);
+            assert_eq!(told.err, "7 files: 7 agree, 0 refused or different\n");
         }
     }
 }

@@ -18,20 +18,63 @@ use vempaldi_checks::tables::{self, Shape, LARGE, MIDDLE, SMALL};
 use vempaldi_command::{dump, explain, explain_serial, make, Explanation, Names};
 
 /// The kinds with their articles and how long their records are.
-const KINDS: [(&str, usize); 7] =
-    [("", 0), ("an array", 5), ("a loop", 12), ("a read", 4), ("a constant", 5), ("an operation", 2), ("an end", 1)];
+const KINDS: [(&str, usize); 8] = [
+    ("", 0),
+    ("an array", 5),
+    ("a loop", 12),
+    ("a read", 4),
+    ("a constant", 5),
+    ("an operation", 2),
+    ("an end", 1),
+    ("a statement", 4),
+];
 const OPERATIONS: [&str; 6] = ["", "'+'", "'-'", "'*'", "'/'", "'neg'"];
 
 /// What the bytes before a place are.
 #[derive(Default)]
 struct Seen {
     arrays: Vec<i64>,
-    loops: Vec<[i64; 4]>,
+    loops: Vec<[i64; 2]>,
     /// Of the last loop.
+    statements: usize,
     items: usize,
+    references: Vec<Reference>,
+    /// Of its last statement.
+    own_items: usize,
     waiting: usize,
-    reads: Vec<[i64; 2]>,
     ended: bool,
+}
+
+#[derive(Clone, Copy)]
+struct Reference {
+    array: i64,
+    offset: i64,
+    stores: bool,
+}
+
+impl Seen {
+    /// Three bytes: an array's number and an offset.
+    fn refers(&mut self, bytes: &[u8], stores: bool) {
+        self.references.push(Reference { array: bytes[0].into(), offset: signed(&bytes[1..3]), stores });
+    }
+
+    fn begins_statement(&mut self, bytes: &[u8]) {
+        self.statements += 1;
+        (self.own_items, self.waiting) = (0, 0);
+        self.refers(bytes, true);
+    }
+
+    fn adds_item(&mut self, row: &[u8]) {
+        (self.items, self.own_items) = (self.items + 1, self.own_items + 1);
+        match (row[0], row[1]) {
+            (5, 5) => {}
+            (5, _) => self.waiting -= 1,
+            _ => self.waiting += 1,
+        }
+        if row[0] == 3 {
+            self.refers(&row[1..4], false);
+        }
+    }
 }
 
 fn unsigned(bytes: &[u8]) -> i64 {
@@ -53,21 +96,13 @@ fn seen(bytes: &[u8]) -> Seen {
         match row[0] {
             1 => all.arrays.push(unsigned(&row[1..5])),
             2 => {
-                all.loops.push([unsigned(&row[1..5]), unsigned(&row[5..9]), row[9].into(), signed(&row[10..12])]);
-                (all.items, all.waiting, all.reads) = (0, 0, Vec::new());
+                all.loops.push([unsigned(&row[1..5]), unsigned(&row[5..9])]);
+                (all.statements, all.items, all.references) = (0, 0, Vec::new());
+                all.begins_statement(&row[9..12]);
             }
             6 => all.ended = true,
-            kind => {
-                all.items += 1;
-                match (kind, row[1]) {
-                    (5, 5) => {}
-                    (5, _) => all.waiting -= 1,
-                    _ => all.waiting += 1,
-                }
-                if kind == 3 {
-                    all.reads.push([row[1].into(), signed(&row[2..4])]);
-                }
-            }
+            7 => all.begins_statement(&row[1..4]),
+            _ => all.adds_item(&row),
         }
     }
     all
@@ -134,8 +169,9 @@ impl Case<'_> {
             words if words.contains(" before any loop, items belong to a loop") => {
                 (3..=5).contains(&kind) && before.loops.is_empty() && words.starts_with(KINDS[usize::from(kind)].0)
             }
+            "a statement before any loop, it is a further one of a loop" => kind == 7 && before.loops.is_empty(),
             words if words.starts_with("an array behind loop") => kind == 1 && self.said[0] + 1 == before.loops.len() as i64,
-            words => words.starts_with("kind ") && self.said == [kind.into(), 1, 6] && !(1..=6).contains(&kind),
+            words => words.starts_with("kind ") && self.said == [kind.into(), 1, 7] && !(1..=7).contains(&kind),
         }
     }
 
@@ -147,7 +183,7 @@ impl Case<'_> {
             ("first", 2) => Some((unsigned(&body[..4]), 0, 131_071)),
             ("last", 2) => Some((unsigned(&body[4..8]), 0, 131_071)),
             ("offset", 2) => Some((signed(&body[9..11]), -255, 255)),
-            ("offset", 3) => Some((signed(&body[1..3]), -255, 255)),
+            ("offset", 3 | 7) => Some((signed(&body[1..3]), -255, 255)),
             ("operation", 5) => Some((body[0].into(), 1, 5)),
             _ => None,
         };
@@ -164,6 +200,9 @@ impl Case<'_> {
         match self.words {
             "a 17th array, at most 16 are allowed" => kind == 1 && before.arrays.len() == 16,
             "a 17th loop, at most 16 are allowed" => kind == 2 && before.loops.len() == 16,
+            words if words.starts_with("a 5th statement of loop ") => {
+                kind == 7 && before.statements == 4 && self.said == [5, before.loops.len() as i64 - 1, 4]
+            }
             words if words.starts_with("a 33rd item of loop ") => {
                 let open = before.loops.len() as i64 - 1;
                 (3..=5).contains(&kind) && before.items == 32 && self.said == [33, open, 32]
@@ -183,15 +222,19 @@ impl Case<'_> {
             1 => "there is array 0 alone".to_string(),
             _ => format!("there are arrays 0 to {}", count - 1),
         };
-        [2, 3].contains(&self.kind()) && number >= count && self.words == format!("array {number}, {there}")
+        [2, 3, 7].contains(&self.kind()) && number >= count && self.words == format!("array {number}, {there}")
     }
 
     fn body_words(&self) -> bool {
         let before = self.before();
         let (open, left) = (before.loops.len() - 1, before.waiting);
+        let body = match before.statements {
+            1 => format!("the body of loop {open}"),
+            count => format!("the body of statement {} of loop {open}", count - 1),
+        };
         match self.kind() {
-            2 | 6 if before.items == 0 => self.words == format!("the body of loop {open} is empty, one number must be left"),
-            2 | 6 => left != 1 && self.words == format!("the body of loop {open} leaves {left} numbers, one must be left"),
+            2 | 6 | 7 if before.own_items == 0 => self.words == format!("{body} is empty, one number must be left"),
+            2 | 6 | 7 => left != 1 && self.words == format!("{body} leaves {left} numbers, one must be left"),
             3 | 4 => left == 8 && self.words == "a 9th waiting number, at most 8 may wait",
             _ => {
                 let code = usize::from(self.body()[0]);
@@ -229,34 +272,44 @@ impl Case<'_> {
     fn tail(&self) -> bool {
         let (end, count) = (self.place - 1, self.bytes.len() - self.place);
         let follow = if count == 1 { "1 byte follows it".to_string() } else { format!("{count} bytes follow it") };
-        let least = if self.bytes.len() >= 2_077 { "at least " } else { "" };
+        let least = if self.bytes.len() >= 2_362 { "at least " } else { "" };
         let whole = seen(&self.bytes[..self.place]);
         whole.ended && self.bytes[end] == 6 && self.words == format!("the end record is byte {end}, {least}{follow}")
     }
 
-    /// Both iterations are the loop's, they are not the same, and the element is the one that the one reads and the other stores.
-    fn serial(&self, number: u64, read: u64) -> bool {
-        let whole = seen(self.bytes);
-        let [first, last, array, stored] = whole.loops[number as usize];
-        // Up to the next loop, so that the last loop there is this one.
-        let rows = damage::records(self.bytes);
-        let next = (0..rows.len()).filter(|&at| rows[at][0] == 2).nth(number as usize + 1);
-        let own = seen(&rows[..next.unwrap_or(rows.len())].concat());
-        let [read_array, offset] = own.reads[read as usize];
-        let [reader, from, element, writer] = self.said[..] else { return false };
+    /// Both iterations are the loop's, they are not the same, and the element is where the one reads or stores and the other stores.
+    fn serial(&self, number: u64, pair: (usize, usize)) -> bool {
+        let own = up_to_loop(self.bytes, number as usize);
+        let [first, last] = own.loops[number as usize];
+        let (lower, higher) = (own.references[pair.0], own.references[pair.1]);
+        let (one, other) = if lower.stores { (higher, lower) } else { (lower, higher) };
+        let [i, array, element, j] = self.said[..] else { return false };
         let inside = |index: i64| (first..=last).contains(&index);
-        let met = inside(reader) && inside(writer) && reader != writer;
-        met && read_array == array && from == array && reader + offset == element && writer + stored == element
+        let met = inside(i) && inside(j) && i != j && i + one.offset == element && j + other.offset == element;
+        let (does, too) = if one.stores { ("stores", " too") } else { ("reads", "") };
+        let said = format!("iteration {i} {does} A{array}[{element}], which iteration {j} stores{too}");
+        met && pair.0 < pair.1 && other.stores && [one.array, other.array] == [array; 2] && self.words == said
+    }
+}
+
+/// What the bytes are up to the loop behind this one, so that the last loop there is this one.
+fn up_to_loop(bytes: &[u8], number: usize) -> Seen {
+    let rows = damage::records(bytes);
+    let next = (0..rows.len()).filter(|&at| rows[at][0] == 2).nth(number + 1);
+    seen(&rows[..next.unwrap_or(rows.len())].concat())
+}
+
+fn explained(bytes: &[u8], names: &Names, refusal: &vempaldi::Refusal) -> Option<Explanation> {
+    match refusal.references() {
+        Some(pair) => explain_serial(bytes, names, refusal.place, pair),
+        None => explain(bytes, names, refusal),
     }
 }
 
 /// The words of a refusal hold, and which form they have, and whether a token of a text was compared; nothing for an accepted table.
 fn holds(bytes: &[u8]) -> Option<((u64, String), bool)> {
     let refusal = vempaldi::check(bytes).err()?;
-    let names = Names::default();
-    let found = refusal
-        .read()
-        .map_or_else(|| explain(bytes, &names, &refusal), |read| explain_serial(bytes, &names, refusal.place, read));
+    let found = explained(bytes, &Names::default(), &refusal);
     let Explanation { words, .. } = found.unwrap_or_else(|| panic!("no words for {refusal}: {bytes:?}"));
     let case = Case { bytes, place: refusal.place as usize, words: &words, said: numbers(&words) };
     let number = refusal.ground.number();
@@ -269,7 +322,7 @@ fn holds(bytes: &[u8]) -> Option<((u64, String), bool)> {
         6 => case.body_words(),
         7 => case.edge(),
         8 => case.tail(),
-        9 => case.serial(refusal.place, refusal.named[0]),
+        9 => case.serial(refusal.place, refusal.references().expect("a pair")),
         _ => false,
     };
     assert!(true_words, "{refusal}: '{words}' is not so: {bytes:?}");
@@ -281,10 +334,7 @@ fn in_text(bytes: &[u8], refusal: &vempaldi::Refusal, words: &str) -> bool {
     let names = Names::default();
     let text = dump(bytes, &names);
     let Some(made) = make(&text).ok().filter(|made| made.bytes == bytes) else { return false };
-    let found = refusal
-        .read()
-        .map_or_else(|| explain(bytes, &made.names, refusal), |read| explain_serial(bytes, &made.names, refusal.place, read));
-    let Explanation { record, field, .. } = found.expect("words");
+    let Explanation { record, field, .. } = explained(bytes, &made.names, refusal).expect("words");
     let told = made.place(record, field);
     let line: Vec<char> = text.lines().nth(told.line - 1).unwrap_or("").chars().collect();
     let there: String = line[told.column - 1..].iter().take(told.token.chars().count()).collect();
@@ -293,14 +343,15 @@ fn in_text(bytes: &[u8], refusal: &vempaldi::Refusal, words: &str) -> bool {
     let wanted = match (refusal.ground.number(), said[0]) {
         (4, "a") if words.contains("array") => "array".to_string(),
         (4, "a") if words.contains("17th loop") => "loop".to_string(),
+        (4, "a") if words.contains("statement") => "->".to_string(),
         (3, "length" | "first" | "last") | (4, "length") => said[1].to_string(),
         (3, "offset") => format!("{:+}", said[1].parse::<i64>().expect("an offset")),
         (6, sign) if sign.starts_with('\'') => sign.trim_matches('\'').to_string(),
         (7, reference) => reference.to_string(),
         (9, _) => {
-            let met = numbers(words);
-            let offset = met[2] - met[0];
-            format!("A{}[i{}]", met[1], if offset == 0 { String::new() } else { format!("{offset:+}") })
+            let (_, higher) = refusal.references().expect("a pair");
+            let Reference { array, offset, .. } = up_to_loop(bytes, refusal.place as usize).references[higher];
+            format!("A{array}[i{}]", if offset == 0 { String::new() } else { format!("{offset:+}") })
         }
         _ => return false,
     };
@@ -334,6 +385,7 @@ impl Tally {
             damage::splice_records(random, &good, &other),
             damage::rearrange(random, &good),
             damage::crowd(random, &good),
+            damage::statement(random, &good),
             damage::field(random, &good),
             damage::mostly_kinds(random, 40),
             good[..random.below(good.len())].to_vec(),
@@ -344,7 +396,7 @@ impl Tally {
 }
 
 /// Every form of words, by ground, with numbers as #.
-const FORMS: [(u64, &str); 37] = [
+const FORMS: [(u64, &str); 43] = [
     (1, "the input is empty"),
     (1, "the input ends behind # bytes, with no end record"),
     (1, "an array record has # bytes, the input ends behind # of them"),
@@ -352,11 +404,13 @@ const FORMS: [(u64, &str); 37] = [
     (1, "a read record has # bytes, the input ends behind # of them"),
     (1, "a constant record has # bytes, the input ends behind # of them"),
     (1, "an operation record has # bytes, the input ends behind # of them"),
+    (1, "a statement record has # bytes, the input ends behind # of them"),
     (2, "kind #, allowed are # to #"),
     (2, "an array behind loop #, arrays come before all loops"),
     (2, "a read before any loop, items belong to a loop"),
     (2, "a constant before any loop, items belong to a loop"),
     (2, "an operation before any loop, items belong to a loop"),
+    (2, "a statement before any loop, it is a further one of a loop"),
     (2, "the end comes before any array"),
     (2, "the end comes before any loop"),
     (3, "length #, allowed are # to #"),
@@ -367,6 +421,7 @@ const FORMS: [(u64, &str); 37] = [
     (3, "operation #, allowed are # to #"),
     (4, "a #th array, at most # are allowed"),
     (4, "a #th loop, at most # are allowed"),
+    (4, "a #th statement of loop #, at most # are allowed"),
     (4, "a #rd item of loop #, at most # are allowed"),
     (4, "length # makes # elements in all, at most # are allowed"),
     (5, "array #, there is no array yet"),
@@ -374,6 +429,8 @@ const FORMS: [(u64, &str); 37] = [
     (5, "array #, there are arrays # to #"),
     (6, "the body of loop # is empty, one number must be left"),
     (6, "the body of loop # leaves # numbers, one must be left"),
+    (6, "the body of statement # of loop # is empty, one number must be left"),
+    (6, "the body of statement # of loop # leaves # numbers, one must be left"),
     (6, "a #th waiting number, at most # may wait"),
     (6, "'+' takes # waiting numbers, one is there"),
     (6, "'neg' takes # waiting number, none is there"),
@@ -382,6 +439,7 @@ const FORMS: [(u64, &str); 37] = [
     (8, "the end record is byte #, # byte follows it"),
     (8, "the end record is byte #, # bytes follow it"),
     (9, "iteration # reads A#[#], which iteration # stores"),
+    (9, "iteration # stores A#[#], which iteration # stores too"),
 ];
 
 #[test]

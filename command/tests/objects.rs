@@ -97,9 +97,9 @@ fn refused_tables_have_the_librarys_answer() {
         let answer = fed(&["plan", "--raw", "-", "-p2"], &table).out;
         let number = refusal.at("number").number();
         let named: Vec<i64> = refusal.at("named").list().iter().map(Json::number).collect();
-        let read = if number == 9 { format!(" {}", named[0]) } else { String::new() };
-        assert_eq!(answer, format!("refused {number} {}{read}\n", refusal.at("place").number()));
-        assert!(named[1] == 0 && (number == 9 || named[0] == 0));
+        let pair = if number == 9 { format!(" {} {}", named[0], named[1]) } else { String::new() };
+        assert_eq!(answer, format!("refused {number} {}{pair}\n", refusal.at("place").number()));
+        assert!(if number == 9 { named[0] < named[1] } else { named == [0, 0] });
         let words = fed(&["plan", "-", "-p2"], &table).err;
         assert_eq!(words.lines().next(), Some(format!("-: {}", refusal.at("message").text()).as_str()));
         let word = refusal.at("word").text();
@@ -119,6 +119,8 @@ fn a_text_has_names_and_places() {
     let river = object(&["examples/river.txt", "-p4"], b"");
     assert_eq!((river.at("file").text(), names(&river).join(" ")), ("examples/river.txt", "H Q S D".to_string()));
     assert_eq!(river.at("loops").list()[0].at("statement").text(), "S[i] = (H[i-1] - H[i+1]) / 200");
+    let reach = object(&["examples/reach.txt", "-p4"], b"");
+    assert_eq!(reach.at("loops").list()[1].at("statement").text(), "Q[i] = QN[i]; H[i] = HN[i]");
     let place = |object: &Json| (object.at("line").number(), object.at("column").number(), object.at("token").text().to_string());
     let refused = object(&["-", "-p2"], b"array H 12\n# \xc3\xa4\nloop 1 10 -> H[i]: 1 H[i+300] +\n");
     assert_eq!(place(refused.at("refusal")), (3, 25, "+300".to_string()));

@@ -130,13 +130,13 @@ fn what_is_neither_text_nor_table_is_said_so() {
         assert_eq!(told.status, 1);
         let said = told.out + &told.err;
         let hint =
-            "kind 35, allowed are 1 to 6 (this looks like text, but begins with 'Vempaldi' and not with 'array' or 'loop')\n";
+            "kind 35, allowed are 1 to 7 (this looks like text, but begins with 'Vempaldi' and not with 'array' or 'loop')\n";
         assert!(said.contains("refused 2 kind") && said.ends_with(hint), "{said}");
     }
     let told = run(&["make", EXAMPLE]);
     assert_eq!((told.status, told.out.as_str()), (1, ""));
     assert!(told.err.starts_with("examples/example.table: this is a table, not a text"), "{}", told.err);
-    assert!(!fed(&["check", "-"], &[7, 1]).out.contains("text"));
+    assert!(!fed(&["check", "-"], &[8, 1]).out.contains("text"));
     assert!(fed(&["check", "-"], b"# nothing\n").out.ends_with("(this looks like text, but has no 'array' or 'loop')\n"));
 }
 

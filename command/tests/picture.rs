@@ -68,7 +68,7 @@ fn any_picture_can_be_read() {
 
 #[test]
 fn the_examples_can_be_read_for_few_and_for_many_processors() {
-    for name in ["boundary", "example", "jacobi", "ll18", "river"] {
+    for name in ["boundary", "coast", "example", "jacobi", "ll18", "reach", "river"] {
         let table = read(&bytes(&format!("examples/{name}.table"))).expect("a table");
         let most = lines::most(&table, 1);
         for count in (1..=most).filter(|count| *count <= 17 || count % 8 == 0 || *count == most) {
@@ -217,6 +217,20 @@ fn a_row_has_its_loops_statement() {
         // All loops before the barrier, and past it the two that are peeled.
         assert_eq!(statements, [&wanted[..], &wanted[2..]].concat());
     }
+}
+
+/// Several statements stand side by side, cut where there is no room for all, and a pointer that rests there shows them.
+#[test]
+fn a_row_has_all_statements_of_its_loop() {
+    let wanted =
+        ["QN[i] = Q[i] * 9 / 10 + (H[i-1] - H[i+1]) / 5; HN[i] = H[i] + (Q[i-1] - QN[i]) / 50", "Q[i] = QN[i]; H[i] = HN[i]"];
+    let drawn = Drawn::new(&run(&["draw", "examples/reach.txt", "-p", "4"]).out);
+    let rows: Vec<&xml::Element> = drawn.root.with("small").into_iter().filter(|one| one.title().contains(" = ")).collect();
+    // Both loops before the barrier, and the second past it.
+    let whole: Vec<String> = rows.iter().map(|one| one.title().to_string()).collect();
+    assert_eq!(whole, [wanted[0], wanted[1], wanted[1]]);
+    assert!(rows[0].text.ends_with(" ..") && rows[0].text.starts_with("QN[i] = Q[i] * 9 / 10"), "{}", rows[0].text);
+    assert_eq!(rows[1].text, wanted[1]);
 }
 
 #[test]

@@ -51,9 +51,9 @@ fn check_says_accepted_or_the_refusals_numbers() {
     is(&run(&["check", "--raw", EXAMPLE]), 0, "accepted\n");
     is(&run(&["check", EXAMPLE, "--raw"]), 0, "accepted\n");
     is(&fed(&["check", "--raw", "-"], &bytes(EXAMPLE)), 0, "accepted\n");
-    is(&fed(&["check", "--raw", "-"], &serial()), 1, "refused 9 0 2\n");
+    is(&fed(&["check", "--raw", "-"], &serial()), 1, "refused 9 0 0 3\n");
     is(&run(&["check", "--raw", "-q", EXAMPLE]), 0, "");
-    is(&fed(&["check", "--raw", "-q", "-"], &serial()), 1, "refused 9 0 2\n");
+    is(&fed(&["check", "--raw", "-q", "-"], &serial()), 1, "refused 9 0 0 3\n");
 }
 
 /// The smallest tables of docs/REFUSALS.md.
@@ -72,7 +72,15 @@ fn every_ground_of_reading_has_its_number_and_its_place() {
         (stored().end(), "refused 6 17\n"),
         (new().array(1).a_loop(0, 1, 0, 0), "refused 7 5\n"),
         (stored().read(0, 0).end().raw(&[0]), "refused 8 22\n"),
-        (new().array(3).a_loop(0, 1, 0, 0).read(0, 1).end(), "refused 9 0 0\n"),
+        (new().array(3).a_loop(0, 1, 0, 0).read(0, 1).end(), "refused 9 0 0 1\n"),
+        (new().array(1).statement(0, 0), "refused 2 5\n"),
+        (stored().statement(0, 0), "refused 6 17\n"),
+        (stored().repeat(4, |table| table.constant(1).statement(0, 0)), "refused 4 49\n"),
+        (stored().constant(1).raw(&[7, 0, 0]), "refused 1 22\n"),
+        (stored().constant(1).statement(1, 256), "refused 5 22\n"),
+        (stored().constant(1).statement(0, 256), "refused 3 22\n"),
+        (stored().constant(1).statement(0, 1), "refused 7 22\n"),
+        (new().array(3).a_loop(0, 1, 0, 0).constant(1).statement(0, 1).constant(1).end(), "refused 9 0 0 1\n"),
     ] {
         for command in ["check", "dump"] {
             is(&fed(&[command, "--raw", "-"], &table.bytes), 1, line);
@@ -83,13 +91,14 @@ fn every_ground_of_reading_has_its_number_and_its_place() {
     }
 }
 
-/// 9 has the loop and then the read, both from 0. The others have no third number, and no 0 for it.
+/// 9 has the loop and then two of its references, all from 0: here the destination and the fourth read. The others have no third number, and no 0
+/// for it.
 #[test]
-fn nine_names_loop_and_read() {
+fn nine_names_loop_and_references() {
     let first = Encoder::new().array(40).array(40).a_loop(10, 19, 0, 0).read(1, 0);
     let second = first.a_loop(10, 19, 1, 0).read(0, 0).constant(3).operation(ADD).read(1, 0).operation(ADD);
     let table = second.read(1, 10).operation(ADD).read(1, 9).operation(ADD).read(1, -1).operation(ADD).end().bytes;
-    is(&fed(&["check", "--raw", "-"], &table), 1, "refused 9 1 3\n");
+    is(&fed(&["check", "--raw", "-"], &table), 1, "refused 9 1 0 4\n");
 }
 
 #[test]
@@ -100,7 +109,7 @@ fn plan_has_the_listings_lines_or_the_refusal() {
     is(&run(&["plan", "--raw", EXAMPLE, "-p", "0"]), 1, "refused 10 0\n");
     is(&run(&["plan", "--raw", EXAMPLE, "-p", "65"]), 1, "refused 10 0\n");
     // The program `plan` would say `refused 9 0`.
-    is(&fed(&["plan", "--raw", "-", "-p", "2"], &serial()), 1, "refused 9 0 2\n");
+    is(&fed(&["plan", "--raw", "-", "-p", "2"], &serial()), 1, "refused 9 0 0 3\n");
 }
 
 /// In lines of 4 the blocks are 1 to 8 and 9 to 10.
@@ -133,7 +142,7 @@ fn lines_are_refused_by_number() {
         ] {
             is(&run(&[command, &["--raw", EXAMPLE, "-p", count, "--line", line]].concat()), 1, answer);
         }
-        is(&fed(&[command, &["--raw", "-", "-p2", "--line=0"]].concat(), &serial()), 1, "refused 9 0 2\n");
+        is(&fed(&[command, &["--raw", "-", "-p2", "--line=0"]].concat(), &serial()), 1, "refused 9 0 0 3\n");
     }
     is(&run(&["run", "--raw", EXAMPLE, "-p2", "--line=0", "--memory", "@/dev/null"]), 1, "refused 17 0\n");
     assert!(out.is_absent());
@@ -149,7 +158,7 @@ fn run_says_the_idle_count() {
     is(&run(&["run", "--raw", EXAMPLE, "-p", "6"]), 1, "refused 11 0\n");
     is(&run(&["run", "--raw", EXAMPLE, "-p", "65"]), 1, "refused 10 0\n");
     is(&run(&["run", "--raw", EXAMPLE, "-p", "2", "--memory", "@/dev/null"]), 1, "refused 12 0\n");
-    is(&fed(&["run", "--raw", "-", "-p", "2"], &serial()), 1, "refused 9 0 2\n");
+    is(&fed(&["run", "--raw", "-", "-p", "2"], &serial()), 1, "refused 9 0 0 3\n");
 }
 
 #[test]
@@ -171,7 +180,7 @@ fn run_writes_its_memory_to_a_file() {
 fn dump_has_no_text() {
     is(&run(&["dump", "--raw", EXAMPLE]), 0, "accepted\n");
     is(&fed(&["dump", "--raw", "-"], &bytes(EXAMPLE)), 0, "accepted\n");
-    is(&fed(&["dump", "--raw", "-"], &serial()), 1, "refused 9 0 2\n");
+    is(&fed(&["dump", "--raw", "-"], &serial()), 1, "refused 9 0 0 3\n");
     is(&fed(&["dump", "--raw", "-"], &bytes(EXAMPLE)[..60]), 1, "refused 1 60\n");
 }
 
@@ -185,7 +194,7 @@ fn make_says_whether_its_table_is_accepted() {
     assert_eq!(out.read(), bytes(EXAMPLE));
     let out = Output::new("not-made");
     let make = ["make", "--raw", "-", "-o", &out.0];
-    is(&fed(&make, b"array A 21\nloop 1 10 -> A[i]: A[i+9]\n"), 1, "refused 9 0 0\n");
+    is(&fed(&make, b"array A 21\nloop 1 10 -> A[i]: A[i+9]\n"), 1, "refused 9 0 0 1\n");
     is(&fed(&make, b"array A 12\nloop 1 20 -> A[i]: 1"), 1, "refused 7 5\n");
     is(&fed(&make, b""), 1, "refused 2 0\n");
     assert!(out.is_absent());
@@ -225,7 +234,7 @@ fn join_is_refused_by_number_and_place() {
     is(&run(&["join", "--raw", EXAMPLE, "examples/river.table", "-o", &out.0]), 1, "refused 14 0\n");
     for sides in [["-", EXAMPLE], [EXAMPLE, "-"]] {
         let words = ["join", "--raw", sides[0], sides[1], "-o", &out.0];
-        is(&fed(&words, &serial()), 1, "refused 9 0 2\n");
+        is(&fed(&words, &serial()), 1, "refused 9 0 0 3\n");
         is(&fed(&words, &bytes(EXAMPLE)[..60]), 1, "refused 1 60\n");
     }
     // 16 loops and one more are too many in all, at place 0.
@@ -244,7 +253,7 @@ fn draw_has_the_listings_lines() {
     assert_eq!(String::from_utf8_lossy(&out.read()), run(&["draw", EXAMPLE, "-p", "2"]).out);
     let out = Output::new("no-picture");
     is(&run(&["draw", "--raw", EXAMPLE, "-p", "6", "-o", &out.0]), 1, "refused 11 0\n");
-    is(&fed(&["draw", "--raw", "-", "-p", "2", "-o", &out.0], &serial()), 1, "refused 9 0 2\n");
+    is(&fed(&["draw", "--raw", "-", "-p", "2", "-o", &out.0], &serial()), 1, "refused 9 0 0 3\n");
     assert!(out.is_absent());
 }
 
@@ -253,12 +262,12 @@ fn draw_has_the_listings_lines() {
 fn several_files_have_their_answers_in_order() {
     let files = ["README.md", EXAMPLE, "-", EXAMPLE];
     let all = |words: &[&str]| fed(&[words, &["--raw"], &files].concat(), &serial());
-    is(&all(&["check"]), 1, "refused 2 0\naccepted\nrefused 9 0 2\naccepted\n");
-    is(&all(&["check", "-q"]), 1, "refused 2 0\nrefused 9 0 2\n");
-    is(&all(&["dump"]), 1, "refused 2 0\naccepted\nrefused 9 0 2\naccepted\n");
-    is(&all(&["plan", "-p", "2"]), 1, &format!("refused 2 0\n{LISTING}refused 9 0 2\n{LISTING}"));
-    is(&all(&["plan", "-p", "6"]), 1, "refused 2 0\nrefused 11 0\nrefused 9 0 2\nrefused 11 0\n");
-    is(&all(&["run", "-p", "2", "--order", "7,7"]), 1, "refused 2 0\nidle 2\nrefused 9 0 2\nidle 2\n");
+    is(&all(&["check"]), 1, "refused 2 0\naccepted\nrefused 9 0 0 3\naccepted\n");
+    is(&all(&["check", "-q"]), 1, "refused 2 0\nrefused 9 0 0 3\n");
+    is(&all(&["dump"]), 1, "refused 2 0\naccepted\nrefused 9 0 0 3\naccepted\n");
+    is(&all(&["plan", "-p", "2"]), 1, &format!("refused 2 0\n{LISTING}refused 9 0 0 3\n{LISTING}"));
+    is(&all(&["plan", "-p", "6"]), 1, "refused 2 0\nrefused 11 0\nrefused 9 0 0 3\nrefused 11 0\n");
+    is(&all(&["run", "-p", "2", "--order", "7,7"]), 1, "refused 2 0\nidle 2\nrefused 9 0 0 3\nidle 2\n");
     is(&run(&["check", "--raw", EXAMPLE, EXAMPLE]), 0, "accepted\naccepted\n");
     is(&run(&["run", "--raw", "-p", "2", "--order", "none", EXAMPLE, EXAMPLE]), 0, "idle 0\nidle 0\n");
 }
@@ -348,7 +357,9 @@ fn what_would_stand_beside_the_answer_is_a_usage_error() {
 #[test]
 fn help_says_the_forms() {
     let help = run(&["--help"]).out;
-    for said in ["--raw", "refused NUMBER PLACE", "refused 9 LOOP READ", "accepted", "idle N", "the count of bytes written"] {
+    for said in
+        ["--raw", "refused NUMBER PLACE", "refused 9 LOOP LOWER HIGHER", "accepted", "idle N", "the count of bytes written"]
+    {
         assert!(help.contains(said), "{said}");
     }
 }

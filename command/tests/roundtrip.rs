@@ -29,8 +29,11 @@ fn accepted_tables_come_back_as_the_same_bytes() {
             same(&encode(&tables::aligned(&mut random, &shape)));
         }
     }
-    for reads in 0..=4 {
-        same(&encode(&tables::full(&mut random, reads, 4)));
+    for (statements, reads) in (1..=4).flat_map(|statements| (0..=4).map(move |reads| (statements, reads))) {
+        same(&encode(&tables::full(&mut random, statements, reads, 4)));
+    }
+    for name in ["boundary", "coast", "example", "jacobi", "ll18", "reach", "river"] {
+        same(&std::fs::read(format!("{}/../examples/{name}.table", env!("CARGO_MANIFEST_DIR"))).expect("the table"));
     }
 }
 
@@ -48,6 +51,7 @@ fn damaged_tables_have_a_text() {
         let good = encode(&tables::any(&mut random, &SMALL));
         dump(&damage::change_byte(&mut random, &good));
         dump(&damage::remove_byte(&mut random, &good));
+        dump(&damage::statement(&mut random, &good));
         dump(&damage::random_bytes(&mut random, 80));
         dump(&good[..random.below(good.len())]);
     }

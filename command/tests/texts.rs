@@ -12,7 +12,7 @@ const RIVER: &str = "examples/river.txt";
 /// What is printed of a text is what is printed of its table, but for the file's name.
 #[test]
 fn a_text_is_taken_as_its_table() {
-    for name in ["boundary", "example", "jacobi", "ll18", "river"] {
+    for name in ["boundary", "coast", "example", "jacobi", "ll18", "reach", "river"] {
         let (text, table) = (format!("examples/{name}.txt"), format!("examples/{name}.table"));
         let same = |words: &[&str]| {
             let (left, right) = (run(&[words, &[&text]].concat()), run(&[words, &[&table]].concat()));
@@ -112,7 +112,7 @@ fn told_of(place: &str, line: &str, marks: &str, what: &str) -> String {
 }
 
 /// Wrong lines behind an array H: the line, the mark below it, what is said.
-const WRONG: [(&str, &str, &str); 33] = [
+const WRONG: [(&str, &str, &str); 37] = [
     ("loop 1 10 -> H[i]: H[i] -1 +", "                        ^^", NEGATIVE_1),
     ("loop 1 10 -> H[i]: -20", "                   ^^^", NEGATIVE_20),
     (
@@ -155,6 +155,14 @@ const WRONG: [(&str, &str, &str); 33] = [
     ("loop 1 -> H[i]: 1", "^^^^", "a loop is 'loop FIRST LAST -> NAME[i+OFFSET]: ITEMS'"),
     ("loop 1 10 H[i]: 1", "^^^^", "a '->' is missing: a loop is 'loop FIRST LAST -> NAME[i+OFFSET]: ITEMS'"),
     ("loop 1 10 -> H[i] 1", "^^^^", NO_COLON),
+    (
+        "loop 1 10 -> H[i]: 1 -> H[i]: 2",
+        "                     ^^",
+        "'->' is no item: a further statement is '-> NAME[i+OFFSET]: ITEMS' in a line of its own",
+    ),
+    ("-> H[i] 1", "^^", "a ':' is missing: a further statement is '-> NAME[i+OFFSET]: ITEMS' in a line of its own"),
+    ("  -> Q[i]: 1", "     ^", "no array 'Q'; there is H"),
+    ("->H: 1", "  ^", "'H' is not what a loop stores: NAME[i], NAME[i+3] or NAME[i-3]"),
     ("array Q -5", "        ^^", "'-5' is not a length, 1 to 65536 (it is not negative)"),
     ("array Q 1e3", "        ^^^", "'1e3' is not a length, 1 to 65536"),
     ("array 2 10", "      ^", "'2' is not a name: a letter, then letters, digits or _"),
@@ -232,7 +240,7 @@ fn long_lines_are_shown_in_part() {
 }
 
 /// Refused texts: the line of the word in question, the mark below that line, what is said.
-const REFUSED: [(&str, usize, &str, &str); 8] = [
+const REFUSED: [(&str, usize, &str, &str); 14] = [
     (
         "array H 12\narray Q 70000\n",
         2,
@@ -275,6 +283,42 @@ const REFUSED: [(&str, usize, &str, &str); 8] = [
         "                                  ^^^^",
         "6 body at record 10 (read), byte 57: a 9th waiting number, at most 8 may wait",
     ),
+    (
+        "array H 12\n-> H[i]: 1\n",
+        2,
+        "^^",
+        "2 kind at record 1 (statement), byte 5: a statement before any loop, it is a further one of a loop",
+    ),
+    (
+        "array H 12\nloop 1 2 -> H[i]: 1\n  -> H[i]:\n",
+        3,
+        "  ^^",
+        "6 body at record 4 (end), byte 26: the body of statement 1 of loop 0 is empty, one number must be left",
+    ),
+    (
+        "array H 12\nloop 1 2 -> H[i]: 1\n  -> H[i]: 1 2\n",
+        3,
+        "             ^",
+        "6 body at record 6 (end), byte 36: the body of statement 1 of loop 0 leaves 2 numbers, one must be left",
+    ),
+    (
+        "array H 12\nloop 1 2 -> H[i]: 1\n  -> H[i+300]: 2\n",
+        3,
+        "        ^^^^",
+        "3 field at record 3 (statement), byte 22: offset 300, allowed are -255 to 255",
+    ),
+    (
+        "array H 12\nloop 1 10 -> H[i]: 1\n  -> H[i+2]: 2\n",
+        3,
+        "     ^^^^^^",
+        "7 edge at record 3 (statement), byte 22: H[i+2] reaches elements 3 to 12 for i = 1 to 10, H has 0 to 11",
+    ),
+    (
+        "array H 12\nloop 1 2 -> H[i]: 1\n-> H[i]: 2\n-> H[i]: 3\n-> H[i]: 4\n-> H[i]: 5\n",
+        6,
+        "^^",
+        "4 crowd at record 9 (statement), byte 49: a 5th statement of loop 0, at most 4 are allowed",
+    ),
     ("array H 12\narray Q 12\n", 2, "^^^^^", "2 kind at record 2 (end), byte 10: the end comes before any loop"),
 ];
 
@@ -295,12 +339,49 @@ fn refusals_are_told_with_their_word() {
 fn meeting_iterations_are_told_with_names() {
     let text = "array Stage 12\narray Q 12\nloop 1 10 -> Stage[i]: Q[i]\n  Stage[i-1] +\n";
     let said = "\
--:4:3: refused 9 serial at loop 0 (record 2, byte 10), its read 1 (record 4, byte 26): iteration 2 reads Stage[1], which iteration 1 stores
+-:4:3: refused 9 serial at loop 0, references 0 (record 2, byte 10) and 2 (record 4, byte 26): \
+iteration 2 reads Stage[1], which iteration 1 stores
 \x20 loop 0, i = 1 to 10: Stage[i] = Q[i] + Stage[i-1]
-\x20                                        ^^^^^^^^^^ iteration i reads the element that the earlier iteration i-1 stores (i = 2 to 10)
+\x20                      ^^^^^^^^          ^^^^^^^^^^ iteration i reads the element that the earlier iteration i-1 stores (i = 2 to 10)
 ";
     assert_eq!(run_of(&["check", "-"], text), (1, said.to_string(), String::new()));
     assert_eq!(run_of(&["run", "-p2", "-"], text), (1, String::new(), said.to_string()));
+}
+
+/// A line for each further statement, and all of them in the comment.
+#[test]
+fn a_dump_has_a_line_for_each_statement() {
+    let wanted = "\
+array H 200
+array Q 200
+array HN 200
+array QN 200
+# loop 0: QN[i] = Q[i] * 9 / 10 + (H[i-1] - H[i+1]) / 5; HN[i] = H[i] + (Q[i-1] - QN[i]) / 50
+loop 1 198 -> QN[i]: Q[i] 9 * 10 / H[i-1] H[i+1] - 5 / +
+\x20 -> HN[i]: H[i] Q[i-1] QN[i] - 50 / +
+# loop 1: Q[i] = QN[i]; H[i] = HN[i]
+loop 1 198 -> Q[i]: QN[i]
+\x20 -> H[i]: HN[i]
+";
+    assert_eq!(run_of(&["dump", "examples/reach.txt"], ""), (0, wanted.to_string(), String::new()));
+    let numbered = run_of(&["dump", "examples/reach.table"], "").1;
+    let named = [("A0", "H"), ("A1", "Q"), ("A2", "HN"), ("A3", "QN")];
+    assert_eq!(named.iter().fold(numbered, |text, (number, name)| text.replace(number, name)), wanted);
+}
+
+/// A statement's items go on in further lines, as a loop's do, and blanks around the arrow are free.
+#[test]
+fn statements_may_be_written_in_several_ways() {
+    let table = bytes("examples/reach.table");
+    let text = String::from_utf8(bytes("examples/reach.txt")).expect("text");
+    for changed in [
+        text.replace("  -> ", "->"),
+        text.replace("  -> ", "\t->  "),
+        text.replace("HN[i]: H[i] Q[i-1]", "HN[i]:\n  H[i] # the stage\n\n  Q[i-1]"),
+        text.replace("\n", "\r\n"),
+    ] {
+        assert_eq!(make(&changed).expect("a text").bytes, table, "{changed}");
+    }
 }
 
 /// A wrong text counts as one that is refused, and the others are still done.
@@ -343,11 +424,11 @@ fn stands(text: &str, line: usize, column: usize, token: &str) {
 #[test]
 fn whatever_is_wrong_with_a_text_stands_where_it_is_told() {
     let mut random = Random::new(71);
-    let examples =
-        ["example", "jacobi", "river"].map(|name| String::from_utf8(bytes(&format!("examples/{name}.txt"))).expect("text"));
+    let examples = ["coast", "example", "reach", "river"]
+        .map(|name| String::from_utf8(bytes(&format!("examples/{name}.txt"))).expect("text"));
     let (mut wrong, mut refused) = (0, 0);
     for round in 0..6_000 {
-        let text = scribbled(&mut random, &examples[round % 3]);
+        let text = scribbled(&mut random, &examples[round % 4]);
         let made = match make(&text) {
             Ok(made) => made,
             Err(error) => {
@@ -358,8 +439,8 @@ fn whatever_is_wrong_with_a_text_stands_where_it_is_told() {
             }
         };
         if let Err(refusal) = vempaldi::check(&made.bytes) {
-            let found = match refusal.read() {
-                Some(read) => explain_serial(&made.bytes, &made.names, refusal.place, read),
+            let found = match refusal.references() {
+                Some(pair) => explain_serial(&made.bytes, &made.names, refusal.place, pair),
                 None => explain(&made.bytes, &made.names, &refusal),
             };
             let found = found.unwrap_or_else(|| panic!("no words for {refusal}\n{text}"));

@@ -29,7 +29,7 @@ static void stop_if_refused(const char *what, const uint64_t answer[4]) {
     if (answer[0] == VEMPALDI_ACCEPTED) return;
     const char *word = answer[0] < sizeof words / sizeof *words ? words[answer[0]] : "unknown";
     fprintf(stderr, "%s: refused %" PRIu64 " %s, place %" PRIu64, what, answer[0], word, answer[1]);
-    if (answer[0] == VEMPALDI_SERIAL) fprintf(stderr, ", read %" PRIu64, answer[2]);
+    if (answer[0] == VEMPALDI_SERIAL) fprintf(stderr, ", references %" PRIu64 " and %" PRIu64, answer[2], answer[3]);
     if (answer[0] == VEMPALDI_UNMET) fprintf(stderr, ", loop %" PRIu64, answer[2]);
     fprintf(stderr, "\n");
     exit(1);

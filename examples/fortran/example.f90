@@ -111,7 +111,7 @@ contains
     if (answer(1) == vempaldi_accepted) return
     write (error_unit, '(2a,i0,3a,i0)', advance='no') what, ': refused ', answer(1), ' ', vempaldi_word(answer(1)), &
       ', place ', answer(2)
-    if (answer(1) == vempaldi_serial) write (error_unit, '(a,i0)', advance='no') ', read ', answer(3)
+    if (answer(1) == vempaldi_serial) write (error_unit, '(2(a,i0))', advance='no') ', references ', answer(3), ' and ', answer(4)
     if (answer(1) == vempaldi_unmet) write (error_unit, '(a,i0)', advance='no') ', loop ', answer(3)
     write (error_unit, '(a)') ''
     stop 1, quiet=.true.

@@ -63,6 +63,8 @@ static void call(const char *name, const int64_t *n)
             fail("an array's number is not the next");
     } else if (strcmp(name, "loop") == 0) {
         vempaldi_builder_open_loop(builder, n[0], n[1], n[2], n[3]);
+    } else if (strcmp(name, "statement") == 0) {
+        vempaldi_builder_statement(builder, n[0], n[1]);
     } else if (strcmp(name, "read") == 0) {
         vempaldi_builder_read(builder, n[0], n[1]);
     } else if (strcmp(name, "constant") == 0) {

@@ -4,6 +4,7 @@ BEGIN { split("+ - * / neg", names); for (k = 1; k <= 5; k++) code[names[k]] = k
 { sub(/#.*/, ""); sub(/:/, " ") }
 $1 == "array" { print "array", $3; number[$2] = arrays++; next }
 $1 == "loop" { print "loop", $2, $3, reference($5); items(6); next }
+$1 == "->" { print "statement", reference($2); items(3); next }
 { items(1) }
 END { print "end" }
 

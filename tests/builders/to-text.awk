@@ -6,6 +6,7 @@ function reference(array, offset) { return "A" array "[i" (offset < 0 ? offset :
 
 $1 == "array" { print "array A" arrays++, $2 > text }
 $1 == "loop" { print "loop", $2, $3, "->", reference($4, $5) ":" > text }
+$1 == "statement" { print "->", reference($2, $3) ":" > text }
 $1 == "read" { print reference($2, $3) > text }
 $1 == "constant" { print $2 > text }
 $1 == "operation" { print operations[$2] > text }

@@ -3,10 +3,10 @@
 use std::error::Error;
 use std::fmt;
 
-/// How many bytes follow a record's kind byte, by kind: array, loop, read, constant, operation, end. There is no kind 0.
-pub const BODY_LENGTHS: [usize; 7] = [0, 4, 11, 3, 4, 1, 0];
+/// How many bytes follow a record's kind byte, by kind: array, loop, read, constant, operation, end, statement. There is no kind 0.
+pub const BODY_LENGTHS: [usize; 8] = [0, 4, 11, 3, 4, 1, 0, 3];
 
-/// The room of a builder, in bytes: the 2,077 that decide, and the rest of the longest record that begins at the last of them. Every
+/// The room of a builder, in bytes: the 2,362 that decide, and the rest of the longest record that begins at the last of them. Every
 /// accepted table fits. Where a record does not, the bytes that decide are all there.
 pub const BUILDER_BYTES: usize = crate::DECIDING_BYTES + BODY_LENGTHS[LOOP];
 
@@ -16,6 +16,7 @@ const READ: usize = 3;
 const CONSTANT: usize = 4;
 const OPERATION: usize = 5;
 const END: usize = 6;
+const STATEMENT: usize = 7;
 
 /// The operations of a body. All but negate take two waiting numbers, the later one being the right operand.
 #[derive(Clone, Copy, Debug, PartialEq, Eq, Hash)]
@@ -106,8 +107,7 @@ impl Builder {
     }
 
     /// Opens a loop: i goes from `first` to `last`, and element i + `offset` of the array `destination` is stored. The items of its body
-    /// follow; the next loop or the end closes it. (One statement a loop; a call that opens a further statement can come to stand beside
-    /// this one.)
+    /// follow; a further statement, the next loop or the end closes it.
     pub fn open_loop(
         &mut self,
         first: impl TryInto<u32>,
@@ -117,6 +117,30 @@ impl Builder {
     ) {
         let parts = [number(first), number(last), reference(destination, offset)];
         self.record(LOOP, parts.into_iter().collect::<Option<Vec<_>>>().map(|parts| parts.concat()));
+    }
+
+    /// Opens a further statement of the loop, behind a finished body: in the same iteration, element i + `offset` of `array` is stored
+    /// next. The items of its own body follow. A loop has up to four statements, that of [`open_loop`](Builder::open_loop) among them.
+    ///
+    /// ```
+    /// use vempaldi::{Builder, Operation};
+    ///
+    /// let mut builder = Builder::new();
+    /// let [from, sum, difference] = [12; 3].map(|length| builder.array(length));
+    /// builder.open_loop(1, 10, sum, 0); // for i = 1 to 10: sum[i] = from[i-1] + from[i+1]
+    /// builder.read(from, -1);
+    /// builder.read(from, 1);
+    /// builder.operation(Operation::Add);
+    /// builder.statement(difference, 0); // and difference[i] = sum[i] - from[i]
+    /// builder.read(sum, 0);
+    /// builder.read(from, 0);
+    /// builder.operation(Operation::Subtract);
+    /// let table = builder.end()?;
+    /// assert_eq!(vempaldi::check(&table), Ok(()));
+    /// # Ok::<(), vempaldi::BuildError>(())
+    /// ```
+    pub fn statement(&mut self, array: impl TryInto<u8>, offset: impl TryInto<i16>) {
+        self.record(STATEMENT, reference(array, offset));
     }
 
     /// An item: element i + `offset` of an array.

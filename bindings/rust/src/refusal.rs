@@ -34,7 +34,7 @@ const GROUNDS: [(Ground, u64, &str, &str); 18] = [
     (Ground::Torn, 1, "torn", "the bytes end inside a record or before the end record"),
     (Ground::Kind, 2, "kind", "a kind is unknown or out of its order, or there is no array or loop before the end"),
     (Ground::Field, 3, "field", "a field is outside its range, or first is above last"),
-    (Ground::Crowd, 4, "crowd", "one array, loop, item or element too many"),
+    (Ground::Crowd, 4, "crowd", "one array, loop, statement, item or element too many"),
     (Ground::Array, 5, "array", "there is no array of that number"),
     (Ground::Body, 6, "body", "too few waiting numbers, a ninth, or not one left"),
     (Ground::Edge, 7, "edge", "some iteration reaches outside the array"),
@@ -89,8 +89,8 @@ pub struct Refusal {
     /// For torn to tail a byte of the table (for crowd 0 where joined tables have too many loops in all), for serial a loop, for unmet the
     /// earlier loop, else 0.
     pub place: u64,
-    /// What the refusal names. For serial the lowest read of that loop that meets the destination in another iteration, numbered from 0
-    /// among the loop's reads in byte order, and 0; for unmet the later loop, and 0; else two zeros.
+    /// What the refusal names. For serial two references of that loop, the lower and the higher one; for unmet the later loop, and 0; else two
+    /// zeros.
     pub named: [u64; 2],
 }
 
@@ -103,9 +103,27 @@ impl Refusal {
         }
     }
 
-    /// The read that serial names, and nothing for the other grounds.
-    pub fn read(&self) -> Option<u64> {
-        (self.ground == Ground::Serial).then_some(self.named[0])
+    /// The pair of references that serial names, the lower and the higher one, and nothing for the other grounds: at least one of them is a
+    /// destination, and two different iterations of the loop are at one element with them. A loop's references are its destinations and
+    /// its reads, numbered from 0 in byte order, so that 0 is the destination of the loop's own record. Of all such pairs it is the one whose
+    /// lower number is least, and with that whose higher number is least.
+    ///
+    /// ```
+    /// use vempaldi::{check, Builder};
+    ///
+    /// let mut builder = Builder::new();
+    /// let [h, q] = [12; 2].map(|length| builder.array(length));
+    /// builder.open_loop(1, 10, h, 0); // reference 0: for i = 1 to 10: h[i] = q[i]
+    /// builder.read(q, 0); // reference 1
+    /// builder.statement(q, 1); // reference 2: and q[i+1] = 5
+    /// builder.constant(5);
+    /// let refusal = check(&builder.end()?).unwrap_err();
+    /// assert_eq!(refusal.references(), Some((1, 2))); // iteration 2 reads q[2], which iteration 1 stores
+    /// # Ok::<(), vempaldi::BuildError>(())
+    /// ```
+    pub fn references(&self) -> Option<(usize, usize)> {
+        let number = |at: usize| usize::try_from(self.named[at]).ok();
+        (self.ground == Ground::Serial).then_some((number(0)?, number(1)?))
     }
 
     /// The two loops of unmet, the earlier and the later one, and nothing for the other grounds: some dependence from the one to the other is
@@ -123,8 +141,8 @@ impl Refusal {
 impl fmt::Display for Refusal {
     fn fmt(&self, out: &mut fmt::Formatter<'_>) -> fmt::Result {
         write!(out, "refused {} {}", self.ground.number(), self.ground.word())?;
-        if let Some(read) = self.read() {
-            write!(out, " at loop {}, read {read}", self.place)?;
+        if let Some((lower, higher)) = self.references() {
+            write!(out, " at loop {}, references {lower} and {higher}", self.place)?;
         } else if let Some((earlier, later)) = self.loops() {
             write!(out, " from loop {earlier} to loop {later}")?;
         } else if self.ground.has_byte() && !self.of_both() {

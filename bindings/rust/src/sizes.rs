@@ -10,10 +10,10 @@ pub const LONGEST_LINE: u32 = 64;
 pub const MOST_AMOUNT: u32 = 10_000;
 
 /// The longest accepted table, so also the longest joined one.
-pub const TABLE_BYTES: usize = 2_065;
+pub const TABLE_BYTES: usize = 2_353;
 
 /// No byte past these changes an answer: reading so many of a file is enough.
-pub const DECIDING_BYTES: usize = 2_077;
+pub const DECIDING_BYTES: usize = 2_362;
 
 /// Facts of 16 arrays and 16 loops.
 pub const FACTS_BYTES: usize = 268;

@@ -97,7 +97,7 @@ fn the_river_is_built_from_numbers_of_other_types() {
 /// Each record has its kind and as many bytes behind it as its row says.
 #[test]
 fn every_record_has_the_length_of_its_kind() {
-    let calls: [fn(&mut Builder); 6] = [
+    let calls: [fn(&mut Builder); 7] = [
         |b| {
             b.array(1);
         },
@@ -106,6 +106,7 @@ fn every_record_has_the_length_of_its_kind() {
         |b| b.constant(1),
         |b| b.operation(1),
         |b| drop(b.end()),
+        |b| b.statement(1, 2),
     ];
     for (call, kind) in calls.iter().zip(1..) {
         let mut builder = Builder::new();
@@ -129,24 +130,30 @@ fn the_first_error_stays_and_nothing_follows_it() {
     assert_eq!(error.to_string(), "record 1 of the table cannot be written: a number does not fit its field");
 }
 
-/// The longest row of records that meets no ground: 16 arrays, 15 loops whose bodies are as long as can be, and a last body of 20 constants
-/// and 12 operations that leaves eight numbers waiting.
+/// A body of constants, sums of each with what waits before it, and constants that are left to wait.
+fn constants(builder: &mut Builder, sums: usize, left: usize) {
+    builder.constant(1);
+    for _ in 0..sums {
+        builder.constant(1);
+        builder.operation(Operation::Add);
+    }
+    (0..left).for_each(|_| builder.constant(1));
+}
+
+/// The longest row of records that meets no ground: 16 arrays, 15 loops that are as long as can be, with four statements of 18 constants and 14
+/// sums, and a last loop of 21 constants and 11 sums in four statements, of which the last leaves seven numbers waiting.
 fn furthest() -> Builder {
     let mut builder = Builder::new();
     for _ in 0..16 {
         builder.array(1);
     }
     for number in 0..16 {
+        let (sums, left) = if number < 15 { (14, 0) } else { (11, 6) };
         builder.open_loop(0, 0, number, 0);
-        builder.constant(1);
-        let pairs = if number < 15 { 15 } else { 12 };
-        for _ in 0..pairs {
-            builder.constant(1);
-            builder.operation(Operation::Add);
-        }
-        match number {
-            15 => (0..7).for_each(|_| builder.constant(1)),
-            _ => builder.operation(Operation::Negate),
+        constants(&mut builder, sums, 0);
+        for statement in 1..4 {
+            builder.statement(number, 0);
+            constants(&mut builder, 0, if statement == 3 { left } else { 0 });
         }
     }
     builder
@@ -156,22 +163,23 @@ fn furthest() -> Builder {
 #[test]
 fn the_room_holds_what_decides() {
     let fits = furthest();
-    assert_eq!(fits.bytes().len(), 2_076);
-    assert_eq!(BUILDER_BYTES, 2_088);
+    assert_eq!(fits.bytes().len(), 2_361);
+    assert_eq!(BUILDER_BYTES, 2_373);
 
     let mut ended = fits.clone();
-    let refusal = check(&ended.end().expect("there is room")).expect_err("eight numbers wait");
-    assert_eq!((refusal.ground.number(), refusal.place), (6, 2_076));
+    let refusal = check(&ended.end().expect("there is room")).expect_err("seven numbers wait");
+    assert_eq!((refusal.ground.number(), refusal.place), (6, 2_361));
 
     let mut longer = fits.clone();
     longer.open_loop(0, 0, 0, 0);
-    assert_eq!((longer.error(), longer.bytes().len()), (None, 2_088));
+    assert_eq!((longer.error(), longer.bytes().len()), (None, 2_373));
     longer.operation(Operation::Add);
     let error = longer.end().expect_err("no room for a byte");
-    assert_eq!((error.record, error.fault), (16 + 16 * 33 + 1, BuildFault::Room));
-    let refusal = check(longer.bytes()).expect_err("eight numbers wait");
-    assert_eq!((refusal.ground.number(), refusal.place), (6, 2_076));
-    assert_eq!(error.to_string(), "record 545 of the table cannot be written: there is no room for it");
+    // A loop has its own record, three of further statements and 32 items.
+    assert_eq!((error.record, error.fault), (16 + 16 * 36 + 1, BuildFault::Room));
+    let refusal = check(longer.bytes()).expect_err("seven numbers wait");
+    assert_eq!((refusal.ground.number(), refusal.place), (6, 2_361));
+    assert_eq!(error.to_string(), "record 593 of the table cannot be written: there is no room for it");
 }
 
 /// tests/builders.sh gives a script of calls in one file and takes the lines in another, as its programs in C and Fortran print them, and
@@ -214,6 +222,7 @@ fn call(builder: &mut Builder, name: &str, n: &[i64]) {
             builder.array(length);
         }
         ("loop", &[first, last, destination, offset]) => builder.open_loop(first, last, destination, offset),
+        ("statement", &[array, offset]) => builder.statement(array, offset),
         ("read", &[array, offset]) => builder.read(array, offset),
         ("constant", &[value]) => builder.constant(value),
         ("operation", &[operation]) => builder.operation(operation),

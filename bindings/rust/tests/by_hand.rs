@@ -86,7 +86,7 @@ fn numbers_and_bytes_are_one_plan() {
 fn a_refusal_says_both_loops() {
     let refusal = check_plan(EXAMPLE, Settings::new(2).amounts([(0, 0), (0, 0)])).expect_err("refused");
     assert_eq!(refusal.loops(), Some((0, 1)));
-    assert_eq!(refusal.read(), None);
+    assert_eq!(refusal.references(), None);
     assert_eq!(refusal.to_string(), "refused 20 unmet from loop 0 to loop 1: a plan by hand does not meet some dependence");
     let refusal = check_plan(EXAMPLE, Settings::new(2).plan(&[])).expect_err("refused");
     assert_eq!(refusal.loops(), None);
@@ -97,7 +97,7 @@ fn a_refusal_says_both_loops() {
 fn tables() -> Vec<Vec<u8>> {
     let directory = concat!(env!("CARGO_MANIFEST_DIR"), "/../../examples");
     let read = |name| fs::read(format!("{directory}/{name}.table")).expect("the table");
-    ["example", "boundary", "jacobi", "ll18", "river"].map(read).into()
+    ["example", "boundary", "coast", "jacobi", "ll18", "reach", "river"].map(read).into()
 }
 
 /// The table's own shifts and peels, written by hand, change nothing.
@@ -171,13 +171,15 @@ fn every_call_asks_19_then_20_then_the_rest() {
     assert_eq!(grounds(EXAMPLE, Settings::new(1).amounts([(0, 0), (10_000, 10_000)]), 0, 36, 0), [0; 9]);
 }
 
-/// A loop of a made table: bounds, the array and offset that it stores, and those that it reads.
+/// A loop of a made table: bounds, and for each statement the array and offset that it stores, and those that it reads.
 struct Made {
     first: u32,
     last: u32,
-    stores: (u32, i64),
-    reads: Vec<(u32, i64)>,
+    statements: Vec<(Referred, Vec<Referred>)>,
 }
+
+/// An array and an offset.
+type Referred = (u32, i64);
 
 /// Numbers that look drawn, the same in every run.
 struct Drawn(u64);
@@ -191,15 +193,18 @@ impl Drawn {
 
 const LENGTH: i64 = 60;
 
-/// Loops over four arrays. A loop reads no element of the array that it stores, so that its iterations never meet.
+/// Loops over four arrays, of one statement to three. A loop stores no array twice and reads none that it stores, so that its iterations
+/// never meet.
 fn made(drawn: &mut Drawn) -> Vec<Made> {
     let a_loop = |drawn: &mut Drawn| {
         let first = 8 + drawn.below(30) as u32;
         let last = first + drawn.below(u64::from(52 - first)) as u32;
-        let stores = drawn.below(4) as u32;
+        let (stores, count) = (drawn.below(4) as u32, 1 + drawn.below(3) as u32);
         let offset = |drawn: &mut Drawn| drawn.below(9) as i64 - 4;
-        let reads = (0..1 + drawn.below(3)).map(|_| ((stores + 1 + drawn.below(3) as u32) % 4, offset(drawn))).collect();
-        Made { first, last, stores: (stores, offset(drawn)), reads }
+        let read = |drawn: &mut Drawn| ((stores + count + drawn.below(u64::from(4 - count)) as u32) % 4, offset(drawn));
+        let reads = |drawn: &mut Drawn| (0..1 + drawn.below(3)).map(|_| read(drawn)).collect();
+        let statements = (0..count).map(|at| (((stores + at) % 4, offset(drawn)), reads(drawn))).collect();
+        Made { first, last, statements }
     };
     (0..2 + drawn.below(4)).map(|_| a_loop(drawn)).collect()
 }
@@ -208,11 +213,16 @@ fn bytes(loops: &[Made]) -> Vec<u8> {
     let mut b = Builder::new();
     let arrays = [LENGTH as u32; 4].map(|length| b.array(length));
     for one in loops {
-        b.open_loop(one.first, one.last, arrays[one.stores.0 as usize], one.stores.1 as i32);
-        for (at, read) in one.reads.iter().enumerate() {
-            b.read(arrays[read.0 as usize], read.1 as i32);
-            if at > 0 {
-                b.operation(Operation::Add);
+        for (at, ((array, offset), reads)) in one.statements.iter().enumerate() {
+            match at {
+                0 => b.open_loop(one.first, one.last, arrays[*array as usize], *offset as i32),
+                _ => b.statement(arrays[*array as usize], *offset as i32),
+            }
+            for (at, read) in reads.iter().enumerate() {
+                b.read(arrays[read.0 as usize], read.1 as i32);
+                if at > 0 {
+                    b.operation(Operation::Add);
+                }
             }
         }
     }
@@ -222,8 +232,11 @@ fn bytes(loops: &[Made]) -> Vec<u8> {
 /// The distances of the dependences from one loop to a later one: iteration i of the one meets iteration i + d of the other.
 fn distances(earlier: &Made, later: &Made) -> Vec<i64> {
     let references = |one: &Made| {
-        let reads = one.reads.iter().map(|read| (read.0, read.1, false));
-        reads.chain([(one.stores.0, one.stores.1, true)]).collect::<Vec<_>>()
+        let of_statement = |(stored, reads): &(Referred, Vec<Referred>)| {
+            let reads = reads.iter().map(|read| (read.0, read.1, false));
+            reads.chain([(stored.0, stored.1, true)]).collect::<Vec<_>>()
+        };
+        one.statements.iter().flat_map(of_statement).collect::<Vec<_>>()
     };
     let mut found = Vec::new();
     for (array, offset, stores) in references(earlier) {

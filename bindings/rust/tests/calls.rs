@@ -125,17 +125,19 @@ const SERIAL: &[u8] = &[
     6,
 ];
 
+/// The destination is reference 0, and the third read reference 3.
 #[test]
-fn serial_names_the_lowest_colliding_read() {
+fn serial_names_the_lowest_colliding_pair() {
     let refusal = check(SERIAL).expect_err("refused");
-    assert_eq!((refusal.ground, refusal.place, refusal.named), (Ground::Serial, 0, [2, 0]));
-    assert_eq!(refusal.read(), Some(2));
-    let text = "refused 9 serial at loop 0, read 2: two different iterations of one loop meet at an element, one storing";
+    assert_eq!((refusal.ground, refusal.place, refusal.named), (Ground::Serial, 0, [0, 3]));
+    assert_eq!(refusal.references(), Some((0, 3)));
+    let text =
+        "refused 9 serial at loop 0, references 0 and 3: two different iterations of one loop meet at an element, one storing";
     assert_eq!(refusal.to_string(), text);
 }
 
 #[test]
-fn every_call_names_the_same_read() {
+fn every_call_names_the_same_pair() {
     let serial = check(SERIAL).expect_err("refused");
     let mut memory = own_index();
     assert_eq!(join(EXAMPLE, SERIAL), Err(serial));
@@ -161,15 +163,15 @@ fn too_many_loops_in_all_have_no_byte() {
     let nine = [&[1, 1, 0, 0, 0], &one_loop.repeat(9)[..], &[6]].concat();
     let refusal = join(&nine, &nine).expect_err("refused");
     assert_eq!((refusal.ground, refusal.place), (Ground::Crowd, 0));
-    assert_eq!(refusal.to_string(), "refused 4 crowd: one array, loop, item or element too many");
+    assert_eq!(refusal.to_string(), "refused 4 crowd: one array, loop, statement, item or element too many");
 }
 
 #[test]
 fn the_other_grounds_name_nothing() {
     let torn = check(&EXAMPLE[..60]).expect_err("refused");
-    assert_eq!((torn.place, torn.named, torn.read()), (60, [0, 0], None));
+    assert_eq!((torn.place, torn.named, torn.references()), (60, [0, 0], None));
     let short = blocks(EXAMPLE, 6).expect_err("refused");
-    assert_eq!((short.place, short.named, short.read()), (0, [0, 0], None));
+    assert_eq!((short.place, short.named, short.references()), (0, [0, 0], None));
 }
 
 #[test]

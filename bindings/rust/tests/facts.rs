@@ -31,7 +31,7 @@ fn the_example_has_three_arrays_of_12_and_two_loops_from_1_to_10() {
 
 #[test]
 fn the_tables_have_the_arrays_and_loops_of_their_texts() {
-    for name in ["boundary", "example", "jacobi", "ll18", "river"] {
+    for name in ["boundary", "coast", "example", "jacobi", "ll18", "reach", "river"] {
         let table = fs::read(format!("{TABLES}/{name}.table")).expect("the table");
         let text = fs::read_to_string(format!("{TABLES}/{name}.txt")).expect("the text");
         let facts = facts(&table).expect("accepted");

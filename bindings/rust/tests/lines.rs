@@ -12,7 +12,7 @@ type Bounds = Vec<(u32, u32)>;
 fn tables() -> Vec<Vec<u8>> {
     let directory = concat!(env!("CARGO_MANIFEST_DIR"), "/../../examples");
     let read = |name| fs::read(format!("{directory}/{name}.table")).expect("the table");
-    ["example", "boundary", "jacobi", "ll18", "river"].map(read).into()
+    ["example", "boundary", "coast", "jacobi", "ll18", "reach", "river"].map(read).into()
 }
 
 fn bounds(table: &[u8], processors: u32, line: u32) -> Result<Bounds, u64> {

@@ -19,7 +19,7 @@ const APART: &[u8] = &[
 fn tables() -> Vec<Vec<u8>> {
     let directory = concat!(env!("CARGO_MANIFEST_DIR"), "/../../examples");
     let read = |name| fs::read(format!("{directory}/{name}.table")).expect("the table");
-    let mut tables: Vec<Vec<u8>> = ["example", "boundary", "jacobi", "ll18", "river"].map(read).into();
+    let mut tables: Vec<Vec<u8>> = ["example", "boundary", "coast", "jacobi", "ll18", "reach", "river"].map(read).into();
     tables.push(APART.to_vec());
     tables
 }

@@ -24,7 +24,7 @@ pub fn draw(picture: &mut Picture, plan: &Plan, panels: &[Panel], top: f64, widt
     columns(picture, plan, &scale, (top, end), panels);
     for (number, one) in plan.loops.iter().enumerate() {
         let y = top + HEADS + ROW * number as f64;
-        let said = format!("loop {number}: {}", one.statement);
+        let said = format!("loop {number}: {}", one.statements);
         picture.cut((MARGIN, LEFT - MARGIN - 12.0), y + 11.0, &SMALL, &said);
         let (x, length) = scale.span(one.first, one.last);
         let x = x.min(LEFT + width - LEAST);

@@ -16,8 +16,8 @@ const SHIFT_AT: f64 = 300.0;
 const PEEL_AT: f64 = 346.0;
 /// The room of a shift or a peel, and of its head.
 const NUMBER: f64 = 44.0;
-/// Room for a statement: as far as the shifts.
-const STATEMENT: f64 = SHIFT_AT - MARGIN - 8.0;
+/// Room for the statements: as far as the shifts.
+const STATEMENTS: f64 = SHIFT_AT - MARGIN - 8.0;
 const ROW: f64 = 31.0;
 const BAR: f64 = 20.0;
 /// From the top of a panel to its first loop, and from the barrier to the first loop below it.
@@ -156,7 +156,7 @@ impl<'a> View<'a> {
         for (at, &number) in numbers.iter().enumerate() {
             let (one, y) = (&self.plan.loops[number], top + ROW * at as f64);
             picture.text(MARGIN, y + 9.0, &STRONG, &format!("loop {number}"));
-            picture.cut((MARGIN, STATEMENT), y + 22.0, &SMALL, &one.statement);
+            picture.cut((MARGIN, STATEMENTS), y + 22.0, &SMALL, &one.statements);
             picture.centred((SHIFT_AT, NUMBER), y + 14.0, &PLAIN, &one.amounts.shift.to_string());
             picture.centred((PEEL_AT, NUMBER), y + 14.0, &PLAIN, &one.amounts.peel.to_string());
             let (x, length) = self.scale.span(one.first, one.last);

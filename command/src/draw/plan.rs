@@ -1,7 +1,7 @@
 //! What is drawn: a table's plan, as the library gives it.
 
 use crate::by_hand::in_force;
-use crate::infix::assignment;
+use crate::infix::assignments;
 use crate::names::Names;
 use crate::records::decode;
 use std::ops::Range;
@@ -25,7 +25,8 @@ impl Part {
 pub struct Loop {
     pub first: u32,
     pub last: u32,
-    pub statement: String,
+    /// All of them, in words.
+    pub statements: String,
     pub amounts: Amounts,
 }
 
@@ -50,8 +51,8 @@ impl Plan {
         let (amounts, threshold) = in_force(table, settings)?;
         let decoded = decode(table).0.loops;
         let loops = decoded.iter().zip(amounts).map(|(one, amounts)| {
-            let statement = assignment(one, names).map_or(String::new(), |infix| infix.text);
-            Loop { first: one.first, last: one.last, statement, amounts }
+            let statements = assignments(one, names).map_or(String::new(), |infix| infix.text);
+            Loop { first: one.first, last: one.last, statements, amounts }
         });
         Ok(Plan {
             loops: loops.collect(),
