@@ -104,7 +104,7 @@ enum vempaldi_size {
     VEMPALDI_LONGEST_LINE = 64,
     VEMPALDI_MOST_AMOUNT = 10000,   /* no shift and no peel of a plan by hand is above it */
     VEMPALDI_TABLE_BYTES = 2353,    /* the longest accepted table, so also of a joined one */
-    VEMPALDI_DECIDING_BYTES = 2362, /* no byte past these changes an answer: reading so many of a file is enough */
+    VEMPALDI_DECIDING_BYTES = 2364, /* no byte past these changes an answer: reading so many of a file is enough */
     VEMPALDI_FACTS_BYTES = 268,     /* facts of 16 arrays and 16 loops */
     VEMPALDI_AMOUNT_BYTES = 128,    /* shifts and peels of 16 loops, so also of a plan by hand */
     VEMPALDI_RANGE_BYTES = 128,     /* a processor's ranges in 16 loops */

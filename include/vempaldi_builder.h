@@ -47,7 +47,7 @@ enum vempaldi_builder_error {
     VEMPALDI_NO_ROOM = 2   /* a record too many for the room: the table would be refused, and vempaldi_check of the bytes says with what */
 };
 
-/* The room, 2,373 bytes: the bytes that decide, and the rest of the longest record that begins at the last of them. Every accepted table
+/* The room, 2,375 bytes: the bytes that decide, and the rest of the longest record that begins at the last of them. Every accepted table
  * fits. Where a record does not, the bytes that decide are all there, so the library's answer is that of the whole table. */
 enum { VEMPALDI_BUILDER_BYTES = VEMPALDI_DECIDING_BYTES + 11 };
 

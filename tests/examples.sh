@@ -215,7 +215,26 @@ serial_statements() {
 # Sixteen arrays, fifteen of the longest loops that are accepted (four statements with 18 constants and 14 sums in all), and one of 21 constants
 # and 11 sums whose last statement leaves seven numbers. The end record, byte 2,361, finds them. No refusal lies further on.
 longest_table() {
-    local n constant='\4\1\0\0\0' sum='\5\1' head='\2\0\0\0\0\0\0\0\0\0\0\0' statement='\7\0\0\0'
+    longest_loops
+    repeat 11 "$constant$sum"
+    repeat 3 "$statement$constant"
+    repeat 6 "$constant"
+    printf '\6'
+}
+
+# The same with 20 constants and 10 sums before, of which eight wait, and a ninth: its record begins at byte 2,359 and ends with byte 2,363. No
+# record that is looked at ends further on.
+deciding_table() {
+    longest_loops
+    repeat 10 "$constant$sum"
+    repeat 3 "$statement$constant"
+    repeat 8 "$constant"
+}
+
+# The arrays, the fifteen loops, and the sixteenth with its first constant.
+constant='\4\1\0\0\0' sum='\5\1' head='\2\0\0\0\0\0\0\0\0\0\0\0' statement='\7\0\0\0'
+longest_loops() {
+    local n
     repeat 16 '\1\1\0\0\0'
     for n in {1..15}; do
         printf "$head$constant"
@@ -223,10 +242,6 @@ longest_table() {
         repeat 3 "$statement$constant"
     done
     printf "$head$constant"
-    repeat 11 "$constant$sum"
-    repeat 3 "$statement$constant"
-    repeat 6 "$constant"
-    printf '\6'
 }
 
 # repeat COUNT BYTES
@@ -248,6 +263,12 @@ try_refused() {
     says 1 "" "$(refusal facts 6 body 2361)" "$table" 2
     head -c 2361 "$table" > "$made/torn.table"
     says 1 "" "$(refusal facts 1 torn 2361)" "$made/torn.table" 2
+    deciding_table > "$table"
+    [ "$(wc -c < "$table")" -eq 2364 ] || { echo "the longest that is looked at has $(wc -c < "$table") bytes, not 2364"; exit 1; }
+    head -c 3000 /dev/zero >> "$table"
+    says 1 "" "$(refusal facts 6 body 2359)" "$table" 2
+    head -c 2363 "$table" > "$made/torn.table"
+    says 1 "" "$(refusal facts 1 torn 2359)" "$made/torn.table" 2
     : > "$table"
     says 1 "" "$(refusal facts 1 torn 0)" "$table" 2
     head -c 60 examples/example.table > "$table"

@@ -42,7 +42,7 @@ module vempaldi
   ! No plan has more processors, no line more iterations, no plan by hand a higher shift or peel. No byte of a table past the deciding
   ! ones changes an answer. The other sizes always suffice; the procedures below use them.
   integer, parameter, public :: vempaldi_most_processors = 64, vempaldi_longest_line = 64, vempaldi_most_amount = 10000, &
-    vempaldi_deciding_bytes = 2362
+    vempaldi_deciding_bytes = 2364
   integer, parameter, public :: vempaldi_table_bytes = 2353, vempaldi_facts_bytes = 268, vempaldi_amount_bytes = 128, &
     vempaldi_range_bytes = 128, vempaldi_block_bytes = 512, vempaldi_listing_bytes = 50000
 

@@ -6,7 +6,7 @@ use std::fmt;
 /// How many bytes follow a record's kind byte, by kind: array, loop, read, constant, operation, end, statement. There is no kind 0.
 pub const BODY_LENGTHS: [usize; 8] = [0, 4, 11, 3, 4, 1, 0, 3];
 
-/// The room of a builder, in bytes: the 2,362 that decide, and the rest of the longest record that begins at the last of them. Every
+/// The room of a builder, in bytes: the 2,364 that decide, and the rest of the longest record that begins at the last of them. Every
 /// accepted table fits. Where a record does not, the bytes that decide are all there.
 pub const BUILDER_BYTES: usize = crate::DECIDING_BYTES + BODY_LENGTHS[LOOP];
 

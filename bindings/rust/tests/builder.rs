@@ -164,7 +164,7 @@ fn furthest() -> Builder {
 fn the_room_holds_what_decides() {
     let fits = furthest();
     assert_eq!(fits.bytes().len(), 2_361);
-    assert_eq!(BUILDER_BYTES, 2_373);
+    assert_eq!(BUILDER_BYTES, 2_375);
 
     let mut ended = fits.clone();
     let refusal = check(&ended.end().expect("there is room")).expect_err("seven numbers wait");
@@ -172,7 +172,7 @@ fn the_room_holds_what_decides() {
 
     let mut longer = fits.clone();
     longer.open_loop(0, 0, 0, 0);
-    assert_eq!((longer.error(), longer.bytes().len()), (None, 2_373));
+    assert_eq!((longer.error(), longer.bytes().len()), (None, 2_375));
     longer.operation(Operation::Add);
     let error = longer.end().expect_err("no room for a byte");
     // A loop has its own record, three of further statements and 32 items.
