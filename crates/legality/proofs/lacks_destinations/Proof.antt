@@ -25,21 +25,21 @@ lacks-destination-requires : tie.Need-lacks-destination-requires Inv-loop μ-loo
 lacks-destination-requires c κs =
     let b = c .before .before .before in
     let p = b .pre in
-    (p .0, (p .1 .0, up-to-last (now (b .args .store)) (b .args .j) (b .args .last) (c .before .loop .r) (p .1 .1) (c .loop-test .taken), p .1 .2, p .1 .3))
+    (p .0, (p .1 .0, up-to-last (now (b .args .store)) (b .args .j) (b .args .last) (c .before .loop .r) (p .1 .1) (omega (arith, c .loop-test .taken)), p .1 .2, p .1 .3))
 
 returns : tie.Need-returns Inv-loop μ-loop
 returns c =
     let b = c .before .before .before .before .before in
     let a = b .args in
     let l = c .before .before .before .loop in
-    found-row (b .pre .0 .0) _ (a .j) (b .pre .1 .0) (l .r) (up-to-last (now (a .store)) (a .j) (a .last) (l .r) (b .pre .1 .1) (c .before .before .loop-test .taken)) (l .inv)
+    found-row (b .pre .0 .0) _ (a .j) (b .pre .1 .0) (l .r) (up-to-last (now (a .store)) (a .j) (a .last) (l .r) (b .pre .1 .1) (omega (arith, c .before .before .loop-test .taken))) (l .inv)
     (sym (c .if1 .taken) ∙ c .before .lacks-destination .ensures)
 
 add-r : tie.Need-add-r Inv-loop μ-loop
 add-r c =
     let b = c .before .before .before .before .before in
     let p = b .pre in
-    let i = up-to-last (now (b .args .store)) (b .args .j) (b .args .last) (c .before .before .before .loop .r) (p .1 .1) (c .before .before .loop-test .taken) in
+    let i = up-to-last (now (b .args .store)) (b .args .j) (b .args .last) (c .before .before .before .loop .r) (p .1 .1) (omega (arith, c .before .before .loop-test .taken)) in
     omega (arith, i, past-few (p .0 .0) _ (p .1 .0))
 
 loop-again : tie.Need-loop-again Inv-loop μ-loop
@@ -47,7 +47,7 @@ loop-again c =
     let b = c .before .before .before .before .before in
     let a = b .args in
     let l = c .before .before .before .loop in
-    left-next (b .pre .0 .0) _ (a .j) (b .pre .1 .0) (l .r) (up-to-last (now (a .store)) (a .j) (a .last) (l .r) (b .pre .1 .1) (c .before .before .loop-test .taken)) (l .inv)
+    left-next (b .pre .0 .0) _ (a .j) (b .pre .1 .0) (l .r) (up-to-last (now (a .store)) (a .j) (a .last) (l .r) (b .pre .1 .1) (omega (arith, c .before .before .loop-test .taken))) (l .inv)
     (sym (c .if1 .left) ∙ c .before .lacks-destination .ensures)
 
 returns-2 : tie.Need-returns-2 Inv-loop μ-loop

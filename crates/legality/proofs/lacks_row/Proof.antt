@@ -29,22 +29,21 @@ lacks-between-requires c κs =
     let b = c .before .before .before .before .before .before .before in
     let a = b .args in
     let p = b .pre in
-    let kind = rw (c .before .before .kind-at .ensures) at (c .before .if2 .taken) in
     let array = sym (c .before .before .before .if1 .left) ∙ c .before .before .before .before .before .wide .ensures .0 ∙ c .before .before .before .before .before .before .array-at .ensures in
     rw (c .reference-at .ensures)
-    (p .0, (p .1 .0 .fits, reference-fits (p .0 .0) (a .k) (p .1 .0 .there) (a .r) (p .1 .1) kind, p .1 .0 .other, touch-stores (a .x) _ (p .1 .0 .stores) array))
+    (p .0, (p .1 .0 .fits, reference-fits (p .0 .0) (a .k) (p .1 .0 .there) (a .r) (p .1 .1) (omega (arith, c .before .before .kind-at .ensures, c .before .if2 .taken)), p .1 .0 .other, touch-stores (a .x) _ (p .1 .0 .stores) array))
 
 returns-2 : tie.Need-returns-2
 returns-2 c =
     let a = c .before .before .before .before .before .before .before .before .args in
     row-here (now (a .store)) (between (tableIn (now (a .store))) (now (a .shifts)) (now (a .peels)) (a .x)) (a .k) (a .r) _
-    (rw (c .before .before .before .kind-at .ensures) at (c .before .before .if2 .taken)) (rw (c .before .reference-at .ensures) at (c .lacks-between .ensures))
+    (omega (arith, c .before .before .before .kind-at .ensures, c .before .before .if2 .taken)) (rw (c .before .reference-at .ensures) at (c .lacks-between .ensures))
 
 returns-3 : tie.Need-returns-3
 returns-3 c =
     let a = c .before .before .before .before .before .before .args in
     row-empty (now (a .store)) (between (tableIn (now (a .store))) (now (a .shifts)) (now (a .peels)) (a .x)) (a .k) (a .r)
-    (rw (c .before .kind-at .ensures) at (c .if2 .left))
+    (omega (arith, c .before .kind-at .ensures, c .if2 .left))
 
 pub lacks-row-spec : {M : Type 1} → statement M
 lacks-row-spec =
