@@ -16,7 +16,9 @@ use Rattle.model.specs.declared.Reference.{Reference}
 use Rattle.model.specs.Table.{Table, count}
 use Rattle.model.specs.References.{touch, refs, allRefs}
 use Rattle.reader.specs.Store.{firstAt, lastAt, startAt, kindAt, valueAt, tableIn}
-use Rattle.reader.specs.Held.{Held, first-held, last-held, count-held, few-loops, few-rows, opening-held}
+use Rattle.reader.specs.Held.{Held, first-held, last-held, count-held, few-loops, few-rows}
+use Rattle.reader.specs.Rows.{refIn, refsIn}
+use Rattle.reader.specs.RowLaws.{row-reference, row-none, refs-next as rows-next}
 use Rattle.overlap.specs.Overlap.{overlap}
 use Rattle.overlap.specs.OverlapLaws.{overlap-meeting}
 use Rattle.chains.specs.Dependence.{meetIn, backward, forward}
@@ -29,7 +31,7 @@ use Rattle.chains.specs.Steps.{Placed, Pair, at, pairOf, placedFrom, pairsTo, s
 use Rattle.chains.specs.StepLaws.{following-first, following-next, made-steps, placed-append, stepsTo-append, stepsTo-one, raisedBy-length, raisedBy-met, raisedBy-none, walked-numbers}
 use Rattle.chains.specs.Bounds.{Small, raisedBy-small}
 use Rattle.chains.specs.Tables.{refs-number, refs-allRefs, allRefs-below}
-use Rattle.amounts.specs.Rows.{refIn, readsIn, pastRow, row-read, reads-next, past-ahead, start-ahead, row-other, past-few, row-in, start-in, past-start, past-next, joined-few, past-few-references, in-range}
+use Rattle.amounts.specs.Rows.{pastRow, past-ahead, past-few, row-in, past-next, joined-few, past-few-references, in-range}
 use Rattle.columns.specs.Columns.{refAt, refsFrom, Marked, withReference}
 use Rattle.columns.specs.ColumnLaws.{with-sized, other-marked, here-marked, refs-with, refs-length, refs-mem, refs-first, refs-next, refs-end}
 use Rattle.amounts.specs.Walked.{ReferenceFits, Pairable, Earlier, NextStep, SomeNext, Taken, Bounded, numbersIn, Walked}
@@ -226,10 +228,10 @@ module _ {c : List ℕ} (h : Held c) (k : ℕ) (l : k < count (tableIn c)) where
         mine-steps = rw (early from e) (steps-next n)
 
     -- and what the walk has come to when they are made
-    pub walked-next : (from : ℕ) → from ≡ length (joined k (refs (tableIn c))) → n < 528 → (columns′ : List ℕ) (d : Numbers)
+    pub walked-next : (from : ℕ) → from ≡ length (joined k (refs (tableIn c))) → n < 576 → (columns′ : List ℕ) (d : Numbers)
         → columns′ ≡ withReference n y columns
         → Taken (tableIn c) columns from y a d
-        → Bounded (d .shifts) (d .peels) × (d .made ≤ a .made + 528)
+        → Bounded (d .shifts) (d .peels) × (d .made ≤ a .made + 576)
         → Walked (tableIn c) ((joined k (refs (tableIn c)) ++ own) ++ (y ∷ [])) (n + 1) columns′ d
     walked-next from e few columns′ d put made (bounded, more) = record {
       sized = rw put (with-sized n y columns few ∙ w .sized);
@@ -267,73 +269,43 @@ module _ {c : List ℕ} (h : Held c) (k : ℕ) (l : k < count (tableIn c)) where
         mark x i (no q) = other-marked n y columns few x (omega arith) q (w .marked x (omega (arith, w .references)))
 
 -- A ROW OF A LOOP
-module _ {c : List ℕ} (h : Held c) (k : ℕ) (l : k < count (tableIn c)) (n : ℕ) (columns : List ℕ) (a : Numbers) (from : ℕ) (e : from ≡ length (joined k (refs (tableIn c)))) where
-  -- its first row, the destination
-  module _ (w : Walked (tableIn c) (joined k (refs (tableIn c))) n columns a) where
-    alone : Walked (tableIn c) (joined k (refs (tableIn c)) ++ []) n columns a
-    alone = rw (append-nil (joined k (refs (tableIn c)))) w
+module _ {c : List ℕ} (h : Held c) (k : ℕ) (l : k < count (tableIn c)) (n : ℕ) (columns : List ℕ) (a : Numbers) (from : ℕ) (e : from ≡ length (joined k (refs (tableIn c))))
+    (r : ℕ) (u : startAt c k ≤ r) (v : r < startAt c (k + 1)) (w : Walked (tableIn c) (pastRow c k r) n columns a) where
+  pub row-few : n < 576
+  row-few = omega (arith, w .references, past-few-references h k r l u, past-few h k l)
 
-    offset-here : valueAt c (startAt c k) ≤ 510
-    offset-here = row-in h k l (startAt c k) (start-in h k l) .offset (omega (arith, opening-held h k l))
+  -- a reference
+  module _ (q : kindAt c r < 2) where
+    offset-here : valueAt c r ≤ 510
+    offset-here = row-in h k l r v .offset q
 
-    pub destination-few : n < 528
-    destination-few = omega (arith, w .references, joined-few h k (omega arith), start-in h k l, past-few h k l)
+    pub reference-earlier : Earlier (tableIn c) columns from (refIn c k r)
+    reference-earlier = earlier-of h k l _ n columns a w (refIn c k r) refl (omega arith) offset-here from e
 
-    pub destination-earlier : Earlier (tableIn c) columns from (refIn c k (startAt c k) true)
-    destination-earlier = earlier-of h k l [] n columns a alone (refIn c k (startAt c k) true) refl (omega arith) offset-here from e
+    pub reference-steps : SomeNext (tableIn c) columns from (refIn c k r) (a .made)
+    reference-steps =
+        let (rest, same) = past-ahead h k l r u (omega arith) in
+        next-steps h k l _ n columns a w (refIn c k r) refl (omega arith) offset-here from e (refsIn c k (r + 1) (startAt c (k + 1)) ++ rest)
+        (rw (rows-next c k r (startAt c (k + 1)) v, row-reference c k r q) at same)
 
-    pub destination-steps : SomeNext (tableIn c) columns from (refIn c k (startAt c k) true) (a .made)
-    destination-steps =
-        let (rest, same) = start-ahead h k l in
-        next-steps h k l [] n columns a alone (refIn c k (startAt c k) true) refl (omega arith) offset-here from e rest
-        (same ∙ ap (λ (xs : List Reference). xs ++ (refIn c k (startAt c k) true ∷ rest)) (sym (append-nil (joined k (refs (tableIn c))))))
+    pub reference-next : (columns′ : List ℕ) (d : Numbers)
+        → columns′ ≡ withReference n (refIn c k r) columns
+        → Taken (tableIn c) columns from (refIn c k r) a d
+        → Bounded (d .shifts) (d .peels) × (d .made ≤ a .made + 576)
+        → Walked (tableIn c) (pastRow c k (r + 1)) (n + 1) columns′ d
+    reference-next columns′ d put made more =
+        rw (past-next h k l r u, row-reference c k r q)
+        (walked-next h k l _ n columns a w (refIn c k r) refl (omega arith) offset-here from e row-few columns′ d put made more)
 
-    pub destination-next : (columns′ : List ℕ) (d : Numbers)
-        → columns′ ≡ withReference n (refIn c k (startAt c k) true) columns
-        → Taken (tableIn c) columns from (refIn c k (startAt c k) true) a d
-        → Bounded (d .shifts) (d .peels) × (d .made ≤ a .made + 528)
-        → Walked (tableIn c) (pastRow c k (startAt c k + 1)) (n + 1) columns′ d
-    destination-next columns′ d put made more =
-        rw (past-start h k l, ← (append-nil (joined k (refs (tableIn c)))))
-        (walked-next h k l [] n columns a alone (refIn c k (startAt c k) true) refl (omega arith) offset-here from e destination-few columns′ d put made more)
-
-  -- a row after it
-  module _ (r : ℕ) (u : startAt c k < r) (v : r < startAt c (k + 1)) (w : Walked (tableIn c) (pastRow c k r) n columns a) where
-    pub row-few : n < 528
-    row-few = omega (arith, w .references, past-few-references h k r l u, past-few h k l)
-
-    -- a read
-    module _ (q : kindAt c r ≡ 0) where
-      read-offset : valueAt c r ≤ 510
-      read-offset = row-in h k l r v .offset (omega arith)
-
-      pub read-earlier : Earlier (tableIn c) columns from (refIn c k r false)
-      read-earlier = earlier-of h k l _ n columns a w (refIn c k r false) refl (omega arith) read-offset from e
-
-      pub read-steps : SomeNext (tableIn c) columns from (refIn c k r false) (a .made)
-      read-steps =
-          let (rest, same) = past-ahead h k l r u (omega arith) in
-          next-steps h k l _ n columns a w (refIn c k r false) refl (omega arith) read-offset from e (readsIn c k (r + 1) (startAt c (k + 1)) ++ rest)
-          (rw (reads-next c k r (startAt c (k + 1)) v, row-read c k r q) at same)
-
-      pub read-next : (columns′ : List ℕ) (d : Numbers)
-          → columns′ ≡ withReference n (refIn c k r false) columns
-          → Taken (tableIn c) columns from (refIn c k r false) a d
-          → Bounded (d .shifts) (d .peels) × (d .made ≤ a .made + 528)
-          → Walked (tableIn c) (pastRow c k (r + 1)) (n + 1) columns′ d
-      read-next columns′ d put made more =
-          rw (past-next h k l r u, row-read c k r q)
-          (walked-next h k l _ n columns a w (refIn c k r false) refl (omega arith) read-offset from e row-few columns′ d put made more)
-
-    -- another item
-    pub item-next : (kindAt c r ≡ 0 → ⊥) → Walked (tableIn c) (pastRow c k (r + 1)) n columns a
-    item-next none = rw (past-next h k l r u, row-other c k r none, append-nil (pastRow c k r)) w
+  -- another item
+  pub item-next : 2 ≤ kindAt c r → Walked (tableIn c) (pastRow c k (r + 1)) n columns a
+  item-next none = rw (past-next h k l r u, row-none c k r none, append-nil (pastRow c k r)) w
 
 -- the walk before its first step, and after its last
-pub walked-start : (t : Table) → Walked t [] 0 (replicate 2112 0) noNumbers
+pub walked-start : (t : Table) → Walked t [] 0 (replicate 2304 0) noNumbers
 unfolding refsFrom
 walked-start t = record {
-  sized = length-replicate {A = ℕ} 2112 0;
+  sized = length-replicate {A = ℕ} 2304 0;
   references = refl;
   kept = refl;
   marked = λ x i. absurd (omega arith);

@@ -19,7 +19,7 @@ pub record ReferenceFits (t : Table) (x : Reference) : Type 0 where
 
 -- the reference at position x of the columns, and y, of a later loop
 pub record Pairable (t : Table) (columns : List ℕ) (x : ℕ) (y : Reference) : Type 0 where
-  pub few : x < 528
+  pub few : x < 576
   pub fits : ReferenceFits t (refAt columns x)
   pub marked : Marked columns x
   pub earlier : refAt columns x .number < y .number
@@ -28,7 +28,7 @@ pub record Pairable (t : Table) (columns : List ℕ) (x : ℕ) (y : Reference) :
 
 -- the references at positions below `from` are of loops before y's
 pub record Earlier (t : Table) (columns : List ℕ) (from : ℕ) (y : Reference) : Type 0 where
-  pub few : from ≤ 528
+  pub few : from ≤ 576
   pub later : ReferenceFits t y
   pub array : y .array < 16
   pub each : (x : ℕ) → x < from → Pairable t columns x y
@@ -45,12 +45,12 @@ numbersIn shifts peels made = record { shifts = shifts; peels = peels; made = ma
 
 -- the walk has come past ys, the table's first references: they are n and stand in the columns, and the steps to them have left these numbers
 pub record Walked (t : Table) (ys : List Reference) (n : ℕ) (columns : List ℕ) (a : Numbers) : Type 0 where
-  pub sized : length columns ≡ 2112
+  pub sized : length columns ≡ 2304
   pub references : n ≡ length ys
   pub kept : refsFrom columns 0 (length ys) ≡ ys
   pub marked : (x : ℕ) → x < length ys → Marked columns x
   pub numbers : a ≡ runAll (step (graph t)) (stepsTo (graph t) (placedFrom 0 ys)) noNumbers
-  pub few : a .made ≤ 528 * n
+  pub few : a .made ≤ 576 * n
   pub bounded : Bounded (a .shifts) (a .peels)
 
 -- the pair of the reference at position x of the columns and y, wherever y stands, is the next step when so many have been made

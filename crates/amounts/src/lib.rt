@@ -16,7 +16,7 @@ ghost use Rattle.chains.specs.TableGraph.{graph};
 ghost use Rattle.chains.specs.Walk.{shifts, peels};
 ghost use Rattle.chains.specs.Steps.{at, raisedBy, takeUp, step, walked};
 ghost use Rattle.chains.specs.Threshold.{threshold};
-ghost use Rattle.amounts.specs.Rows.{refIn, pastRow};
+ghost use Rattle.amounts.specs.Rows.{pastRow};
 ghost use Rattle.columns.specs.Columns.{refAt, searched, withReference};
 ghost use Rattle.amounts.specs.Walked.{ReferenceFits, Pairable, Earlier, NextStep, SomeNext, Taken, Bounded, numbersIn, Walked};
 use arithmetic::above;
@@ -57,19 +57,6 @@ pub fn meet(store: &Store, x: Reference, y: Reference) -> bool
         wide(reader::last_at(store, k)),
         y.offset,
     )
-}
-
-// The reference in row r of loop k.
-pub fn reference_at(store: &Store, k: usize, r: usize, stores: bool) -> Reference
-    requires { ⌜ r < 528 ⌝ }
-    ensures { λ x. ⌜ x ≡ refIn (now (store .entry)) k r stores ⌝ }
-{
-    Reference {
-        number: k,
-        array: wide(reader::array_at(store, r)),
-        offset: wide(reader::value_at(store, r)),
-        stores,
-    }
 }
 
 // A loop's number, where n is required of it.
@@ -129,9 +116,9 @@ fn take_earlier(
     peels: &mut [u32; 16],
 )
     requires { ⌜ Held (now store) × Earlier (tableIn (now store)) (now columns) from y × SomeNext (tableIn (now store)) (now columns) from y (now made) ⌝ }
-    requires { ⌜ Bounded (now shifts) (now peels) × (now made ≤ 528 * 528) ⌝ }
+    requires { ⌜ Bounded (now shifts) (now peels) × (now made ≤ 576 * 576) ⌝ }
     ensures { λ _. ⌜ Taken (tableIn (now (store .entry))) (now (columns .entry)) from y (numbersIn (now (shifts .entry)) (now (peels .entry)) (now (made .entry))) (numbersIn (now (shifts .exit)) (now (peels .exit)) (now (made .exit))) ⌝ }
-    ensures { λ _. ⌜ Bounded (now (shifts .exit)) (now (peels .exit)) × (now (made .exit) ≤ now (made .entry) + 528) ⌝ }
+    ensures { λ _. ⌜ Bounded (now (shifts .exit)) (now (peels .exit)) × (now (made .exit) ≤ now (made .entry) + 576) ⌝ }
 {
     let column = columns::searched_for(y.stores);
     let mut x: usize = 0;
@@ -153,17 +140,17 @@ fn take_later(
     peels: &mut [u32; 16],
 )
     requires { ⌜ Held (now store) × Earlier (tableIn (now store)) (now columns) from y × SomeNext (tableIn (now store)) (now columns) from y (now made) ⌝ }
-    requires { ⌜ Bounded (now shifts) (now peels) × (now made ≤ 528 * n) × (n < 528) ⌝ }
+    requires { ⌜ Bounded (now shifts) (now peels) × (now made ≤ 576 * n) × (n < 576) ⌝ }
     ensures { λ _. ⌜ now (columns .exit) ≡ withReference n y (now (columns .entry)) ⌝ }
     ensures { λ _. ⌜ Taken (tableIn (now (store .entry))) (now (columns .entry)) from y (numbersIn (now (shifts .entry)) (now (peels .entry)) (now (made .entry))) (numbersIn (now (shifts .exit)) (now (peels .exit)) (now (made .exit))) ⌝ }
-    ensures { λ _. ⌜ Bounded (now (shifts .exit)) (now (peels .exit)) × (now (made .exit) ≤ now (made .entry) + 528) ⌝ }
+    ensures { λ _. ⌜ Bounded (now (shifts .exit)) (now (peels .exit)) × (now (made .exit) ≤ now (made .entry) + 576) ⌝ }
 {
     take_earlier(store, columns, from, y, made, shifts, peels);
     columns::put_reference(n, y, columns);
 }
 
-// The walk past row r of loop k, one of its items: a read is a reference, other items are none. There are `from` references in earlier loops and
-// n before the row; answers how many there are then.
+// The walk past row r of loop k: a read's row and a destination's, which are of the kinds below a constant's, are a reference, other rows are
+// none. There are `from` references in earlier loops and n before the row; answers how many there are then.
 fn walk_row(
     store: &Store,
     k: usize,
@@ -176,20 +163,20 @@ fn walk_row(
     peels: &mut [u32; 16],
 ) -> usize
     requires { ⌜ Held (now store) × (k < count (tableIn (now store))) × (from ≡ length (joined k (refs (tableIn (now store))))) ⌝ }
-    requires { ⌜ (startAt (now store) k < r) × (r < startAt (now store) (k + 1)) ⌝ }
+    requires { ⌜ (startAt (now store) k ≤ r) × (r < startAt (now store) (k + 1)) ⌝ }
     requires { ⌜ Walked (tableIn (now store)) (pastRow (now store) k r) n (now columns) (numbersIn (now shifts) (now peels) (now made)) ⌝ }
     ensures { λ a. ⌜ Walked (tableIn (now (store .entry))) (pastRow (now (store .entry)) k (r + 1)) a (now (columns .exit)) (numbersIn (now (shifts .exit)) (now (peels .exit)) (now (made .exit))) ⌝ }
 {
-    if reader::kind_at(store, r) == reader::READ {
-        let y = reference_at(store, k, r, false);
+    if reader::kind_at(store, r) < reader::CONSTANT {
+        let y = reader::reference_at(store, k, r);
         take_later(store, y, from, n, columns, made, shifts, peels);
         return n + 1;
     }
     n
 }
 
-// The walk past the references of loop k: its destination, then its reads. Of the shifts and peels it changes those of loop k. There are `from`
-// references in earlier loops; answers how many there are then.
+// The walk past the references of loop k, row by row. Of the shifts and peels it changes those of loop k. There are `from` references in earlier
+// loops; answers how many there are then.
 fn walk_loop(
     store: &Store,
     k: usize,
@@ -203,12 +190,9 @@ fn walk_loop(
     requires { ⌜ Walked (tableIn (now store)) (joined k (refs (tableIn (now store)))) from (now columns) (numbersIn (now shifts) (now peels) (now made)) ⌝ }
     ensures { λ a. ⌜ Walked (tableIn (now (store .entry))) (joined (k + 1) (refs (tableIn (now (store .entry))))) a (now (columns .exit)) (numbersIn (now (shifts .exit)) (now (peels .exit)) (now (made .exit))) ⌝ }
 {
-    let start = reader::start_at(store, k);
     let past = reader::start_at(store, k + 1);
-    let y = reference_at(store, k, start, true);
-    take_later(store, y, from, from, columns, made, shifts, peels);
-    let mut n = from + 1;
-    let mut r = start + 1;
+    let mut n = from;
+    let mut r = reader::start_at(store, k);
     while r < past {
         n = walk_row(store, k, r, from, n, columns, made, shifts, peels);
         r += 1;

@@ -15,7 +15,7 @@ use Rattle.model.specs.declared.Reference.{Reference}
 use Rattle.model.specs.References.{touch}
 use Rattle.columns.specs.Columns.{arrayOf, storedOf, loopOf, offsetOf, refAt, refsFrom, Marked, storedAs, withReference, searched}
 
-module _ (n : ℕ) (y : Reference) (c : List ℕ) (few : n < 528) where
+module _ (n : ℕ) (y : Reference) (c : List ℕ) (few : n < 576) where
   pub with-sized : length (withReference n y c) ≡ length c
   unfolding withReference
   with-sized = simp length-set
@@ -25,61 +25,61 @@ module _ (n : ℕ) (y : Reference) (c : List ℕ) (few : n < 528) where
   c₁ = set c n (y .array)
 
   abbrev c₂ : List ℕ
-  c₂ = set c₁ (528 + n) (storedAs y)
+  c₂ = set c₁ (576 + n) (storedAs y)
 
   abbrev c₃ : List ℕ
-  c₃ = set c₂ (1056 + n) (y .number)
+  c₃ = set c₂ (1152 + n) (y .number)
 
   -- what stands elsewhere is as it was
-  elsewhere : (j : ℕ) → j ≢ n → j ≢ 528 + n → j ≢ 1056 + n → j ≢ 1584 + n → getD (withReference n y c) j 0 ≡ getD c j 0
+  elsewhere : (j : ℕ) → j ≢ n → j ≢ 576 + n → j ≢ 1152 + n → j ≢ 1728 + n → getD (withReference n y c) j 0 ≡ getD c j 0
   unfolding withReference
   elsewhere j p q r s =
-      getD-set-other c₃ (1584 + n) j (y .offset) 0 s ∙ getD-set-other c₂ (1056 + n) j (y .number) 0 r
-      ∙ getD-set-other c₁ (528 + n) j (storedAs y) 0 q
+      getD-set-other c₃ (1728 + n) j (y .offset) 0 s ∙ getD-set-other c₂ (1152 + n) j (y .number) 0 r
+      ∙ getD-set-other c₁ (576 + n) j (storedAs y) 0 q
       ∙ getD-set-other c n j (y .array) 0 p
 
-  pub other-same : (i : ℕ) → i < 528 → i ≢ n → refAt (withReference n y c) i ≡ refAt c i
+  pub other-same : (i : ℕ) → i < 576 → i ≢ n → refAt (withReference n y c) i ≡ refAt c i
   other-same i l d =
       rw (
         elsewhere i d (λ e. omega arith) (λ e. omega arith) (λ e. omega arith),
-        elsewhere (528 + i) (λ e. omega arith) (λ e. d (omega arith)) (λ e. omega arith) (λ e. omega arith),
-        elsewhere (1056 + i) (λ e. omega arith) (λ e. omega arith) (λ e. d (omega arith)) (λ e. omega arith),
-        elsewhere (1584 + i) (λ e. omega arith) (λ e. omega arith) (λ e. omega arith) (λ e. d (omega arith)),
+        elsewhere (576 + i) (λ e. omega arith) (λ e. d (omega arith)) (λ e. omega arith) (λ e. omega arith),
+        elsewhere (1152 + i) (λ e. omega arith) (λ e. omega arith) (λ e. d (omega arith)) (λ e. omega arith),
+        elsewhere (1728 + i) (λ e. omega arith) (λ e. omega arith) (λ e. omega arith) (λ e. d (omega arith)),
       )
 
-  pub other-marked : (i : ℕ) → i < 528 → i ≢ n → Marked c i → Marked (withReference n y c) i
+  pub other-marked : (i : ℕ) → i < 576 → i ≢ n → Marked c i → Marked (withReference n y c) i
   other-marked i l d m =
       rw (
         elsewhere i d (λ e. omega arith) (λ e. omega arith) (λ e. omega arith),
-        elsewhere (528 + i) (λ e. omega arith) (λ e. d (omega arith)) (λ e. omega arith) (λ e. omega arith),
+        elsewhere (576 + i) (λ e. omega arith) (λ e. d (omega arith)) (λ e. omega arith) (λ e. omega arith),
       ) m
 
   -- what stands at n
-  module _ (long : length c ≡ 2112) where
+  module _ (long : length c ≡ 2304) where
     array-here : arrayOf (withReference n y c) n ≡ y .array
     unfolding withReference
     array-here =
-        getD-set-other c₃ (1584 + n) n (y .offset) 0 (λ e. omega arith) ∙ getD-set-other c₂ (1056 + n) n (y .number) 0 (λ e. omega arith)
-        ∙ getD-set-other c₁ (528 + n) n (storedAs y) 0 (λ e. omega arith)
+        getD-set-other c₃ (1728 + n) n (y .offset) 0 (λ e. omega arith) ∙ getD-set-other c₂ (1152 + n) n (y .number) 0 (λ e. omega arith)
+        ∙ getD-set-other c₁ (576 + n) n (storedAs y) 0 (λ e. omega arith)
         ∙ getD-set-same c n (y .array) 0 (omega arith)
 
     stored-here : storedOf (withReference n y c) n ≡ storedAs y
     unfolding withReference
     stored-here =
-        getD-set-other c₃ (1584 + n) (528 + n) (y .offset) 0 (λ e. omega arith) ∙ getD-set-other c₂ (1056 + n) (528 + n) (y .number) 0 (λ e. omega arith)
-        ∙ getD-set-same c₁ (528 + n) (storedAs y) 0 (omega (arith, length-set c n (y .array)))
+        getD-set-other c₃ (1728 + n) (576 + n) (y .offset) 0 (λ e. omega arith) ∙ getD-set-other c₂ (1152 + n) (576 + n) (y .number) 0 (λ e. omega arith)
+        ∙ getD-set-same c₁ (576 + n) (storedAs y) 0 (omega (arith, length-set c n (y .array)))
 
     loop-here : loopOf (withReference n y c) n ≡ y .number
     unfolding withReference
     loop-here =
-        getD-set-other c₃ (1584 + n) (1056 + n) (y .offset) 0 (λ e. omega arith)
-        ∙ getD-set-same c₂ (1056 + n) (y .number) 0 (omega (arith, length-set c n (y .array), length-set c₁ (528 + n) (storedAs y)))
+        getD-set-other c₃ (1728 + n) (1152 + n) (y .offset) 0 (λ e. omega arith)
+        ∙ getD-set-same c₂ (1152 + n) (y .number) 0 (omega (arith, length-set c n (y .array), length-set c₁ (576 + n) (storedAs y)))
 
     offset-here : offsetOf (withReference n y c) n ≡ y .offset
     unfolding withReference
     offset-here =
-        getD-set-same c₃ (1584 + n) (y .offset) 0
-        (omega (arith, length-set c n (y .array), length-set c₁ (528 + n) (storedAs y), length-set c₂ (1056 + n) (y .number)))
+        getD-set-same c₃ (1728 + n) (y .offset) 0
+        (omega (arith, length-set c n (y .array), length-set c₁ (576 + n) (storedAs y), length-set c₂ (1152 + n) (y .number)))
 
     stores-here : (b : Bool) (a : ℕ) → a < 16 → eqb (cond b a 16) a ≡ b
     stores-here true a l = eq-eqb a a refl
@@ -139,14 +139,14 @@ refs-same c d zero i h = refl
 refs-same c d (suc n) i h = rw (h i (omega arith) (omega arith), refs-same c d n (suc i) (λ x l m. h x (omega arith) (omega arith)))
 
 -- one more
-pub refs-with : (n : ℕ) (y : Reference) (c : List ℕ) → n < 528 → length c ≡ 2112 → y .array < 16 → refsFrom (withReference n y c) 0 (suc n) ≡ refsFrom c 0 n ++ (y ∷ [])
+pub refs-with : (n : ℕ) (y : Reference) (c : List ℕ) → n < 576 → length c ≡ 2304 → y .array < 16 → refsFrom (withReference n y c) 0 (suc n) ≡ refsFrom c 0 n ++ (y ∷ [])
 refs-with n y c l long a =
     let e : 0 + n ≡ n = omega arith in
     let d = withReference n y c in
     (rw (e, here-same n y c l long a) at (refs-last d 0 n))
     ∙ ap (λ (r : List Reference). r ++ (y ∷ [])) (refs-same c d n 0 (λ x u v. other-same n y c l x (omega arith) (λ q. omega arith)))
 
-pub searched-few : (stores : Bool) → searched stores ≤ 528
+pub searched-few : (stores : Bool) → searched stores ≤ 576
 searched-few true = omega arith
 searched-few false = omega arith
 
@@ -162,7 +162,7 @@ pair-test c x y m l = go (y .stores) m
     read a q l (yes f) = rw (f, ne-eqb 16 q (λ z. omega arith)) (sym (and-false (eqb q q)))
     read a q l (no f) = rw (ne-eqb 16 q (λ z. omega arith), ne-eqb a q f)
 
-    go : (b : Bool) → Marked c x → eqb (getD c (cond b 0 528 + x) 0) (y .array) ≡ (eqb (arrayOf c x) (y .array) && (eqb (storedOf c x) (arrayOf c x) || b))
+    go : (b : Bool) → Marked c x → eqb (getD c (cond b 0 576 + x) 0) (y .array) ≡ (eqb (arrayOf c x) (y .array) && (eqb (storedOf c x) (arrayOf c x) || b))
     go true m =
         let z : 0 + x ≡ x = omega arith in
         ap (λ (i : ℕ). eqb (getD c i 0) (y .array)) z

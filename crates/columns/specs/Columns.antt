@@ -1,4 +1,4 @@
--- References in columns: each has four numbers, at its position in each of four columns of 528.
+-- References in columns: each has four numbers, at its position in each of four columns of 576.
 use Prim.Native.Nat.{ℕ, zero, suc, _+_}
 use mathlib.Core.Path.{_≡_}
 use mathlib.Core.Logic.{_⊎_}
@@ -14,13 +14,13 @@ module _ (c : List ℕ) where
   arrayOf i = getD c i 0
 
   abbrev pub storedOf : ℕ → ℕ
-  storedOf i = getD c (528 + i) 0
+  storedOf i = getD c (576 + i) 0
 
   abbrev pub loopOf : ℕ → ℕ
-  loopOf i = getD c (1056 + i) 0
+  loopOf i = getD c (1152 + i) 0
 
   abbrev pub offsetOf : ℕ → ℕ
-  offsetOf i = getD c (1584 + i) 0
+  offsetOf i = getD c (1728 + i) 0
 
   -- the reference at position i
   abbrev pub refAt : ℕ → Reference
@@ -41,8 +41,8 @@ storedAs y = cond (y .stores) (y .array) 16
 
 -- y put at position n
 unfoldable pub withReference : ℕ → Reference → List ℕ → List ℕ
-withReference n y c = set (set (set (set c n (y .array)) (528 + n) (storedAs y)) (1056 + n) (y .number)) (1584 + n) (y .offset)
+withReference n y c = set (set (set (set c n (y .array)) (576 + n) (storedAs y)) (1152 + n) (y .number)) (1728 + n) (y .offset)
 
 -- where the column begins in which the partners of a destination, or of a read, have its array
 abbrev pub searched : Bool → ℕ
-searched stores = cond stores 0 528
+searched stores = cond stores 0 576

@@ -30,7 +30,7 @@ fn widened(x: u16) -> usize
 
 // The reference at position x.
 pub fn reference_in(columns: &Columns, x: usize) -> Reference
-    requires { ⌜ x < 528 ⌝ }
+    requires { ⌜ x < 576 ⌝ }
     ensures { λ r. ⌜ r ≡ refAt (now (columns .entry)) x ⌝ }
 {
     Reference {
@@ -51,7 +51,7 @@ fn stored_of(y: Reference) -> u16
 
 // y put at position n.
 pub fn put_reference(n: usize, y: Reference, columns: &mut Columns)
-    requires { ⌜ (n < 528) × (y .array < 16) × (y .number < 16) × (y .offset ≤ 510) ⌝ }
+    requires { ⌜ (n < 576) × (y .array < 16) × (y .number < 16) × (y .offset ≤ 510) ⌝ }
     ensures { λ _. ⌜ now (columns .exit) ≡ withReference n y (now (columns .entry)) ⌝ }
 {
     columns[n] = y.array as u16;
@@ -69,7 +69,7 @@ pub fn searched_for(stores: bool) -> usize
 
 // Whether the reference at position x and y are to one array, one of them storing. `column` is y's: one comparison tells.
 pub fn touches(columns: &Columns, column: usize, x: usize, y: Reference) -> bool
-    requires { ⌜ (x < 528) × Marked (now columns) x × (y .array < 16) × (column ≡ searched (y .stores)) ⌝ }
+    requires { ⌜ (x < 576) × Marked (now columns) x × (y .array < 16) × (column ≡ searched (y .stores)) ⌝ }
     ensures { λ r. ⌜ r ≡ touch (refAt (now (columns .entry)) x) y ⌝ }
 {
     widened(columns[column + x]) == y.array

@@ -1,29 +1,33 @@
--- Dependences that are not met, as the code looks for them: of two references, of a destination with a row and with a loop, of two loops, of all.
-use Prim.Native.Nat.{ℕ, suc, _+_, _-_, _*_, _/_, _%_, _≤_, _<_}
+-- Dependences that are not met, as the code looks for them: of two references, row by row of a destination and a loop, of two loops, of all.
+use Prim.Native.Nat.{ℕ, zero, suc, _+_, _-_, _*_, _/_, _%_, _≤_, _<_}
 use native.Mathlib.Omega.{arith}
 use native.Mathlib.Decide.{ℕ-discrete, decLt}
+use native.Mathlib.Numerals.{add-one}
 use native.Mathlib.Nat.{mul-suc, mul-le-mul, mul-le-mul-left}
 use mathlib.Core.Path.{_≡_, refl, sym, ap, subst, _∙_}
 use mathlib.Core.Logic.{_≢_, _⊎_, inl, inr, ⊎-elim}
 use mathlib.Core.Bool.{Bool, true, false, false≢true, _&&_, _||_, or-false, or-true, and-false}
-use mathlib.Core.List.{List, [], _∷_}
-use mathlib.Core.List.{List·Memᴰ as Mem, List·Memᴰ·head as mhere, List·Memᴰ·cases-cons as cases-cons, List·Memᴰ·not-nil as not-nil}
+use mathlib.Core.List.{List}
+use mathlib.Core.List.{List·Memᴰ as Mem}
 use lib.Dec.{ltb}
-use lib.ListN.{getD, set}
+use lib.ListN.{length, getD, set, length-set}
+use lib.Seq.{getD-set-same, getD-set-other}
 use borrow.Author.Tests.{lt-ltb, le-ltb, eq-eqb, ne-eqb}
 use Rattle.overlap.specs.Booleans.{both-true, either-true, not-true, same-test}
 use Rattle.model.specs.declared.Reference.{Reference}
-use Rattle.model.specs.Table.{Item, read, constant, operation, Table, count}
-use Rattle.model.specs.References.{reads, refs, touch}
-use Rattle.reader.specs.Store.{startAt, kindAt, arrayAt, itemsFrom, tableIn}
-use Rattle.reader.specs.Held.{Held, count-held, few-loops, opening-held}
+use Rattle.model.specs.Table.{Table, count}
+use Rattle.model.specs.References.{refs, touch}
+use Rattle.reader.specs.Store.{startAt, kindAt, arrayAt, tableIn}
+use Rattle.reader.specs.Held.{Held, count-held, few-loops}
+use Rattle.reader.specs.Rows.{refIn, rowRefs, refsFrom, refsIn, LastDestination}
+use Rattle.reader.specs.RowLaws.{row-reference, row-none, refs-next}
 use Rattle.chains.specs.Dependence.{meetIn, dependence}
 use Rattle.chains.specs.DependenceLaws.{touch-is, dependence-meets, dependence-bounds, none-untouched, earlier}
 use Rattle.chains.specs.TableGraph.{graph}
 use Rattle.chains.specs.Tables.{refs-number, refs-allRefs, allRefs-refs, allRefs-below}
 use Rattle.chains.specs.Unmet.{someOf, leastFrom, missed, Unmet}
 use Rattle.chains.specs.UnmetLaws.{some-of, of-some, some-append, least-found, least-none, least-is, least-most, below-least, unmet-is, unmet-later, unmet-first, unmet-none}
-use Rattle.amounts.specs.Rows.{refIn, readsIn, row-read, row-other, reads-next, reads-end, refs-in, row-in, start-in}
+use Rattle.amounts.specs.Rows.{refs-in, row-in}
 use Rattle.amounts.specs.Walked.{ReferenceFits}
 use Rattle.amounts.specs.declared.Amounts.{Amounts}
 use Rattle.blocks.specs.SumLaws.{some-none, some-here}
@@ -33,7 +37,7 @@ use Rattle.refusals.specs.Answers.{accepted, refused, refusalOf}
 use Rattle.legality.specs.Written.{numberAt, filled, amountsIn}
 use Rattle.legality.specs.WrittenLaws.{filled-next}
 use Rattle.legality.specs.ByHand.{largeAt, tooLarge, firstUnmet, judged, byHand}
-use Rattle.legality.specs.Code.{missing, lacking, between, withRow, withLoop, unmetIn, leastUnmetIn, numberless, Tells}
+use Rattle.legality.specs.Code.{missing, lacking, between, withRow, withLoop, storedWith, destinationRow, destinations, unmetIn, leastUnmetIn, numberless, Tells}
 
 -- TWO REFERENCES
 module _ (s p : List ℕ) (x y : Reference) (a b d : ℕ) (a-is : a ≡ getD s (y .number) 0) (b-is : b ≡ getD s (x .number) 0) (d-is : d ≡ y .offset - x .offset) where
@@ -88,9 +92,9 @@ module _ (t : Table) (s p : List ℕ) where
       let v : dependence t y x ≡ false = none-untouched t y x (touch-apart y x (λ e. n (sym e))) in
       sym (rw (u, v))
 
--- what is left of the rows of loop k from r on is all that is asked
-abbrev pub LeftOf : (c s p : List ℕ) → Reference → ℕ → ℕ → Type 0
-LeftOf c s p x k r = withLoop (tableIn c) s p x k ≡ someOf (between (tableIn c) s p x) (readsIn c k r (startAt c (k + 1)))
+-- of loop k, whether some reference passes a test is whether some of those in the rows from r on does
+abbrev pub LeftOf : (c : List ℕ) → (Reference → Bool) → ℕ → ℕ → Type 0
+LeftOf c f k r = someOf f (refs (tableIn c) k) ≡ someOf f (refsIn c k r (startAt c (k + 1)))
 
 -- no dependence from loop j to a loop below k is left unmet; none from a loop below j
 abbrev pub NoneToOf : (c s p : List ℕ) → ℕ → ℕ → Type 0
@@ -99,86 +103,99 @@ NoneToOf c s p j k = (i : ℕ) → i < k → unmetIn (tableIn c) s p j i ≡ fal
 abbrev pub NoneFromOf : (c s p : List ℕ) → ℕ → Type 0
 NoneFromOf c s p j = (i m : ℕ) → i < j → unmetIn (tableIn c) s p i m ≡ false
 
+-- ROWS OF A STORE, by any test of a reference: one that has a reference, one that has none, and several of which none passes
+module _ (c : List ℕ) (f : Reference → Bool) (k : ℕ) where
+  pub row-here : (r : ℕ) (b : Bool) → kindAt c r < 2 → b ≡ f (refIn c k r) → b ≡ someOf f (rowRefs c k r)
+  row-here r b l q = q ∙ sym (rw (row-reference c k r l) (or-false (f (refIn c k r))))
+
+  pub row-empty : (r : ℕ) → 2 ≤ kindAt c r → false ≡ someOf f (rowRefs c k r)
+  row-empty r l = sym (rw (row-none c k r l))
+
+  none-from : (n r : ℕ) → ((i : ℕ) → r ≤ i → i < r + n → false ≡ someOf f (rowRefs c k i)) → someOf f (refsFrom c k r n) ≡ false
+  unfolding refsFrom
+  none-from zero r none = refl
+  none-from (suc n) r none =
+      some-append f (rowRefs c k r) (refsFrom c k (suc r) n)
+      ∙ ap (λ (b : Bool). b || someOf f (refsFrom c k (suc r) n)) (sym (none r (omega arith) (omega arith)))
+      ∙ none-from n (suc r) (λ i a b. none i (omega arith) (omega arith))
+
+-- ONE ROW, with a destination of another loop, and as a destination
+module _ (c s p : List ℕ) where
+  pub row-apart : (x : Reference) (k r : ℕ) → (x .array ≡ arrayAt c r → ⊥) → false ≡ withRow c s p x k r
+  row-apart x k r n = go (decLt (kindAt c r) 2)
+    where
+      go : Dec (kindAt c r < 2) → false ≡ withRow c s p x k r
+      go (yes q) = row-here c (between (tableIn c) s p x) k r false q (between-apart (tableIn c) s p x (refIn c k r) n)
+      go (no q) = row-empty c (between (tableIn c) s p x) k r (omega arith)
+
+  module _ (j r k : ℕ) where
+    pub row-stored : (b : Bool) → kindAt c r ≡ 1 → b ≡ withLoop (tableIn c) s p (refIn c j r) k → b ≡ destinationRow c s p j r k
+    row-stored b e q =
+        row-here c (storedWith (tableIn c) s p k) j r b (omega arith)
+        (q ∙ sym (ap (λ (d : Bool). d && withLoop (tableIn c) s p (refIn c j r) k) (eq-eqb (kindAt c r) 1 e)))
+
+    pub row-other : (kindAt c r ≡ 1 → ⊥) → false ≡ destinationRow c s p j r k
+    row-other n = go (decLt (kindAt c r) 2)
+      where
+        go : Dec (kindAt c r < 2) → false ≡ destinationRow c s p j r k
+        go (yes q) =
+            row-here c (storedWith (tableIn c) s p k) j r false q
+            (sym (ap (λ (d : Bool). d && withLoop (tableIn c) s p (refIn c j r) k) (ne-eqb (kindAt c r) 1 n)))
+        go (no q) = row-empty c (storedWith (tableIn c) s p k) j r (omega arith)
+
+  -- past the last destination there is none
+  pub past-last : (j k last r : ℕ) → LastDestination c j last → last < r → (i : ℕ) → r ≤ i → i < startAt c (j + 1) → false ≡ destinationRow c s p j i k
+  past-last j k last r d u i a b = row-other j i k (d .none i (omega arith) (rw (add-one j) at b))
+
+-- THE LAST DESTINATIONS of the loops below k, and of one loop more
+abbrev pub LastsTo : (c lasts : List ℕ) → ℕ → Type 0
+LastsTo c lasts k = (length lasts ≡ 16) × ((i : ℕ) → i < k → LastDestination c i (getD lasts i 0))
+
+pub lasts-next : (c lasts : List ℕ) (k r : ℕ) → k < 16 → LastsTo c lasts k → LastDestination c k r → LastsTo c (set lasts k r) (k + 1)
+lasts-next c lasts k r l (long, f) d = (length-set lasts k r ∙ long, λ i u. go i u (ℕ-discrete i k))
+  where
+    go : (i : ℕ) → i < k + 1 → Dec (i ≡ k) → LastDestination c i (getD (set lasts k r) i 0)
+    go i u (yes q) = rw (q, getD-set-same lasts k r 0 (omega arith)) d
+    go i u (no q) = rw (getD-set-other lasts k i r 0 q) (f i (omega arith))
+
+-- the rows up to it are the loop's
+pub up-to-last : (c : List ℕ) (j last r : ℕ) → LastDestination c j last → r ≤ last → r < startAt c (j + 1)
+up-to-last c j last r d l = rw (add-one j) (omega (arith, d .before))
+
 -- A STORE THAT HOLDS A TABLE
 module _ {c : List ℕ} (h : Held c) where
   pub count-few : count (tableIn c) ≤ 16
   count-few = omega (arith, count-held h, few-loops h)
 
-  module _ (k : ℕ) (l : k < count (tableIn c)) where
-    pub destination-fits : ReferenceFits (tableIn c) (refIn c k (startAt c k) true)
-    destination-fits = record {
-      number = l;
-      few = omega (arith, count-few);
-      offset = row-in h k l (startAt c k) (start-in h k l) .offset (omega (arith, opening-held h k l));
-    }
+  pub reference-fits : (k : ℕ) → k < count (tableIn c) → (r : ℕ) → r < startAt c (k + 1) → kindAt c r < 2 → ReferenceFits (tableIn c) (refIn c k r)
+  reference-fits k l r i q = record { number = l; few = omega (arith, count-few); offset = row-in h k l r i .offset q }
 
-    pub read-fits : (r : ℕ) → r < startAt c (k + 1) → kindAt c r ≡ 0 → ReferenceFits (tableIn c) (refIn c k r false)
-    read-fits r i e = record { number = l; few = omega (arith, count-few); offset = row-in h k l r i .offset (omega arith) }
-
-  -- ONE ROW, AND THE ROWS OF A LOOP
-  module _ (s p : List ℕ) (x : Reference) (k : ℕ) where
-    pub row-here : (r : ℕ) (b : Bool) → kindAt c r ≡ 0 → b ≡ between (tableIn c) s p x (refIn c k r false) → b ≡ withRow c s p x k r
-    row-here r b e q = q ∙ sym (rw (row-read c k r e) (or-false (between (tableIn c) s p x (refIn c k r false))))
-
-    pub row-none : (r : ℕ) → (kindAt c r ≡ 0 → ⊥) → false ≡ withRow c s p x k r
-    row-none r n = sym (rw (row-other c k r n))
-
-    pub row-apart : (r : ℕ) → (x .array ≡ arrayAt c r → ⊥) → false ≡ withRow c s p x k r
-    row-apart r n = go (ℕ-discrete (kindAt c r) 0)
-      where
-        go : Dec (kindAt c r ≡ 0) → false ≡ withRow c s p x k r
-        go (yes e) = row-here r false e (between-apart (tableIn c) s p x (refIn c k r false) n)
-        go (no e) = row-none r e
-
+  -- THE ROWS OF A LOOP, by any test of a reference
+  module _ (f : Reference → Bool) (k : ℕ) (l : k < count (tableIn c)) where
     abbrev Left : ℕ → Type 0
-    Left r = LeftOf c s p x k r
+    Left r = LeftOf c f k r
 
-    module _ (l : k < count (tableIn c)) where
-      abbrev first : Bool
-      first = between (tableIn c) s p x (refIn c k (startAt c k) true)
+    pub left-start : Left (startAt c k)
+    left-start = ap (someOf f) (refs-in h k l)
 
-      pub left-start : false ≡ first → Left (startAt c k + 1)
-      left-start e =
-          ap (someOf (between (tableIn c) s p x)) (refs-in h k l)
-          ∙ ap (λ (b : Bool). b || someOf (between (tableIn c) s p x) (readsIn c k (startAt c k + 1) (startAt c (k + 1)))) (sym e)
+    left-row : (r : ℕ) (b : Bool) → r < startAt c (k + 1) → Left r → b ≡ someOf f (rowRefs c k r)
+        → someOf f (refs (tableIn c) k) ≡ (b || someOf f (refsIn c k (r + 1) (startAt c (k + 1))))
+    left-row r b i q e =
+        q ∙ ap (someOf f) (refs-next c k r (startAt c (k + 1)) i)
+        ∙ some-append f (rowRefs c k r) (refsIn c k (r + 1) (startAt c (k + 1)))
+        ∙ ap (λ (d : Bool). d || someOf f (refsIn c k (r + 1) (startAt c (k + 1)))) (sym e)
 
-      pub found-first : true ≡ first → true ≡ withLoop (tableIn c) s p x k
-      found-first e =
-          sym (ap (someOf (between (tableIn c) s p x)) (refs-in h k l)
-          ∙ ap (λ (b : Bool). b || someOf (between (tableIn c) s p x) (readsIn c k (startAt c k + 1) (startAt c (k + 1)))) (sym e))
+    pub left-next : (r : ℕ) → r < startAt c (k + 1) → Left r → false ≡ someOf f (rowRefs c k r) → Left (r + 1)
+    left-next r i q e = left-row r false i q e
 
-      left-row : (r : ℕ) → r < startAt c (k + 1) → Left r
-          → withLoop (tableIn c) s p x k ≡ (withRow c s p x k r || someOf (between (tableIn c) s p x) (readsIn c k (r + 1) (startAt c (k + 1))))
-      left-row r i q =
-          q ∙ ap (someOf (between (tableIn c) s p x)) (reads-next c k r (startAt c (k + 1)) i)
-          ∙ some-append (between (tableIn c) s p x) (reads k (itemsFrom c r 1)) (readsIn c k (r + 1) (startAt c (k + 1)))
+    pub found-row : (r : ℕ) → r < startAt c (k + 1) → Left r → true ≡ someOf f (rowRefs c k r) → true ≡ someOf f (refs (tableIn c) k)
+    found-row r i q e = sym (left-row r true i q e)
 
-      pub left-next : (r : ℕ) → r < startAt c (k + 1) → Left r → false ≡ withRow c s p x k r → Left (r + 1)
-      left-next r i q e =
-          left-row r i q ∙ ap (λ (b : Bool). b || someOf (between (tableIn c) s p x) (readsIn c k (r + 1) (startAt c (k + 1)))) (sym e)
+    -- none of the rows that are left passes it
+    pub left-end : (r : ℕ) → ((i : ℕ) → r ≤ i → i < startAt c (k + 1) → false ≡ someOf f (rowRefs c k i)) → Left r → false ≡ someOf f (refs (tableIn c) k)
+    left-end r none q = sym (q ∙ none-from c f k (startAt c (k + 1) - r) r (λ i a b. none i a (omega arith)))
 
-      pub found-row : (r : ℕ) → r < startAt c (k + 1) → Left r → true ≡ withRow c s p x k r → true ≡ withLoop (tableIn c) s p x k
-      found-row r i q e =
-          sym (left-row r i q ∙ ap (λ (b : Bool). b || someOf (between (tableIn c) s p x) (readsIn c k (r + 1) (startAt c (k + 1)))) (sym e))
-
-      pub left-end : (r : ℕ) → startAt c (k + 1) ≤ r → Left r → false ≡ withLoop (tableIn c) s p x k
-      left-end r i q = sym (q ∙ ap (someOf (between (tableIn c) s p x)) (reads-end c k r (startAt c (k + 1)) i))
-
-  -- TWO LOOPS: one of the two references is a destination, and a loop has one
-  reads-stores : (k : ℕ) (xs : List Item) (x : Reference) → Mem x (reads k xs) → x .stores ≡ false
-  reads-stores k [] x m = absurd (not-nil m)
-  reads-stores k (read a o ∷ xs) x m = ⊎-elim (λ e. ap (λ (q : Reference). q .stores) e) (reads-stores k xs x) (cases-cons m)
-  reads-stores k (constant n ∷ xs) x m = reads-stores k xs x m
-  reads-stores k (operation n ∷ xs) x m = reads-stores k xs x m
-
-  destination-is : (k : ℕ) → k < count (tableIn c) → (x : Reference) → Mem x (refs (tableIn c) k) → x .stores ≡ true → x ≡ refIn c k (startAt c k) true
-  destination-is k l x m e =
-      ⊎-elim (λ q. q) (λ i. absurd (false≢true (sym (reads-stores k (itemsFrom c (startAt c k + 1) (startAt c (k + 1) - (startAt c k + 1))) x i) ∙ e)))
-      (cases-cons (subst (λ (xs : List Reference). Mem x xs) (refs-in h k l) m))
-
-  destination-in : (k : ℕ) → k < count (tableIn c) → Mem (refIn c k (startAt c k) true) (refs (tableIn c) k)
-  destination-in k l = subst (λ (xs : List Reference). Mem (refIn c k (startAt c k) true) xs) (sym (refs-in h k l)) (mhere refl)
-
+  -- TWO LOOPS: one of the two references is a destination
   module _ (s p : List ℕ) where
     abbrev t : Table
     t = tableIn c
@@ -197,34 +214,40 @@ module _ {c : List ℕ} (h : Held c) where
           missed-is = q;
         }
 
+    -- some destination of loop j and some reference of loop k, as members
+    destination-of : (j k : ℕ) → destinations t s p j k ≡ true
+        → (x : Reference) × Mem x (refs t j) × (y : Reference) × Mem y (refs t k) × (between t s p x y ≡ true)
+    destination-of j k e =
+        let (x, m, q) = some-of (storedWith t s p k) (refs t j) e in
+        let (y, n, w) = some-of (between t s p x) (refs t k) (both-true (x .stores) (withLoop t s p x k) q .1) in
+        (x, m, y, n, w)
+
+    of-destination : (j k : ℕ) (x y : Reference) → Mem x (refs t j) → Mem y (refs t k) → x .stores ≡ true → between t s p x y ≡ true
+        → destinations t s p j k ≡ true
+    of-destination j k x y m n e w =
+        of-some (storedWith t s p k) (refs t j) x m (ap (λ (b : Bool). b && withLoop t s p x k) e ∙ of-some (between t s p x) (refs t k) y n w)
+
     module _ (j k : ℕ) (less : j < k) (l : k < count t) where
-      abbrev dj : Reference
-      dj = refIn c j (startAt c j) true
+      joins : (x y : Reference) → Mem x (refs t j) → Mem y (refs t k) → (lacking t s p x y ≡ true) ⊎ (lacking t s p y x ≡ true) → unmetIn t s p j k ≡ true
+      joins x y m n e =
+          let f : lacking t s p y x ≡ false = lacking-late t s p y x (omega (arith, refs-number t j x m, refs-number t k y n)) in
+          unmet-is (graph t) (missed (graph t) s p) j k .1 (made j k x y (omega arith) l m n (⊎-elim (λ z. z) (λ z. absurd (false≢true (sym f ∙ z))) e))
 
-      abbrev dk : Reference
-      dk = refIn c k (startAt c k) true
-
-      -- from the destination of the earlier loop, and to that of the later one
-      from-earlier : withLoop t s p dj k ≡ true → unmetIn t s p j k ≡ true
+      -- from a destination of the earlier loop, and to one of the later one
+      from-earlier : destinations t s p j k ≡ true → unmetIn t s p j k ≡ true
       from-earlier e =
-          let (y, m, q) = some-of (between t s p dj) (refs t k) e in
-          let f : lacking t s p y dj ≡ false = lacking-late t s p y dj (omega (arith, refs-number t k y m)) in
-          unmet-is (graph t) (missed (graph t) s p) j k .1
-          (made j k dj y (omega arith) l (destination-in j (omega arith)) m
-          (⊎-elim (λ z. z) (λ z. absurd (false≢true (sym f ∙ z))) (either-true (lacking t s p dj y) (lacking t s p y dj) q)))
+          let (x, m, y, n, q) = destination-of j k e in
+          joins x y m n (either-true (lacking t s p x y) (lacking t s p y x) q)
 
-      from-later : withLoop t s p dk j ≡ true → unmetIn t s p j k ≡ true
+      from-later : destinations t s p k j ≡ true → unmetIn t s p j k ≡ true
       from-later e =
-          let (x, m, q) = some-of (between t s p dk) (refs t j) e in
-          let f : lacking t s p dk x ≡ false = lacking-late t s p dk x (omega (arith, refs-number t j x m)) in
-          unmet-is (graph t) (missed (graph t) s p) j k .1
-          (made j k x dk (omega arith) l m (destination-in k l)
-          (⊎-elim (λ z. absurd (false≢true (sym f ∙ z))) (λ z. z) (either-true (lacking t s p dk x) (lacking t s p x dk) q)))
+          let (y, n, x, m, q) = destination-of k j e in
+          joins x y m n (⊎-elim inr inl (either-true (lacking t s p y x) (lacking t s p x y) q))
 
-      either : unmetIn t s p j k ≡ true → (withLoop t s p dj k ≡ true) ⊎ (withLoop t s p dk j ≡ true)
+      either : unmetIn t s p j k ≡ true → (destinations t s p j k ≡ true) ⊎ (destinations t s p k j ≡ true)
       either e = go (unmet-is (graph t) (missed (graph t) s p) j k .0 e)
         where
-          go : Unmet (graph t) (missed (graph t) s p) j k → (withLoop t s p dj k ≡ true) ⊎ (withLoop t s p dk j ≡ true)
+          go : Unmet (graph t) (missed (graph t) s p) j k → (destinations t s p j k ≡ true) ⊎ (destinations t s p k j ≡ true)
           go u =
               let (_, m) = allRefs-refs t (u .x) (u .dependence .from) in
               let (_, n) = allRefs-refs t (u .y) (u .dependence .to) in
@@ -232,19 +255,14 @@ module _ {c : List ℕ} (h : Held c) where
               let nk : Mem (u .y) (refs t k) = subst (λ (i : ℕ). Mem (u .y) (refs t i)) (u .to) n in
               let both : lacking t s p (u .x) (u .y) ≡ true = rw (u .dependence .joined, u .missed-is) in
               ⊎-elim
-              (λ e. inl (of-some (between t s p dj) (refs t k) (u .y) nk
-              (let q : u .x ≡ dj = destination-is j (omega arith) (u .x) mj e in
-              let z : lacking t s p dj (u .y) ≡ true = subst (λ (r : Reference). lacking t s p r (u .y) ≡ true) q both in rw z)))
-              (λ e. inr (of-some (between t s p dk) (refs t j) (u .x) mj
-              (let q : u .y ≡ dk = destination-is k l (u .y) nk e in
-              let z : lacking t s p (u .x) dk ≡ true = subst (λ (r : Reference). lacking t s p (u .x) r ≡ true) q both in
-              rw z (or-true (lacking t s p dk (u .x))))))
+              (λ e. inl (of-destination j k (u .x) (u .y) mj nk e (rw both)))
+              (λ e. inr (of-destination k j (u .y) (u .x) nk mj e (rw both (or-true (lacking t s p (u .y) (u .x))))))
               (dependence-meets t (u .x) (u .y) .0 (u .dependence .joined) .meet .0 .1)
 
-      pub pair-earlier : (b : Bool) → b ≡ withLoop t s p dj k → b ≡ true → true ≡ unmetIn t s p j k
+      pub pair-earlier : (b : Bool) → b ≡ destinations t s p j k → b ≡ true → true ≡ unmetIn t s p j k
       pair-earlier b e q = sym (from-earlier (sym e ∙ q))
 
-      pub pair-later : (b d : Bool) → b ≡ withLoop t s p dj k → b ≡ false → d ≡ withLoop t s p dk j → d ≡ unmetIn t s p j k
+      pub pair-later : (b d : Bool) → b ≡ destinations t s p j k → b ≡ false → d ≡ destinations t s p k j → d ≡ unmetIn t s p j k
       pair-later b d e n q =
           same-test d (unmetIn t s p j k) (λ z. from-later (sym q ∙ z))
           (λ z. ⊎-elim (λ w. absurd (false≢true (sym n ∙ e ∙ w))) (λ w. q ∙ w) (either z))

@@ -2,7 +2,7 @@
 use Prim.Native.Nat.{ℕ, _+_, _≤_, _<_}
 use mathlib.Core.Path.{_≡_}
 use mathlib.Core.Logic.{_≢_}
-use mathlib.Core.Bool.{Bool, true, _||_}
+use mathlib.Core.Bool.{Bool, true, _&&_, _||_}
 use mathlib.Core.List.{List}
 use lib.Dec.{ltb}
 use lib.ListN.{length, getD, replicate}
@@ -10,8 +10,9 @@ use Rattle.refusals.specs.declared.Refusal.{Refusal}
 use Rattle.refusals.specs.Answers.{AnswerOf, accepted, refusalOf}
 use Rattle.model.specs.declared.Reference.{Reference}
 use Rattle.model.specs.Table.{Table, count}
-use Rattle.model.specs.References.{reads, refs}
-use Rattle.reader.specs.Store.{itemsFrom, tableIn}
+use Rattle.model.specs.References.{refs}
+use Rattle.reader.specs.Store.{tableIn}
+use Rattle.reader.specs.Rows.{rowRefs, LastDestination}
 use Rattle.chains.specs.Dependence.{backward, forward}
 use Rattle.chains.specs.TableGraph.{graph}
 use Rattle.chains.specs.Unmet.{someOf, missed, lacks, unmet, leastUnmet}
@@ -49,6 +50,14 @@ module _ (t : Table) (s p : List ℕ) where
   abbrev pub withLoop : Reference → ℕ → Bool
   withLoop x k = someOf (between x) (refs t k)
 
+  -- so with x, if it is a destination
+  abbrev pub storedWith : ℕ → Reference → Bool
+  storedWith k x = x .stores && withLoop x k
+
+  -- so with some destination of loop j and some reference of loop k
+  abbrev pub destinations : ℕ → ℕ → Bool
+  destinations j k = someOf (storedWith k) (refs t j)
+
   abbrev pub unmetIn : ℕ → ℕ → Bool
   unmetIn = unmet (graph t) (missed (graph t) s p)
 
@@ -62,9 +71,19 @@ pub record Storing (t : Table) (x : Reference) (k : ℕ) : Type 0 where
   pub other : x .number ≢ k
   pub there : k < count t
 
--- x and the reference in row r of loop k, if there is one in it
-abbrev pub withRow : (c s p : List ℕ) → Reference → ℕ → ℕ → Bool
-withRow c s p x k r = someOf (between (tableIn c) s p x) (reads k (itemsFrom c r 1))
+-- for each loop of the table in a store the row of its last destination
+pub record Lasts (c lasts : List ℕ) : Type 0 where
+  pub long : length lasts ≡ 16
+  pub each : (k : ℕ) → k < count (tableIn c) → LastDestination c k (getD lasts k 0)
+
+module _ (c s p : List ℕ) where
+  -- x and the reference in row r of loop k, if there is one in it
+  abbrev pub withRow : Reference → ℕ → ℕ → Bool
+  withRow x k r = someOf (between (tableIn c) s p x) (rowRefs c k r)
+
+  -- the destination in row r of loop j, if there is one in it, and some reference of loop k
+  abbrev pub destinationRow : ℕ → ℕ → ℕ → Bool
+  destinationRow j r k = someOf (storedWith (tableIn c) s p k) (rowRefs c j r)
 
 -- a refusal, or nothing refused, without numbers
 abbrev pub numberless : Refusal → Hand

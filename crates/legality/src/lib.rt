@@ -1,6 +1,7 @@
 // A plan by hand: its shifts and peels are read from bytes, and held to what a plan may be (19) and to every dependence of the table (20).
 use amounts::Amounts;
 use arithmetic::above;
+use arithmetic::narrow;
 use arithmetic::wide;
 use model::Reference;
 use records::Store;
@@ -16,14 +17,14 @@ ghost use Rattle.model.specs.Table.{count};
 ghost use Rattle.model.specs.References.{touch};
 ghost use Rattle.reader.specs.Store.{startAt, tableIn};
 ghost use Rattle.reader.specs.Held.{Held};
+ghost use Rattle.reader.specs.Rows.{LastDestination};
 ghost use Rattle.chains.specs.Unmet.{leastFrom};
 ghost use Rattle.refusals.specs.Refusals.{none};
 ghost use Rattle.refusals.specs.Answers.{refusalOf};
-ghost use Rattle.amounts.specs.Rows.{refIn};
 ghost use Rattle.amounts.specs.Walked.{ReferenceFits};
 ghost use Rattle.legality.specs.Written.{numberAt, amountsIn};
 ghost use Rattle.legality.specs.ByHand.{tooLarge, judged as judgedIn, byHand};
-ghost use Rattle.legality.specs.Code.{Within, Near, missing, lacking, between, Storing, withRow, withLoop, unmetIn, leastUnmetIn, numberless, Tells};
+ghost use Rattle.legality.specs.Code.{Within, Near, missing, lacking, between, Storing, Lasts, withRow, withLoop, destinationRow, destinations, unmetIn, leastUnmetIn, numberless, Tells};
 
 // No shift and no peel of a plan by hand is above it.
 const MOST: u32 = 10000;
@@ -124,7 +125,7 @@ fn lacks_between(
     lacks(store, shifts, peels, y, x)
 }
 
-// The same of x, a destination, and row r of loop k, one of its items: only a read of x's array can make a dependence with it.
+// The same of x, a destination, and row r of loop k: only a reference to x's array can make a dependence with it.
 fn lacks_row(
     store: &Store,
     shifts: &[u32; 16],
@@ -134,35 +135,17 @@ fn lacks_row(
     r: usize,
 ) -> bool
     requires { ⌜ Held (now store) × Within (now shifts) (now peels) ⌝ }
-    requires { ⌜ Storing (tableIn (now store)) x k × (startAt (now store) k < r) × (r < startAt (now store) (k + 1)) ⌝ }
+    requires { ⌜ Storing (tableIn (now store)) x k × (r < startAt (now store) (k + 1)) ⌝ }
     ensures { λ b. ⌜ b ≡ withRow (now (store .entry)) (now (shifts .entry)) (now (peels .entry)) x k r ⌝ }
 {
     if wide(reader::array_at(store, r)) != x.array {
         return false;
     }
-    if reader::kind_at(store, r) == reader::READ {
-        let y = amounts::reference_at(store, k, r, false);
+    if reader::kind_at(store, r) < reader::CONSTANT {
+        let y = reader::reference_at(store, k, r);
         return lacks_between(store, shifts, peels, x, y);
     }
     false
-}
-
-// The same of x, a destination, and the destination of loop k.
-fn lacks_destination(
-    store: &Store,
-    shifts: &[u32; 16],
-    peels: &[u32; 16],
-    x: Reference,
-    k: usize,
-) -> bool
-    requires { ⌜ Held (now store) × Within (now shifts) (now peels) × Storing (tableIn (now store)) x k ⌝ }
-    ensures { λ b. ⌜ b ≡ between (tableIn (now (store .entry))) (now (shifts .entry)) (now (peels .entry)) x (refIn (now (store .entry)) k (startAt (now (store .entry)) k) true) ⌝ }
-{
-    let y = amounts::reference_at(store, k, reader::start_at(store, k), true);
-    if y.array != x.array {
-        return false;
-    }
-    lacks_between(store, shifts, peels, x, y)
 }
 
 // The same of x, a destination, and any reference of loop k, which is another loop.
@@ -170,11 +153,8 @@ fn lacks_loop(store: &Store, shifts: &[u32; 16], peels: &[u32; 16], x: Reference
     requires { ⌜ Held (now store) × Within (now shifts) (now peels) × Storing (tableIn (now store)) x k ⌝ }
     ensures { λ b. ⌜ b ≡ withLoop (tableIn (now (store .entry))) (now (shifts .entry)) (now (peels .entry)) x k ⌝ }
 {
-    if lacks_destination(store, shifts, peels, x, k) {
-        return true;
-    }
     let past = reader::start_at(store, k + 1);
-    let mut r = reader::start_at(store, k) + 1;
+    let mut r = reader::start_at(store, k);
     while r < past {
         if lacks_row(store, shifts, peels, x, k, r) {
             return true;
@@ -184,33 +164,105 @@ fn lacks_loop(store: &Store, shifts: &[u32; 16], peels: &[u32; 16], x: Reference
     false
 }
 
+// The same of row r of loop j, if it is a destination's, and any reference of loop k, which is another loop.
+fn lacks_destination(
+    store: &Store,
+    shifts: &[u32; 16],
+    peels: &[u32; 16],
+    j: usize,
+    r: usize,
+    k: usize,
+) -> bool
+    requires { ⌜ Held (now store) × Within (now shifts) (now peels) ⌝ }
+    requires { ⌜ (j < count (tableIn (now store))) × (r < startAt (now store) (j + 1)) × (k < count (tableIn (now store))) × (j ≢ k) ⌝ }
+    ensures { λ b. ⌜ b ≡ destinationRow (now (store .entry)) (now (shifts .entry)) (now (peels .entry)) j r k ⌝ }
+{
+    if reader::kind_at(store, r) == reader::DESTINATION {
+        let x = reader::reference_at(store, j, r);
+        return lacks_loop(store, shifts, peels, x, k);
+    }
+    false
+}
+
+// The same of any destination of loop j, the last of which stands in row `last`, and any reference of loop k, which is another loop. In a loop of
+// one statement the first row is the last one, too.
+fn lacks_destinations(
+    store: &Store,
+    shifts: &[u32; 16],
+    peels: &[u32; 16],
+    j: usize,
+    last: usize,
+    k: usize,
+) -> bool
+    requires { ⌜ Held (now store) × Within (now shifts) (now peels) ⌝ }
+    requires { ⌜ (j < count (tableIn (now store))) × LastDestination (now store) j last × (k < count (tableIn (now store))) × (j ≢ k) ⌝ }
+    ensures { λ b. ⌜ b ≡ destinations (tableIn (now (store .entry))) (now (shifts .entry)) (now (peels .entry)) j k ⌝ }
+{
+    let mut r = reader::start_at(store, j);
+    while r <= last {
+        if lacks_destination(store, shifts, peels, j, r, k) {
+            return true;
+        }
+        r += 1;
+    }
+    false
+}
+
 // Whether some dependence from loop j to loop k is not met. One of its references is a destination.
-fn unmet_pair(store: &Store, shifts: &[u32; 16], peels: &[u32; 16], j: usize, k: usize) -> bool
+fn unmet_pair(
+    store: &Store,
+    shifts: &[u32; 16],
+    peels: &[u32; 16],
+    lasts: &[u32; 16],
+    j: usize,
+    k: usize,
+) -> bool
     requires { ⌜ Held (now store) × Within (now shifts) (now peels) × (j < k) × (k < count (tableIn (now store))) ⌝ }
+    requires { ⌜ Lasts (now store) (now lasts) ⌝ }
     ensures { λ b. ⌜ b ≡ unmetIn (tableIn (now (store .entry))) (now (shifts .entry)) (now (peels .entry)) j k ⌝ }
 {
-    let x = amounts::reference_at(store, j, reader::start_at(store, j), true);
-    if lacks_loop(store, shifts, peels, x, k) {
+    if lacks_destinations(store, shifts, peels, j, wide(lasts[j]), k) {
         return true;
     }
-    let y = amounts::reference_at(store, k, reader::start_at(store, k), true);
-    lacks_loop(store, shifts, peels, y, j)
+    lacks_destinations(store, shifts, peels, k, wide(lasts[k]), j)
 }
 
 // The lowest loop to which some dependence from loop j is not met; 16 where there is none.
-fn lowest_later(store: &Store, shifts: &[u32; 16], peels: &[u32; 16], j: usize) -> usize
+fn lowest_later(
+    store: &Store,
+    shifts: &[u32; 16],
+    peels: &[u32; 16],
+    lasts: &[u32; 16],
+    j: usize,
+) -> usize
     requires { ⌜ Held (now store) × Within (now shifts) (now peels) × (j < count (tableIn (now store))) ⌝ }
+    requires { ⌜ Lasts (now store) (now lasts) ⌝ }
     ensures { λ n. ⌜ n ≡ leastFrom 16 0 (unmetIn (tableIn (now (store .entry))) (now (shifts .entry)) (now (peels .entry)) j) ⌝ }
 {
     let loops = reader::loops_in(store);
     let mut k = j + 1;
     while k < loops {
-        if unmet_pair(store, shifts, peels, j, k) {
+        if unmet_pair(store, shifts, peels, lasts, j, k) {
             return k;
         }
         k += 1;
     }
     16
+}
+
+// For each loop the row of its last destination.
+fn last_destinations(store: &Store) -> [u32; 16]
+    requires { ⌜ Held (now store) ⌝ }
+    ensures { λ r. ⌜ Lasts (now (store .entry)) r ⌝ }
+{
+    let loops = reader::loops_in(store);
+    let mut lasts = [0u32; 16];
+    let mut k: usize = 0;
+    while k < loops {
+        lasts[k] = narrow(reader::last_destination(store, k));
+        k += 1;
+    }
+    lasts
 }
 
 // The first pair of loops with a dependence that is not met, as 16 * earlier + later: the lowest earlier loop, and with it the lowest later one.
@@ -219,9 +271,10 @@ fn least_unmet(store: &Store, shifts: &[u32; 16], peels: &[u32; 16]) -> usize
     ensures { λ n. ⌜ (n ≡ leastUnmetIn (tableIn (now (store .entry))) (now (shifts .entry)) (now (peels .entry))) × (n ≤ 256) ⌝ }
 {
     let loops = reader::loops_in(store);
+    let lasts = last_destinations(store);
     let mut j: usize = 0;
     while j < loops {
-        let k = lowest_later(store, shifts, peels, j);
+        let k = lowest_later(store, shifts, peels, &lasts, j);
         if k < 16 {
             return 16 * j + k;
         }

@@ -1,10 +1,11 @@
--- `walk_row` meets its contract: a read is taken up, any other item passed over.
-use mathlib.Core.Path.{sym, _∙_}
+-- `walk_row` meets its contract: a reference is taken up, any other item passed over.
+use Prim.Native.Nat.{_<_}
 use native.Mathlib.Omega.{arith}
 use denote.Ref.{now}
+use Rattle.reader.specs.Store.{kindAt}
 use Rattle.amounts.specs.Rows.{past-few}
 use Rattle.amounts.specs.Walked.{numbersIn}
-use Rattle.amounts.proofs.Laws.{row-few, read-earlier, read-steps, read-next, item-next}
+use Rattle.amounts.proofs.Laws.{row-few, reference-earlier, reference-steps, reference-next, item-next}
 use Rattle.amounts.proofs.walk_row.Statement.{statement}
 use Rattle.amounts.proofs.walk_row.Tie as tie
 
@@ -21,9 +22,9 @@ take-later-requires c κs =
     let a = b .args in
     let p = b .pre in
     let w = p .1 .1 in
-    let e = sym (k .kind-at .ensures) ∙ c .before .before .before .before .before .if1 .taken in
+    let q : kindAt (now (a .store)) (a .r) < 2 = omega (arith, k .kind-at .ensures, c .before .before .before .before .before .if1 .taken) in
     rw (c .before .before .before .before .reference-at .ensures) (
-      (p .0 .0, read-earlier (p .0 .0) (a .k) (p .0 .1) (a .n) (now (a .columns)) (numbersIn (now (a .shifts)) (now (a .peels)) (now (a .made))) (a .from) (p .0 .2) (a .r) (p .1 .0 .0) (p .1 .0 .1) w e, read-steps (p .0 .0) (a .k) (p .0 .1) (a .n) (now (a .columns)) (numbersIn (now (a .shifts)) (now (a .peels)) (now (a .made))) (a .from) (p .0 .2) (a .r) (p .1 .0 .0) (p .1 .0 .1) w e),
+      (p .0 .0, reference-earlier (p .0 .0) (a .k) (p .0 .1) (a .n) (now (a .columns)) (numbersIn (now (a .shifts)) (now (a .peels)) (now (a .made))) (a .from) (p .0 .2) (a .r) (p .1 .0 .0) (p .1 .0 .1) w q, reference-steps (p .0 .0) (a .k) (p .0 .1) (a .n) (now (a .columns)) (numbersIn (now (a .shifts)) (now (a .peels)) (now (a .made))) (a .from) (p .0 .2) (a .r) (p .1 .0 .0) (p .1 .0 .1) w q),
       (w .bounded, w .few, row-few (p .0 .0) (a .k) (p .0 .1) (a .n) (now (a .columns)) (numbersIn (now (a .shifts)) (now (a .peels)) (now (a .made))) (a .from) (p .0 .2) (a .r) (p .1 .0 .0) (p .1 .0 .1) w),
     )
 
@@ -41,16 +42,16 @@ returns c =
     let b = k .before in
     let a = b .args in
     let p = b .pre in
-    let e = sym (k .kind-at .ensures) ∙ c .before .before .before .before .before .before .if1 .taken in
+    let q : kindAt (now (a .store)) (a .r) < 2 = omega (arith, k .kind-at .ensures, c .before .before .before .before .before .before .if1 .taken) in
     let given = rw (c .before .before .before .before .before .reference-at .ensures) at (c .take-later .ensures) in
-    read-next (p .0 .0) (a .k) (p .0 .1) (a .n) (now (a .columns)) (numbersIn (now (a .shifts)) (now (a .peels)) (now (a .made))) (a .from) (p .0 .2) (a .r) (p .1 .0 .0) (p .1 .0 .1) (p .1 .1) e _ _ (given .0) (given .1 .0) (given .1 .1)
+    reference-next (p .0 .0) (a .k) (p .0 .1) (a .n) (now (a .columns)) (numbersIn (now (a .shifts)) (now (a .peels)) (now (a .made))) (a .from) (p .0 .2) (a .r) (p .1 .0 .0) (p .1 .0 .1) (p .1 .1) q _ _ (given .0) (given .1 .0) (given .1 .1)
 
 returns-2 : tie.Need-returns-2
 returns-2 c =
     let b = c .before .before in
     let a = b .args in
     let p = b .pre in
-    item-next (p .0 .0) (a .k) (p .0 .1) (a .n) (now (a .columns)) (numbersIn (now (a .shifts)) (now (a .peels)) (now (a .made))) (a .from) (p .0 .2) (a .r) (p .1 .0 .0) (p .1 .0 .1) (p .1 .1) (λ e. c .if1 .left (c .before .kind-at .ensures ∙ e))
+    item-next (p .0 .0) (a .k) (p .0 .1) (a .n) (now (a .columns)) (numbersIn (now (a .shifts)) (now (a .peels)) (now (a .made))) (a .from) (p .0 .2) (a .r) (p .1 .0 .0) (p .1 .0 .1) (p .1 .1) (omega (arith, c .before .kind-at .ensures, c .if1 .left))
 
 pub walk-row-spec : {M : Type 1} → statement M
 walk-row-spec = tie.close (tie.spec kind-at-requires reference-at-requires take-later-requires add-result returns returns-2)
