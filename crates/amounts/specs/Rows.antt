@@ -14,7 +14,7 @@ use Rattle.reader.specs.Store.{startAt, tableIn}
 use Rattle.reader.specs.Stored.{Row}
 use Rattle.reader.specs.Held.{Held, rows-rise, few-rows, row-held}
 use Rattle.reader.specs.Rows.{rowRefs, refsIn}
-use Rattle.reader.specs.RowLaws.{refs-next, refs-end, refs-split, refs-few, refs-held, refs-range}
+use Rattle.reader.specs.RowLaws.{refs-end, refs-split, refs-up, refs-few, refs-held, refs-range}
 use Rattle.chains.specs.Bounds.{InRange}
 
 -- the references before row r of loop k
@@ -51,11 +51,8 @@ module _ {c : List ℕ} (h : Held c) (k : ℕ) (l : k < count (tableIn c)) where
 
   pub past-next : (r : ℕ) → startAt c k ≤ r → pastRow c k (r + 1) ≡ pastRow c k r ++ rowRefs c k r
   past-next r i =
-      past-split r (r + 1) i (omega arith)
-      ∙ ap (λ (xs : List Reference). pastRow c k r ++ xs)
-      (refs-next c k r (r + 1) (omega arith)
-      ∙ ap (λ (xs : List Reference). rowRefs c k r ++ xs) (refs-end c k (r + 1) (r + 1) (omega arith))
-      ∙ append-nil (rowRefs c k r))
+      ap (λ (xs : List Reference). joined k (refs (tableIn c)) ++ xs) (refs-up c k (startAt c k) r i)
+      ∙ sym (append-assoc (joined k (refs (tableIn c))) (refsIn c k (startAt c k) r) (rowRefs c k r))
 
   pub past-end : pastRow c k (startAt c (k + 1)) ≡ joined (k + 1) (refs (tableIn c))
   past-end = rw (add-one k) (ap (λ (xs : List Reference). joined k (refs (tableIn c)) ++ xs) (sym (refs-held h k l)))
