@@ -1,4 +1,3 @@
-use native.Mathlib.Omega.{arith}
 use native.Mathlib.Numerals.{add-one}
 use denote.Ref.{now}
 use lib.ListN.{length}
@@ -6,16 +5,6 @@ use Rattle.iterations.specs.RunnableLaws.{loaded-body, loaded-rows, load
 use borrow.Author.Needs.{needs}
 use Rattle.iterations.proofs.iterate.Statement.{statement}
 use Rattle.iterations.proofs.iterate.Tie as tie
-
-start-at-requires : tie.Need-start-at-requires
-start-at-requires c κs =
-    let (t, l, h, e) = c .before .pre in
-    omega (arith, h .0, l .valid .few-loops)
-
-start-at-requires-2 : tie.Need-start-at-requires-2
-start-at-requires-2 c κs =
-    let (t, l, h, e) = c .before .before .pre in
-    omega (arith, h .0, l .valid .few-loops)
 
 run-rows-requires : tie.Need-run-rows-requires
 run-rows-requires c κs =
@@ -33,4 +22,4 @@ returns c =
 pub iterate-spec : {M : Type 1} → statement M
 iterate-spec =
     tie.close (tie.spec
-    start-at-requires (λ c. search needs) start-at-requires-2 run-rows-requires (λ c. search needs) returns)
+    (λ c κs. search needs) (λ c. search needs) (λ c κs. search needs) run-rows-requires (λ c. search needs) returns)
