@@ -17,9 +17,11 @@ returns : tie.Need-returns
 returns c =
     let a = c .before .before .before .before .before .args in
     let n = c .before .before .before .none in
-    let w = c .before .before .work-rows in
-    (w .ensures .0 .1, λ ns b. at-bottom (leadFrom (now (a .store)) (a .from) (a .past - a .from) []) ns (a .i) (now (a .memory)) (n .result)
-    (w .result .waiting) (n .ensures) (w .ensures .0 .0) (w .ensures .1 ns b))
+    let w = c .before .before .work-rows in (
+      w .ensures .0 .1,
+      λ ns b. at-bottom (leadFrom (now (a .store)) (a .from) (a .past - a .from) []) ns (a .i) (now (a .memory)) (n .result)
+          (w .result .waiting) (n .ensures) (w .ensures .0 .0) (w .ensures .1 ns b),
+    )
 
 pub value-of-spec : {M : Type 1} → statement M
 value-of-spec = tie.close (tie.spec (λ c κs. search needs) work-rows-requires (λ c. search needs) returns)
