@@ -22,10 +22,10 @@ run-rows-requires c κs =
     let a = c .before .before .before .before .args in
     let p = c .before .before .before .before .pre in
     let l = c .before .before .loop in
-    let h = c .before .loop-test .taken in (
-      (p .0 .0, omega (arith, p .0 .1, h), p .0 .2),
-      range-asks (now (a .store)) (now (a .bases)) (a .from) (a .past) (a .first) (a .last) (now (a .memory)) (l .i) (l .memory) (l .inv) h
-          (p .1),
+    let t = c .before .loop-test .taken in (
+      (p .0 .0, omega (arith, p .0 .1, t), p .0 .2),
+      range-asks (now (a .store)) (now (a .bases)) (a .from) (a .past) (a .first) (a .last) (now (a .memory)) (l .i) (l .memory) (l .inv)
+          (omega (arith, t)) (p .1),
     )
 
 add-i : tie.Need-add-i Inv-loop μ-loop
@@ -39,7 +39,7 @@ loop-again c =
     let a = c .before .before .before .before .before .before .before .args in
     let l = c .before .before .before .before .before .loop in
     range-next (now (a .store)) (now (a .bases)) (a .from) (a .past) (a .first) (a .last) (now (a .memory)) (l .i) (l .memory) (l .inv)
-    (c .before .before .before .before .loop-test .taken) (c .before .before .run-rows .last .1 .1 .1 .1 .1 .0) (search needs) (c .before .before .run-rows .ensures)
+    (omega (arith, c .before .before .before .before .loop-test .taken)) (c .before .before .run-rows .last .1 .1 .1 .1 .1 .0) (search needs) (c .before .before .run-rows .ensures)
 
 same-length : tie.Need-same-length Inv-loop μ-loop
 same-length c = c .before .loop .inv .long
@@ -49,7 +49,7 @@ returns c =
     let a = c .before .before .before .args in
     let l = c .before .loop in
     range-end (now (a .store)) (now (a .bases)) (a .from) (a .past) (a .first) (a .last) (now (a .memory)) (l .i) (l .memory) (l .inv)
-    (c .loop-test .left)
+    (omega (arith, c .loop-test .left))
 
 pub run-range-spec : {M : Type 1} → statement M
 run-range-spec =
