@@ -9,15 +9,16 @@ use lib.Dec.{eqb}
 use lib.ListN.{length, getD}
 use lib.Ieee.{Float, nan, binary64, ofInt}
 use lib.IntN.{pos}
-use borrow.Author.Tests.{ne-eqb}
+use borrow.Author.Tests.{eq-eqb, ne-eqb}
 use Rattle.records.specs.History.{operands}
 use Rattle.model.specs.Table.{Item, read, constant, operation}
 use Rattle.model.specs.Bodies.{negated, combined, applied, worked, workedAll, value}
-use Rattle.reader.specs.Store.{itemOf, itemAt, itemsFrom}
+use Rattle.reader.specs.Store.{kindAt, itemOf, itemAt, leadFrom, bodyFrom, statementsFrom}
 use Rattle.grounds.specs.Accepted.{Works}
 use Rattle.bodies.specs.declared.Waiting.{Waiting}
 use Rattle.bodies.specs.Stack.{tops, waiting, Holds}
 use Rattle.bodies.specs.Workable.{Based, Element, ReadsWithin, Ready, next}
+use Rattle.bodies.specs.Stopped.{Opens, Stopped}
 
 -- WHICH ITEM IT IS
 item-read : (k q v : ℕ) → k ≡ 0 → itemOf k q v ≡ read q v
@@ -114,44 +115,71 @@ module _ (bs : List ℕ) (i : ℕ) (m : List Float) (whole : List Item) (s : Lis
   unfolding workedAll
   left-end w d l = (l .works, l .gives)
 
--- the items in the rows from `from` up to `past`, worked from where s waits: those before `row` are worked
+-- the items in the rows from `from` up to the first destination's or up to `past`, worked from where s waits: those before `row` are worked
 module _ (bs : List ℕ) (i : ℕ) (m : List Float) (cs : List ℕ) (from past : ℕ) (s : Waiting) where
   abbrev all : List Item
-  all = itemsFrom cs from (past - from)
+  all = leadFrom cs from (past - from) []
 
-  abbrev pub RowsLeft : ℕ → Waiting → Type 0
-  RowsLeft row w = Left bs i m all (waiting s) (itemsFrom cs row (past - row)) (waiting w) (w .count)
+  pub record RowsLeft (row : ℕ) (w : Waiting) : Type 0 where
+    pub low : from ≤ row
+    pub high : row ≤ past
+    pub same : statementsFrom cs from (past - from) ≡ statementsFrom cs row (past - row)
+    pub left : Left bs i m all (waiting s) (leadFrom cs row (past - row) []) (waiting w) (w .count)
 
-  pub rows-start : s .count ≤ 8 → Works all (s .count) → ReadsWithin bs i (length m) all → RowsLeft from s
-  rows-start = left-start bs i m all (waiting s) (s .count)
+  pub rows-start : from ≤ past → s .count ≤ 8 → Works all (s .count) → ReadsWithin bs i (length m) all → RowsLeft from s
+  rows-start h f w r = record { low = omega arith; high = h; same = refl; left = left-start bs i m all (waiting s) (s .count) f w r }
 
   module _ (row : ℕ) (w : Waiting) (l : RowsLeft row w) where
-    module _ (h : row < past) where
+    -- an item
+    module _ (h : row < past) (item : kindAt cs row ≡ 1 → ⊥) where
       abbrev rest : List Item
-      rest = itemsFrom cs (row + 1) (past - (row + 1))
+      rest = leadFrom cs (row + 1) (past - (row + 1)) []
 
-      split : itemsFrom cs row (past - row) ≡ itemAt cs row ∷ rest
-      unfolding itemsFrom
-      split = let e : past - row ≡ suc (past - (row + 1)) = omega arith in rw (e, add-one row)
+      one : past - row ≡ suc (past - (row + 1))
+      one = omega arith
+
+      split : leadFrom cs row (past - row) [] ≡ itemAt cs row ∷ rest
+      unfolding leadFrom
+      split = rw (one, ne-eqb (kindAt cs row) 1 item, add-one row)
+
+      begun : statementsFrom cs row (past - row) ≡ statementsFrom cs (row + 1) (past - (row + 1))
+      unfolding bodyFrom
+      begun = rw (one, ne-eqb (kindAt cs row) 1 item, add-one row)
 
       here : Left bs i m all (waiting s) (itemAt cs row ∷ rest) (waiting w) (w .count)
-      here = subst (λ (xs : List Item). Left bs i m all (waiting s) xs (waiting w) (w .count)) split l
+      here = subst (λ (xs : List Item). Left bs i m all (waiting s) xs (waiting w) (w .count)) split (l .left)
 
       pub rows-ready : Ready bs i (length m) (itemAt cs row) (w .count)
       rows-ready = left-ready bs i m all (waiting s) (itemAt cs row) rest (waiting w) (w .count) here
 
       pub rows-next : (v : Waiting) → v .count ≡ next (itemAt cs row) (w .count)
           → ((ns : List ℕ) → Based bs ns → waiting v ≡ worked ns i m (itemAt cs row) (waiting w)) → RowsLeft (row + 1) v
-      rows-next v = left-next bs i m all (waiting s) (itemAt cs row) rest (waiting w) (w .count) here (waiting v) (v .count)
+      rows-next v e f = record {
+        low = omega (arith, l .low);
+        high = omega arith;
+        same = l .same ∙ begun;
+        left = left-next bs i m all (waiting s) (itemAt cs row) rest (waiting w) (w .count) here (waiting v) (v .count) e f;
+      }
 
-    none : past ≤ row → itemsFrom cs row (past - row) ≡ []
-    unfolding itemsFrom
-    none h = let e : past - row ≡ 0 = omega arith in rw e
+    -- the end: a destination's row, or the last
+    abbrev pub Ended : Type 0
+    Ended =
+        ((w .count ≡ 1) × Stopped cs from past row) × ((ns : List ℕ) → Based bs ns → waiting w ≡ workedAll ns i m all (waiting s))
 
-    pub rows-end : past ≤ row → (w .count ≡ 1) × ((ns : List ℕ) → Based bs ns → waiting w ≡ workedAll ns i m all (waiting s))
-    rows-end h =
+    ended : Opens cs row past → leadFrom cs row (past - row) [] ≡ [] → Ended
+    ended o e =
+        let z =
         left-end bs i m all (waiting s) (waiting w) (w .count)
-        (subst (λ (xs : List Item). Left bs i m all (waiting s) xs (waiting w) (w .count)) (none h) l)
+        (subst (λ (xs : List Item). Left bs i m all (waiting s) xs (waiting w) (w .count)) e (l .left)) in
+        ((z .0, record { low = l .low; high = l .high; opens = o; same = l .same }), z .1)
+
+    pub rows-met : row < past → kindAt cs row ≡ 1 → Ended
+    unfolding leadFrom
+    rows-met h e = let f : past - row ≡ suc (past - suc row) = omega arith in ended (λ k. e) (rw (f, eq-eqb (kindAt cs row) 1 e))
+
+    pub rows-end : past ≤ row → Ended
+    unfolding leadFrom
+    rows-end h = let e : past - row ≡ 0 = omega arith in ended (λ k. absurd (omega arith)) (rw e)
 
 -- from where nothing waits to where one value does: it is at the bottom
 pub at-bottom : (xs : List Item) (ns : List ℕ) (i : ℕ) (m : List Float) (s w : Waiting) → s .count ≡ 0 → w .count ≡ 1

@@ -1,22 +1,35 @@
 // The value of a postfix body. Arithmetic is IEEE 754 binary64, each operation rounded once.
 use records::Store;
 ghost use mathlib.Core.Path.{_≡_};
-ghost use mathlib.Core.List.{List, _∷_};
+ghost use mathlib.Core.List.{List, [], _∷_};
 ghost use Prim.Native.Nat.{ℕ, _+_, _-_, _^_, _≤_, _<_};
 ghost use lib.ListN.{length, getD};
 ghost use lib.IntN.{pos};
 ghost use lib.Ieee.{nan, binary64, ofInt};
 ghost use Rattle.records.specs.History.{operands};
 ghost use Rattle.model.specs.Bodies.{binary, negated, combined, applied, worked, workedAll, value};
-ghost use Rattle.reader.specs.Store.{itemOf, itemsFrom};
+ghost use Rattle.reader.specs.Store.{itemOf, leadFrom};
 ghost use Rattle.grounds.specs.Accepted.{Works};
 ghost use Rattle.bodies.specs.Stack.{tops, waiting, Holds};
 ghost use Rattle.bodies.specs.Workable.{Based, Element, ReadsWithin, Ready, next};
+ghost use Rattle.bodies.specs.Stopped.{Stopped};
 
 // The values waiting in a body, with their count.
 pub struct Waiting {
     pub values: [f64; 8],
     pub count: usize,
+}
+
+// What then waits, and the row at which the items ended.
+pub struct Worked {
+    pub waiting: Waiting,
+    pub row: usize,
+}
+
+// The value of a body, and the row at which its items ended.
+pub struct Valued {
+    pub value: f64,
+    pub row: usize,
 }
 
 // 1 add, 2 subtract, 3 multiply, 4 divide.
@@ -126,7 +139,7 @@ impl Waiting {
         }
     }
 
-    // Works the items of the rows from `from` up to `past`, in iteration i.
+    // Works the items of the rows from `from` up to the first destination's or up to `past`, in iteration i.
     pub fn work_rows(
         self,
         store: &Store,
@@ -135,29 +148,33 @@ impl Waiting {
         past: usize,
         i: usize,
         memory: &[f64],
-    ) -> Self
-        requires { ⌜ (past ≤ 528) × (i < 2 ^ 32) × (self .count ≤ 8) ⌝ }
-        requires { ⌜ Works (itemsFrom (now store) from (past - from)) (self .count) ⌝ }
-        requires { ⌜ ReadsWithin (now bases) i (length (now memory)) (itemsFrom (now store) from (past - from)) ⌝ }
-        ensures { λ r. ⌜ r .count ≡ 1 ⌝ }
-        ensures { λ r. ⌜ ((ns : List ℕ) → Based (now (bases .entry)) ns → waiting r ≡ workedAll ns i (now (memory .entry)) (itemsFrom (now (store .entry)) from (past - from)) (waiting self)) ⌝ }
+    ) -> Worked
+        requires { ⌜ (from ≤ past) × (past ≤ 576) × (i < 2 ^ 32) × (self .count ≤ 8) ⌝ }
+        requires { ⌜ Works (leadFrom (now store) from (past - from) []) (self .count) ⌝ }
+        requires { ⌜ ReadsWithin (now bases) i (length (now memory)) (leadFrom (now store) from (past - from) []) ⌝ }
+        ensures { λ r. ⌜ (r .waiting .count ≡ 1) × Stopped (now (store .entry)) from past (r .row) ⌝ }
+        ensures { λ r. ⌜ ((ns : List ℕ) → Based (now (bases .entry)) ns → waiting (r .waiting) ≡ workedAll ns i (now (memory .entry)) (leadFrom (now (store .entry)) from (past - from) []) (waiting self)) ⌝ }
     {
         let mut w = self;
         let mut row = from;
         while row < past {
             let n = w.count;
             let kind = reader::kind_at(store, row);
+            if kind == reader::DESTINATION {
+                return Worked { waiting: w, row };
+            }
             let array = reader::array_at(store, row);
             let value = reader::value_at(store, row);
             let next = work_item(&mut w.values, n, kind, array, value, bases, i, memory);
             w.count = next;
             row += 1;
         }
-        w
+        Worked { waiting: w, row }
     }
 }
 
-// The value in iteration i of the body in the rows from `from` up to `past`; `bases` are where the arrays begin in the memory.
+// The value in iteration i of the body in the rows from `from` up to the first destination's or up to `past`; `bases` are where the
+// arrays begin in the memory.
 pub fn value_of(
     store: &Store,
     bases: &[u32; 17],
@@ -165,13 +182,18 @@ pub fn value_of(
     past: usize,
     i: usize,
     memory: &[f64],
-) -> f64
-    requires { ⌜ (past ≤ 528) × (i < 2 ^ 32) ⌝ }
-    requires { ⌜ Works (itemsFrom (now store) from (past - from)) 0 ⌝ }
-    requires { ⌜ ReadsWithin (now bases) i (length (now memory)) (itemsFrom (now store) from (past - from)) ⌝ }
-    ensures { λ r. ⌜ ((ns : List ℕ) → Based (now (bases .entry)) ns → r ≡ value ns i (itemsFrom (now (store .entry)) from (past - from)) (now (memory .entry))) ⌝ }
+) -> Valued
+    requires { ⌜ (from ≤ past) × (past ≤ 576) × (i < 2 ^ 32) ⌝ }
+    requires { ⌜ Works (leadFrom (now store) from (past - from) []) 0 ⌝ }
+    requires { ⌜ ReadsWithin (now bases) i (length (now memory)) (leadFrom (now store) from (past - from) []) ⌝ }
+    ensures { λ r. ⌜ Stopped (now (store .entry)) from past (r .row) ⌝ }
+    ensures { λ r. ⌜ ((ns : List ℕ) → Based (now (bases .entry)) ns → r .value ≡ value ns i (leadFrom (now (store .entry)) from (past - from) []) (now (memory .entry))) ⌝ }
 {
     let none = Waiting::none();
-    let w = none.work_rows(store, bases, from, past, i, memory);
-    w.values[0]
+    let worked = none.work_rows(store, bases, from, past, i, memory);
+    let w = worked.waiting;
+    Valued {
+        value: w.values[0],
+        row: worked.row,
+    }
 }

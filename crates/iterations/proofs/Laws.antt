@@ -1,29 +1,25 @@
--- Where the arrays begin, one after the other; and one iteration over the store.
-use Prim.Native.Nat.{ℕ, zero, suc, _+_, _-_, _^_, _≤_, _<_}
+-- Where the arrays begin, one after the other; and the statements in the rows, one after the other.
+use Prim.Native.Nat.{ℕ, zero, suc, _+_, _-_, _≤_, _<_}
 use native.Mathlib.Omega.{arith}
 use native.Mathlib.Decide.{ℕ-discrete}
 use native.Mathlib.Numerals.{add-one}
-use mathlib.Core.Path.{_≡_, refl, sym, ap, subst, _∙_}
-use mathlib.Core.Bool.{false}
-use mathlib.Core.List.{List, [], _∷_, append-nil}
-use mathlib.Core.List.{List·Memᴰ as Mem, List·Memᴰ·head as mhere, List·Memᴰ·tail as mthere}
+use mathlib.Core.Path.{_≡_, refl, sym, _∙_}
+use mathlib.Core.List.{List, [], _∷_}
+use mathlib.Core.List.{List·Memᴰ·head as mhere, List·Memᴰ·tail as mthere}
+use borrow.Author.Tests.{eq-eqb}
 use lib.ListN.{length, getD, set, take, length-set}
 use lib.Seq.{getD-set-same, getD-set-other}
 use lib.Ieee.{Float}
 use borrow.Rule.Slice.PartMut.{midOf, putMid, mid-len, set-mid-at}
-use Rattle.model.specs.declared.Reference.{Reference}
-use Rattle.model.specs.Table.{Item, read, constant, operation, Statement, Loop, Table, loop, iteration, Inside}
-use Rattle.model.specs.References.{destination, reads, references, refs}
-use Rattle.model.specs.Bodies.{begins, value, performed, run}
+use Rattle.model.specs.Table.{Statement}
+use Rattle.model.specs.Bodies.{begins, value, performed}
 use Rattle.order.specs.Sequences.{runAll}
-use Rattle.reader.specs.Store.{itemsFrom, startAt, statementAt}
-use Rattle.reader.specs.Held.{loop-held, rows-rise, few-rows}
+use Rattle.reader.specs.Store.{kindAt, statementAt, bodyFrom, statementsFrom}
 use Rattle.grounds.specs.Statements.{sum}
-use Rattle.grounds.specs.Accepted.{Works, ValidLoop}
-use Rattle.grounds.specs.AcceptedLaws.{valid-last}
-use Rattle.bodies.specs.Workable.{Based, Element, ReadsWithin}
-use Rattle.iterations.specs.Memory.{elementTotal}
-use Rattle.iterations.specs.Loaded.{Loaded}
+use Rattle.bodies.specs.Workable.{Based}
+use Rattle.bodies.specs.Stopped.{Opens, Stopped}
+use Rattle.iterations.specs.LoadedLaws.{begins-none, begins-next, begins-most}
+use Rattle.iterations.specs.Runnable.{Performable, Runnable}
 
 -- WHERE ARRAYS BEGIN
 -- no length past the last of those taken
@@ -32,20 +28,6 @@ untaken zero l k h = refl
 untaken (suc n) [] k h = refl
 untaken (suc n) (x ∷ l) zero h = absurd (omega arith)
 untaken (suc n) (x ∷ l) (suc k) h = untaken n l k (omega arith)
-
-begins-none : (ns : List ℕ) → begins ns 0 ≡ 0
-begins-none [] = refl
-begins-none (n ∷ ns) = refl
-
-begins-next : (ns : List ℕ) (a : ℕ) → begins ns (suc a) ≡ begins ns a + getD ns a 0
-begins-next [] a = refl
-begins-next (n ∷ ns) zero = omega (arith, begins-none ns)
-begins-next (n ∷ ns) (suc a) = omega (arith, begins-next ns a)
-
-begins-most : (ns : List ℕ) (a : ℕ) → begins ns a ≤ sum ns
-begins-most [] a = omega arith
-begins-most (n ∷ ns) zero = omega arith
-begins-most (n ∷ ns) (suc a) = omega (arith, begins-most ns a)
 
 -- the entries up to k are filled, and the next array begins at `next`
 pub record Filled (ns firsts : List ℕ) (next k : ℕ) : Type 0 where
@@ -93,76 +75,52 @@ pub part-stored : (m : List Float) (b at : ℕ) (x : Float) → b + at < length 
     → putMid b (length m - b) m (set (midOf b (length m - b) m) at x) ≡ set m (b + at) x
 part-stored m b at x h = set-mid-at b (length m - b) at m x (part-long m b at h)
 
--- ONE ITERATION
--- an array's elements are in the memory
-inside-sum : (ns : List ℕ) (a x : ℕ) → x < getD ns a 0 → begins ns a + x < sum ns
-inside-sum ns a x h = omega (arith, begins-next ns a, begins-most ns (suc a))
+-- ONE STATEMENT, the value of its items stored at its destination
+pub statement-stored : (bs : List ℕ) (i : ℕ) (s : Statement) (m after : List Float) (x : Float) → s .array < 16
+    → ((ns : List ℕ) → Based bs ns → x ≡ value ns i (s .items) m) → after ≡ set m (getD bs (s .array) 0 + (i + s .offset - 255)) x
+    → (ns : List ℕ) → Based bs ns → after ≡ performed ns i s m
+unfolding performed
+statement-stored bs i s m after x few f g ns b = rw (g, b (s .array) (omega arith), f ns b)
 
-reads-within : (bs : List ℕ) (i n k : ℕ) (xs : List Item) → ((r : Reference) → Mem r (reads k xs) → Element bs i n (r .array) (r .offset)) → ReadsWithin bs i n xs
-reads-within bs i n k [] f = tt
-reads-within bs i n k (read a o ∷ xs) f = (f (record { number = k; array = a; offset = o; stores = false }) (mhere refl), reads-within bs i n k xs (λ r h. f r (mthere h)))
-reads-within bs i n k (constant c ∷ xs) f = reads-within bs i n k xs f
-reads-within bs i n k (operation c ∷ xs) f = reads-within bs i n k xs f
+-- THE STATEMENTS ONE BY ONE
+-- in the rows from `row` on there are the statements left: they give, from what the memory now holds, what all give
+module _ (cs bs : List ℕ) (from past i : ℕ) (m₀ : List Float) where
+  abbrev left : ℕ → List Statement
+  left row = statementsFrom cs row (past - row)
 
--- iteration i of loop k, of a table that the store holds
-module _ (t : Table) (cs bs : List ℕ) (l : Loaded t cs bs) (k i : ℕ) (here : Inside t (iteration k i)) where
-  abbrev st : Statement
-  st = statementAt cs (startAt cs k) (startAt cs (suc k))
+  pub record RowsLeft (row : ℕ) (m : List Float) : Type 0 where
+    pub opens : Opens cs row past
+    pub long : length m ≡ length m₀
+    pub able : Runnable bs i (length m₀) (left row)
+    pub rest : (ns : List ℕ) → Based bs ns → runAll (performed ns i) (left row) m ≡ runAll (performed ns i) (left from) m₀
 
-  only : loop t k .body ≡ st ∷ []
-  only = ap (λ (x : Loop). x .body) (loop-held (l .holds) k (here .0))
+  pub rows-start : Opens cs from past → Runnable bs i (length m₀) (left from) → RowsLeft from m₀
+  rows-start o a = record { opens = o; long = refl; able = a; rest = λ ns b. refl }
 
-  abbrev vl : ValidLoop (t .lengths) k (loop t k)
-  vl = l .valid .each k (here .0)
+  module _ (row : ℕ) (m : List Float) (l : RowsLeft row m) where
+    module _ (h : row < past) where
+      abbrev st : Statement
+      st = statementAt cs row (past - suc row) []
 
-  pub loop-rows : (k < 16) × (startAt cs k < startAt cs (k + 1)) × (startAt cs (k + 1) ≤ 528)
-  loop-rows = (omega (arith, here .0, l .valid .few-loops), rw (add-one k) (rows-rise (l .holds) k (here .0)), rw (add-one k) (few-rows (l .holds) (suc k) (here .0)))
+      opened : left row ≡ st ∷ statementsFrom cs (suc row) (past - suc row)
+      unfolding bodyFrom
+      opened = let e : past - row ≡ suc (past - suc row) = omega arith in rw (e, eq-eqb (kindAt cs row) 1 (l .opens h))
 
-  pub index-small : i ≤ 65790
-  index-small = omega (arith, here .2, valid-last t (l .valid) k (here .0))
+      pub rows-able : Performable bs i (length m) st
+      rows-able = rw (l .long) (l .able st (rw opened (mhere refl)))
 
-  -- its items, as the code counts their rows
-  abbrev counted : List Item
-  counted = itemsFrom cs (startAt cs k + 1) (startAt cs (k + 1) - (startAt cs k + 1))
+      pub rows-next : (next : ℕ) → Stopped cs (suc row) past next → (n : List Float) → length n ≡ length m
+          → ((ns : List ℕ) → Based bs ns → n ≡ performed ns i st m) → RowsLeft next n
+      rows-next next s n k f = record {
+        opens = s .opens;
+        long = k ∙ l .long;
+        able = λ z h. l .able z (rw (opened, s .same) (mthere h));
+        rest = λ ns b. rw (f ns b, ← (s .same)) (rw opened at (l .rest ns b));
+      }
 
-  same : counted ≡ st .items
-  same = rw (add-one k, add-one (startAt cs k))
+    none : past ≤ row → left row ≡ []
+    unfolding bodyFrom
+    none h = let e : past - row ≡ 0 = omega arith in rw e
 
-  items-work : Works (st .items) 0
-  items-work =
-      let e : vl .statement ∷ [] ≡ st ∷ [] = sym (vl .only) ∙ only in
-      let z : vl .statement ≡ st = cc in
-      rw z at (vl .works)
-
-  module _ (n : ℕ) (long : n ≡ elementTotal t) where
-    reached : (r : Reference) → Mem r (refs t k) → Element bs i n (r .array) (r .offset)
-    reached r h =
-        let few : r .array < 16 = omega (arith, vl .known r h, l .valid .few-arrays) in
-        let w = vl .within r h i (here .1) (here .2) in
-        (few, w .0, omega (arith, l .based (r .array) (omega arith), inside-sum (t .lengths) (r .array) (i + r .offset - 255) (w .1), long))
-
-    -- its references are those of its one statement
-    one : (r : Reference) → Mem r (destination k st ∷ reads k (st .items)) → Mem r (refs t k)
-    one r h =
-        subst (λ (b : List Statement). Mem r (references k b)) (sym (only))
-        (subst (λ (q : List Reference). Mem r (destination k st ∷ q)) (sym (append-nil (reads k (st .items)))) h)
-
-    pub destination-within : Element bs i n (st .array) (st .offset)
-    destination-within = reached (destination k st) (one (destination k st) (mhere refl))
-
-    -- what its body's code asks
-    pub body-asks : ((startAt cs (k + 1) ≤ 528) × (i < 2 ^ 32)) × (Works counted 0 × ReadsWithin bs i n counted)
-    body-asks = (
-      (loop-rows .2, omega (arith, index-small)),
-      (rw same items-work, rw same (reads-within bs i n k (st .items) (λ r h. reached r (one r (mthere h))))),
-    )
-
-  -- the body's value, stored at the destination
-  pub stored : (m after : List Float) (x : Float) → ((ns : List ℕ) → Based bs ns → x ≡ value ns i counted m)
-      → after ≡ set m (getD bs (st .array) 0 + (i + st .offset - 255)) x → after ≡ run t (iteration k i) m
-  unfolding performed
-  stored m after x f g =
-      g
-      ∙ ap (λ (y : Float). set m (getD bs (st .array) 0 + (i + st .offset - 255)) y) (f (t .lengths) (l .based) ∙ ap (λ (xs : List Item). value (t .lengths) i xs m) same)
-      ∙ ap (λ (z : ℕ). set m (z + (i + st .offset - 255)) (value (t .lengths) i (st .items) m)) (l .based (st .array) (omega (arith, destination-within (elementTotal t) refl .0)))
-      ∙ ap (λ (y : List Statement). runAll (performed (t .lengths) i) y m) (sym (only))
+    pub rows-end : past ≤ row → (ns : List ℕ) → Based bs ns → m ≡ runAll (performed ns i) (left from) m₀
+    rows-end h ns b = rw (none h) at (l .rest ns b)

@@ -6,3 +6,7 @@ pub mod MemoryLaws
 pub mod Loaded
 -- laws of it
 pub mod LoadedLaws
+-- what the code of statements asks
+pub mod Runnable
+-- of a loop's iteration it is known
+pub mod RunnableLaws

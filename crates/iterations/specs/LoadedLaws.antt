@@ -11,6 +11,21 @@ use Rattle.bodies.specs.Workable.{Based}
 use Rattle.iterations.specs.Memory.{elementTotal}
 use Rattle.iterations.specs.Loaded.{Loaded}
 
+-- where arrays begin, one after the other
+pub begins-none : (ns : List ℕ) → begins ns 0 ≡ 0
+begins-none [] = refl
+begins-none (n ∷ ns) = refl
+
+pub begins-next : (ns : List ℕ) (a : ℕ) → begins ns (suc a) ≡ begins ns a + getD ns a 0
+begins-next [] a = refl
+begins-next (n ∷ ns) zero = omega (arith, begins-none ns)
+begins-next (n ∷ ns) (suc a) = omega (arith, begins-next ns a)
+
+pub begins-most : (ns : List ℕ) (a : ℕ) → begins ns a ≤ sum ns
+begins-most [] a = omega arith
+begins-most (n ∷ ns) zero = omega arith
+begins-most (n ∷ ns) (suc a) = omega (arith, begins-most ns a)
+
 -- past the last array the memory ends
 begins-past : (ns : List ℕ) (a : ℕ) → length ns ≤ a → begins ns a ≡ sum ns
 begins-past [] a h = refl

@@ -1,14 +1,18 @@
 // One iteration of a loop.
 use records::Store;
 ghost use mathlib.Core.Path.{_≡_};
-ghost use Prim.Native.Nat.{_+_, _-_, _^_, _≤_, _<_};
+ghost use mathlib.Core.List.{List, []};
+ghost use Prim.Native.Nat.{ℕ, suc, _+_, _-_, _^_, _≤_, _<_};
 ghost use lib.ListN.{length, getD, set, take};
 ghost use Rattle.model.specs.Table.{Table, iteration, Inside};
-ghost use Rattle.model.specs.Bodies.{run};
-ghost use Rattle.reader.specs.Store.{tableIn};
+ghost use Rattle.model.specs.Bodies.{performed, run};
+ghost use Rattle.order.specs.Sequences.{runAll};
+ghost use Rattle.reader.specs.Store.{statementAt, statementsFrom, tableIn};
 ghost use Rattle.bodies.specs.Workable.{Based, Element};
+ghost use Rattle.bodies.specs.Stopped.{Opens, Stopped};
 ghost use Rattle.iterations.specs.Memory.{elementTotal};
 ghost use Rattle.iterations.specs.Loaded.{Loaded};
+ghost use Rattle.iterations.specs.Runnable.{Performable, Runnable};
 
 // Where each array begins in the memory; past the last one, where the memory ends.
 pub struct Bases {
@@ -66,6 +70,51 @@ fn store_in(array: u32, offset: u32, bases: &[u32; 17], i: usize, memory: &mut [
     store(&mut memory[base..], at, x);
 }
 
+// Iteration i of the statement whose destination is in row `row`; answers the row of the next one, or `past`.
+fn run_statement(
+    store: &Store,
+    bases: &[u32; 17],
+    row: usize,
+    past: usize,
+    i: usize,
+    memory: &mut [f64],
+) -> usize
+    requires { ⌜ (row < past) × (past ≤ 576) × (i < 2 ^ 32) ⌝ }
+    requires { ⌜ Performable (now bases) i (length (now memory)) (statementAt (now store) row (past - suc row) []) ⌝ }
+    ensures { λ r. ⌜ Stopped (now (store .entry)) (suc row) past r ⌝ }
+    ensures { λ r. ⌜ ((ns : List ℕ) → Based (now (bases .entry)) ns → now (memory .exit) ≡ performed ns i (statementAt (now (store .entry)) row (past - suc row) []) (now (memory .entry))) ⌝ }
+{
+    let x = bodies::value_of(store, bases, row + 1, past, i, &memory[..]);
+    store_in(
+        reader::array_at(store, row),
+        reader::value_at(store, row),
+        bases,
+        i,
+        memory,
+        x.value,
+    );
+    x.row
+}
+
+// Iteration i of the statements in the rows from `from` up to `past`, each stored before the next begins.
+pub fn run_rows(
+    store: &Store,
+    bases: &[u32; 17],
+    from: usize,
+    past: usize,
+    i: usize,
+    memory: &mut [f64],
+)
+    requires { ⌜ (past ≤ 576) × (i < 2 ^ 32) × Opens (now store) from past ⌝ }
+    requires { ⌜ Runnable (now bases) i (length (now memory)) (statementsFrom (now store) from (past - from)) ⌝ }
+    ensures { λ _. ⌜ ((ns : List ℕ) → Based (now (bases .entry)) ns → now (memory .exit) ≡ runAll (performed ns i) (statementsFrom (now (store .entry)) from (past - from)) (now (memory .entry))) ⌝ }
+{
+    let mut row = from;
+    while row < past {
+        row = run_statement(store, bases, row, past, i, memory);
+    }
+}
+
 // Iteration `index` of loop `number`, of a table in a store.
 pub fn iterate(store: &Store, bases: &[u32; 17], number: usize, index: usize, memory: &mut [f64])
     requires { ⌜ ((t : Table) × Loaded t (now store) (now bases) × Inside t (iteration number index) × (length (now memory) ≡ elementTotal t)) ⌝ }
@@ -73,13 +122,5 @@ pub fn iterate(store: &Store, bases: &[u32; 17], number: usize, index: usize, me
 {
     let from = reader::start_at(store, number);
     let past = reader::start_at(store, number + 1);
-    let x = bodies::value_of(store, bases, from + 1, past, index, &memory[..]);
-    store_in(
-        reader::array_at(store, from),
-        reader::value_at(store, from),
-        bases,
-        index,
-        memory,
-        x,
-    );
+    run_rows(store, bases, from, past, index, memory);
 }

@@ -4,29 +4,55 @@ use records::Store;
 use refusals::MEMORY;
 use refusals::Refusal;
 ghost use mathlib.Core.Path.{_≡_};
-ghost use Prim.Native.Nat.{_<_};
+ghost use mathlib.Core.List.{List};
+ghost use Prim.Native.Nat.{ℕ, suc, _-_, _^_, _≤_, _<_};
 ghost use lib.ListN.{length};
+ghost use Rattle.order.specs.Sequences.{runAll};
 ghost use Rattle.model.specs.Table.{count};
-ghost use Rattle.model.specs.PlainRun.{looped, plainRun};
+ghost use Rattle.model.specs.Bodies.{performed};
+ghost use Rattle.model.specs.PlainRun.{upward, looped, plainRun};
 ghost use Rattle.refusals.specs.Answers.{accepted, refusalOf};
-ghost use Rattle.reader.specs.Store.{tableIn};
+ghost use Rattle.reader.specs.Store.{statementsFrom, tableIn};
 ghost use Rattle.reader.specs.Held.{Held};
 ghost use Rattle.grounds.specs.Accepted.{Valid};
+ghost use Rattle.bodies.specs.Workable.{Based};
+ghost use Rattle.bodies.specs.Stopped.{Opens};
 ghost use Rattle.iterations.specs.Memory.{elementTotal, remembered};
+ghost use Rattle.iterations.specs.Runnable.{Runnable};
 ghost use Rattle.plain.specs.Plain.{plainAnswer, runOf, plainMemory};
 ghost use Rattle.plain.specs.Running.{Running};
+
+// Iterations `first` to `last` of the statements in the rows from `from` up to `past`.
+fn run_range(
+    store: &Store,
+    bases: &[u32; 17],
+    from: usize,
+    past: usize,
+    first: usize,
+    last: usize,
+    memory: &mut [f64],
+)
+    requires { ⌜ (past ≤ 576) × (last < 2 ^ 32) × Opens (now store) from past ⌝ }
+    requires { ⌜ ((i : ℕ) → first ≤ i → i ≤ last → Runnable (now bases) i (length (now memory)) (statementsFrom (now store) from (past - from))) ⌝ }
+    ensures { λ _. ⌜ ((ns : List ℕ) → Based (now (bases .entry)) ns → now (memory .exit) ≡ upward (λ i. runAll (performed ns i) (statementsFrom (now (store .entry)) from (past - from))) first (suc last - first) (now (memory .entry))) ⌝ }
+{
+    let mut i = first;
+    while i <= last {
+        iterations::run_rows(store, bases, from, past, i, memory);
+        i += 1;
+    }
+}
 
 // One loop, from first to last.
 fn run_loop(number: usize, store: &Store, bases: &[u32; 17], memory: &mut [f64])
     requires { ⌜ Running (now store) (now bases) (now memory) × (number < count (tableIn (now store))) ⌝ }
     ensures { λ _. ⌜ now (memory .exit) ≡ looped (tableIn (now (store .entry))) number (now (memory .entry)) ⌝ }
 {
+    let from = reader::start_at(store, number);
+    let past = reader::start_at(store, number + 1);
+    let first = reader::first_at(store, number) as usize;
     let last = reader::last_at(store, number) as usize;
-    let mut i = reader::first_at(store, number) as usize;
-    while i <= last {
-        iterations::iterate(store, bases, number, i, memory);
-        i += 1;
-    }
+    run_range(store, bases, from, past, first, last, memory);
 }
 
 // All loops, in table order.

@@ -1,2 +1,2 @@
--- the walk over the rows of a loop, and the walk over the loops
+-- the rows of a loop, and the walk over the loops
 pub mod Walks

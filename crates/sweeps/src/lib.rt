@@ -3,13 +3,14 @@ use arithmetic::wide;
 use records::Store;
 ghost use mathlib.Core.Path.{_≡_};
 ghost use mathlib.Core.Bool.{_&&_, _||_};
-ghost use Prim.Native.Nat.{ℕ, _<_, _≤_};
-ghost use lib.Dec.{eqb};
+ghost use Prim.Native.Nat.{ℕ, _<_};
+ghost use lib.Dec.{eqb, ltb};
 ghost use Rattle.marks.specs.Marks.{marked};
+ghost use Rattle.model.specs.Table.{count};
 ghost use Rattle.reader.specs.Store.{tableIn};
 ghost use Rattle.reader.specs.Held.{Held};
 ghost use Rattle.sweeps.specs.Sweeps.{sweeps};
-ghost use Rattle.sweeps.specs.Rows.{touchedRows, Added};
+ghost use Rattle.sweeps.specs.Rows.{SetsOf, Added};
 
 // Before: the sizes of both sets summed over all loops. After: the sizes of the two unions.
 pub struct Sweeps {
@@ -24,44 +25,63 @@ struct Totals {
     written: u16,
 }
 
-// The set m, with the array of a row that is a read.
-fn with_row(m: u16, kind: u32, array: u32) -> u16
+// The arrays that some rows touch, and those that they write.
+struct Sets {
+    touched: u16,
+    written: u16,
+}
+
+// The sets with one row more: a read adds its array to those touched, a destination to both.
+fn with_row(s: Sets, kind: u32, array: u32) -> Sets
     requires { ⌜ array < 16 ⌝ }
-    ensures { λ r. ⌜ ((q : ℕ) → marked r q ≡ (marked m q || (eqb kind 0 && eqb q array))) ⌝ }
+    ensures { λ r. ⌜ ((q : ℕ) → marked (r .touched) q ≡ (marked (s .touched) q || (ltb kind 2 && eqb q array))) ⌝ }
+    ensures { λ r. ⌜ ((q : ℕ) → marked (r .written) q ≡ (marked (s .written) q || (ltb kind 2 && (eqb q array && eqb kind 1)))) ⌝ }
 {
     if kind == reader::READ {
-        return marks::with_mark(m, wide(array));
+        return Sets {
+            touched: marks::with_mark(s.touched, wide(array)),
+            written: s.written,
+        };
     }
-    m
+    if kind == reader::DESTINATION {
+        return Sets {
+            touched: marks::with_mark(s.touched, wide(array)),
+            written: marks::with_mark(s.written, wide(array)),
+        };
+    }
+    s
 }
 
-// The arrays that a loop touches: `from` is its destination's row, and its items' rows go up to `past`.
-fn touched_in(from: usize, past: usize, store: &Store) -> u16
-    requires { ⌜ (from < past) × (past ≤ 528) ⌝ }
-    ensures { λ r. ⌜ ((q : ℕ) → marked r q ≡ touchedRows (now (store .entry)) from past q) ⌝ }
+// The sets of loop k.
+fn sets_of(k: usize, store: &Store) -> Sets
+    requires { ⌜ Held (now store) × (k < count (tableIn (now store))) ⌝ }
+    ensures { λ r. ⌜ SetsOf (tableIn (now (store .entry))) k r ⌝ }
 {
-    let mut m = marks::with_mark(0, wide(reader::array_at(store, from)));
-    let mut row = from + 1;
+    let past = reader::start_at(store, k + 1);
+    let mut row = reader::start_at(store, k);
+    let mut s = Sets {
+        touched: 0,
+        written: 0,
+    };
     while row < past {
-        m = with_row(m, reader::kind_at(store, row), reader::array_at(store, row));
+        s = with_row(s, reader::kind_at(store, row), reader::array_at(store, row));
         row += 1;
     }
-    m
+    s
 }
 
-// The totals with one loop more, in the rows from `from` up to `past`.
-fn with_loop(s: Totals, from: usize, past: usize, store: &Store) -> Totals
-    requires { ⌜ (s .before < 65536) × (from < past) × (past ≤ 528) ⌝ }
-    ensures { λ r. ⌜ Added s r (now (store .entry)) from past ⌝ }
+// The totals with one loop more.
+fn with_loop(s: Totals, k: usize, store: &Store) -> Totals
+    requires { ⌜ (s .before < 65536) × Held (now store) × (k < count (tableIn (now store))) ⌝ }
+    ensures { λ r. ⌜ Added s r (tableIn (now (store .entry))) k ⌝ }
 {
-    let touched = touched_in(from, past, store);
-    let written = marks::with_mark(0, wide(reader::array_at(store, from)));
-    let sizes = marks::size_of(touched) + marks::size_of(written);
+    let sets = sets_of(k, store);
+    let sizes = marks::size_of(sets.touched) + marks::size_of(sets.written);
     let before = s.before + sizes;
     Totals {
         before,
-        touched: marks::union(s.touched, touched),
-        written: marks::union(s.written, written),
+        touched: marks::union(s.touched, sets.touched),
+        written: marks::union(s.written, sets.written),
     }
 }
 
@@ -78,9 +98,7 @@ pub fn sweeps_of(store: &Store) -> Sweeps
     };
     let mut k: usize = 0;
     while k < loops {
-        let from = reader::start_at(store, k);
-        let past = reader::start_at(store, k + 1);
-        s = with_loop(s, from, past, store);
+        s = with_loop(s, k, store);
         k += 1;
     }
     let after = marks::size_of(s.touched) + marks::size_of(s.written);
