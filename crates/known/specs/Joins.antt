@@ -5,7 +5,7 @@ use Rattle.refusals.specs.Refusals.{none, met, naming}
 use Rattle.refusals.specs.Answers.{accepted, refused}
 use Rattle.outputs.specs.Given.{fitted, countOf}
 use Rattle.records.specs.Encoding.{inTwo, inFour, inOffset, encode, encodeAll}
-use Rattle.joins.specs.Records.{arrayRecords, itemRecords, loopRecords}
+use Rattle.joins.specs.Records.{arrayRecords, itemRecords, statementRecords, loopRecords}
 use Rattle.joins.specs.Joining.{alike, joinedRecords, joining}
 use Rattle.known.specs.Records.{array, ahead, store, read, one, end, times}
 use Rattle.known.specs.Bytes.{tableOf, example, itself, storer, reader, joinedBytes}
@@ -37,7 +37,7 @@ pub record Joins : Type 0 where
   pub crowd-buffer : joining (tableOf 1 9) (tableOf 1 8) 0 ≡ refused (met 4 0)
 
 pub joins : Joins
-unfolding refusalFor refusal joining alike joinedRecords arrayRecords itemRecords loopRecords inTwo inFour inOffset encode encodeAll fitted
+unfolding refusalFor refusal joining alike joinedRecords arrayRecords itemRecords statementRecords loopRecords inTwo inFour inOffset encode encodeAll fitted
 joins = record {
   written = refl;
   right-first = refl;

@@ -41,8 +41,8 @@ pub record Known : Type 0 where
   -- 1 to 10, A0 of 21 elements, A0[i] = A0[i+9]: refused 9; with A0[i+10] accepted
   pub serial-nine : refusalOf (table (itself 9)) ≡ naming 9 0 0 1
   pub serial-ten : refusalOf (table (itself 10)) ≡ none
-  -- of the reads 0 to 4 of loop 1, 3 and 4 collide: 3 is named
-  pub lowest-read : refusalOf (table severalReads) ≡ naming 9 1 0 4
+  -- of the references 0 to 5 of loop 1, 4 and 5 collide with the destination, 0: 4 is named
+  pub lowest-partner : refusalOf (table severalReads) ≡ naming 9 1 0 4
   -- T = 10, P = 3: blocks of 4, 3, 3
   pub three-blocks : sizesIn single ≡ 4 ∷ 3 ∷ 3 ∷ []
   -- T = 10, threshold 0: P = 10 accepted, 11 refused
@@ -72,7 +72,7 @@ known = record {
   meet-once = refl;
   serial-nine = refl;
   serial-ten = refl;
-  lowest-read = refl;
+  lowest-partner = refl;
   three-blocks = refl;
   single-threshold = refl;
   single-ten = refl;

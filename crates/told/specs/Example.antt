@@ -21,8 +21,8 @@ module _ (a b c d : ℕ) where
   pub all-written : (r : Refusal) → answered r (a ∷ b ∷ c ∷ d ∷ []) ≡ r .ground ∷ r .place ∷ r .first ∷ r .second ∷ []
   all-written r = refl
 
-  pub four-numbers : answered (refusalOf (table severalReads)) (a ∷ b ∷ c ∷ d ∷ []) ≡ 9 ∷ 1 ∷ 3 ∷ 0 ∷ []
-  four-numbers = rw (known .lowest-read) refl
+  pub four-numbers : answered (refusalOf (table severalReads)) (a ∷ b ∷ c ∷ d ∷ []) ≡ 9 ∷ 1 ∷ 0 ∷ 4 ∷ []
+  four-numbers = rw (known .lowest-partner) refl
 
   -- a report's three numbers, whatever was lent: 1, the loop and the iteration; 2 where the processor waits; 3 where it is finished
   pub performed-written : (loop index : ℕ) → reported (Performed loop index) (a ∷ b ∷ c ∷ []) ≡ 1 ∷ loop ∷ index ∷ []

@@ -23,7 +23,7 @@ ghost use Rattle.told.specs.Answers.{answered, reported, refusalIn, reportAt};
 ghost use Rattle.vempaldi.specs.Version.{version};
 
 // The version: 10,000 times the first of its numbers, 100 times the second, and the third.
-const VERSION: u32 = 400;
+const VERSION: u32 = 500;
 
 #[no_mangle]
 pub extern "C" fn vempaldi_version() -> u32
