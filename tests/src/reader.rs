@@ -58,6 +58,7 @@ impl Reader<'_> {
             3 => self.a_read(body)?,
             4 => self.constant(body)?,
             5 => self.operation(body)?,
+            7 => self.statement(body)?,
             _ => {}
         }
         self.at = after;
@@ -71,14 +72,16 @@ impl Reader<'_> {
         match kind {
             1 => !in_loop,
             2 => true,
-            3..=6 => in_loop,
+            3..=7 => in_loop,
             _ => false,
         }
     }
 
-    /// A body ends where the next loop or the end record begins.
+    /// A body ends where the next loop, a further statement or the end record
+    /// begins.
     fn body_finished(&self, kind: u8) -> bool {
-        let ends_body = kind == 6 || (kind == 2 && !self.table.loops.is_empty());
+        let in_loop = !self.table.loops.is_empty();
+        let ends_body = in_loop && matches!(kind, 2 | 6 | 7);
         !ends_body || self.waiting == 1
     }
 
@@ -86,13 +89,15 @@ impl Reader<'_> {
         match kind {
             1 => self.table.arrays.len() < MOST_ARRAYS,
             2 => self.table.loops.len() < MOST_LOOPS,
-            3..=5 => self.items() < MOST_ITEMS,
+            3..=5 => self.open_has(Loop::items) < MOST_ITEMS,
+            7 => self.open_has(|open| open.statements.len()) < MOST_STATEMENTS,
             _ => true,
         }
     }
 
-    fn items(&self) -> usize {
-        self.table.loops.last().map_or(0, |open| open.items.len())
+    /// A count of the loop at hand, 0 where there is none.
+    fn open_has(&self, count: fn(&Loop) -> usize) -> usize {
+        self.table.loops.last().map_or(0, count)
     }
 
     fn array(&mut self, body: &[u8]) -> Result<(), Ground> {
@@ -110,12 +115,21 @@ impl Reader<'_> {
         require(last <= MOST_LAST && first <= last, FIELD)?;
         let destination = self.reference(&body[8..11])?;
         require(self.inside(first, last, destination), EDGE)?;
-        self.table.loops.push(Loop {
-            first,
-            last,
-            destination,
-            items: Vec::with_capacity(MOST_ITEMS),
-        });
+        let items = Vec::with_capacity(MOST_ITEMS);
+        self.table.loops.push(Loop::of_one(first, last, destination, items));
+        self.waiting = 0;
+        Ok(())
+    }
+
+    /// The items go on to be counted over the whole loop; the waiting numbers
+    /// begin anew.
+    fn statement(&mut self, body: &[u8]) -> Result<(), Ground> {
+        let destination = self.reference(body)?;
+        let (first, last) = self.bounds();
+        require(self.inside(first, last, destination), EDGE)?;
+        if let Some(open) = self.table.loops.last_mut() {
+            open.statements.push(Statement { destination, items: Vec::new() });
+        }
         self.waiting = 0;
         Ok(())
     }
@@ -167,8 +181,9 @@ impl Reader<'_> {
     }
 
     fn item(&mut self, item: Item) {
-        if let Some(open) = self.table.loops.last_mut() {
-            open.items.push(item);
+        let open = self.table.loops.last_mut();
+        if let Some(statement) = open.and_then(|open| open.statements.last_mut()) {
+            statement.items.push(item);
         }
     }
 
@@ -201,6 +216,7 @@ pub fn body_length(kind: u8) -> usize {
         3 => 3,
         4 => 4,
         5 => 1,
+        7 => 3,
         _ => 0,
     }
 }
@@ -210,21 +226,21 @@ fn number(bytes: &[u8]) -> u32 {
 }
 
 /// Ground 9: the lowest loop in which two different iterations meet at an
-/// element that one of them stores, and the lowest of its reads that takes
-/// part. Reads alone are counted, in byte order; the destination is none.
+/// element that one of them stores, and two of its references by which they
+/// do. All references are numbered in byte order, destinations too.
 fn serial(table: &Table) -> Option<Refusal> {
-    table.loops.iter().enumerate().find_map(|(place, one)| {
-        let read = one.reads().position(|read| collides(one, read))?;
-        Some(Refusal::serial(place, read))
-    })
+    let mut loops = table.loops.iter().enumerate();
+    loops.find_map(|(place, one)| Some(Refusal::serial(place, least_pair(one)?)))
 }
 
-/// A read of the destination array meets the store of another iteration when
-/// the offsets differ by no more than the loop is long.
-fn collides(one: &Loop, read: Reference) -> bool {
-    let store = one.destination;
-    let distance = u32::from(read.offset.abs_diff(store.offset));
-    read.array == store.array && distance > 0 && distance <= one.last - one.first
+/// The pair whose lower number is least, and then whose higher number is.
+fn least_pair(one: &Loop) -> Option<(usize, usize)> {
+    let all: Vec<Access> = one.accesses().collect();
+    (0..all.len()).find_map(|lower| {
+        let mut behind = lower + 1..all.len();
+        let higher = behind.find(|&higher| one.collide(all[lower], all[higher]))?;
+        Some((lower, higher))
+    })
 }
 
 #[cfg(test)]
@@ -232,7 +248,7 @@ mod tests {
     use super::*;
     use crate::collisions;
     use crate::encoder::encode;
-    use crate::examples::{reads_own_array, EXAMPLE};
+    use crate::examples::{reads_own_array, EXAMPLE, TWO_STATEMENTS};
     use crate::limits;
     use crate::outcome::ACCEPTED;
     use crate::random::Random;
@@ -242,7 +258,7 @@ mod tests {
     }
 
     fn from_1_to_10(array: u8, items: Vec<Item>) -> Loop {
-        Loop { first: 1, last: 10, destination: at(array, 0), items }
+        Loop::of_one(1, 10, at(array, 0), items)
     }
 
     #[test]
@@ -270,7 +286,7 @@ mod tests {
 
     #[test]
     fn a_distance_of_9_in_ten_iterations_is_serial() {
-        assert_eq!(read(&reads_own_array(9)), Err(Refusal::serial(0, 0)));
+        assert_eq!(read(&reads_own_array(9)), Err(Refusal::serial(0, (0, 1))));
     }
 
     #[test]
@@ -287,29 +303,57 @@ mod tests {
         }
     }
 
-    /// The ground's sentence, pair by pair: some iteration stores the element
-    /// that another one reads, both inside the bounds.
-    fn meets(one: &Loop, read: Reference) -> bool {
-        let store = one.destination;
+    #[test]
+    fn a_further_statement_says_what_was_typed() {
+        let statement = |to, items| Statement { destination: to, items };
+        let add = Item::Operation(Operation::Add);
+        let first = statement(at(0, 0), vec![Item::Read(at(1, -1)), Item::Constant(9), add]);
+        let second = statement(at(1, 0), vec![Item::Read(at(0, 0))]);
+        let table = Table {
+            arrays: vec![5, 5],
+            loops: vec![Loop { first: 4, last: 4, statements: vec![first, second] }],
+        };
+        assert_eq!(read(&TWO_STATEMENTS), Ok(table.clone()));
+        assert_eq!(encode(&table), TWO_STATEMENTS);
+    }
+
+    /// Every pair of references, from the least on, with the iterations gone
+    /// through one by one: two different ones touch an element, and one of
+    /// the references is a destination.
+    fn meets(one: &Loop, lower: Access, higher: Access) -> bool {
         let indices = || i64::from(one.first)..=i64::from(one.last);
         let element = |index: i64, of: Reference| (of.array, index + i64::from(of.offset));
-        indices().any(|i| indices().any(|j| i != j && element(i, store) == element(j, read)))
+        let stores = lower.stores || higher.stores;
+        let meet = |i: i64, j: i64| i != j && element(i, lower.at) == element(j, higher.at);
+        stores && indices().any(|i| indices().any(|j| meet(i, j)))
+    }
+
+    fn pair_by_iterations(one: &Loop) -> Option<(usize, usize)> {
+        let all: Vec<Access> = one.accesses().collect();
+        let pairs =
+            (0..all.len()).flat_map(|low| (low + 1..all.len()).map(move |high| (low, high)));
+        pairs.filter(|&(low, high)| meets(one, all[low], all[high])).min()
     }
 
     #[test]
-    fn serial_names_the_first_read_that_meets_another_iteration() {
+    fn serial_names_the_least_pair_that_meets_in_two_iterations() {
         let mut random = Random::new(1);
-        let mut refused = 0;
-        for _ in 0..3_000 {
+        let (mut refused, mut several, mut stores) = (0, 0, 0);
+        for _ in 0..4_000 {
             let table = collisions::short_table(&mut random);
-            let wanted = table.loops.iter().enumerate().find_map(|(place, one)| {
-                let reads: Vec<Reference> = one.reads().collect();
-                let lowest = (0..reads.len()).find(|&number| meets(one, reads[number]))?;
-                Some(Refusal::serial(place, lowest))
-            });
-            assert_eq!(read(&encode(&table)).err(), wanted, "{table:?}");
+            let mut loops = table.loops.iter().enumerate();
+            let wanted = loops.find_map(|(place, one)| Some((place, pair_by_iterations(one)?)));
+            let refusal = wanted.map(|(place, pair)| Refusal::serial(place, pair));
+            assert_eq!(read(&encode(&table)).err(), refusal, "{table:?}");
             refused += u64::from(wanted.is_some());
+            if let Some((place, (lower, higher))) = wanted {
+                let all: Vec<Access> = table.loops[place].accesses().collect();
+                several += u64::from(table.loops[place].statements.len() > 1);
+                stores += u64::from(all[lower].stores && all[higher].stores);
+            }
         }
-        assert!((1_000..2_500).contains(&refused), "{refused} of 3,000 are serial");
+        assert!((1_300..3_600).contains(&refused), "{refused} of 4,000 are serial");
+        assert!(several > 500, "{several} by a loop of several statements");
+        assert!(stores > 100, "{stores} by two destinations");
     }
 }
