@@ -41,11 +41,16 @@ impl Statements {
         self.tables[2..].iter().sum()
     }
 
-    pub fn print(&self, name: &str) {
+    /// Prints the counts of tables alone.
+    pub fn print_counts(&self, name: &str) {
         println!("{name}: {} tables of several statements in a loop", self.several());
         for (count, tables) in self.tables.iter().enumerate().skip(1) {
             println!("  {tables:7} of {count} at most");
         }
+    }
+
+    pub fn print(&self, name: &str) {
+        self.print_counts(name);
         for (ground, count) in GROUNDS.iter().zip(self.grounds) {
             println!("  ground {ground} at a further statement: {count}");
         }

@@ -34,7 +34,7 @@ fn main() {
     joined.grounds.require(&[0, 1, 2, 3, 4, 5, 6, 7, 8, 9, 13, 14], LEAST_OF_EACH);
     joined.tables.print("joining, left and right tables");
     joined.tables.require(LEAST_OF_EACH);
-    joined.whole.print("joining, joined tables");
+    joined.whole.print_counts("joining, joined tables");
     joined.whole.require_counts(4, LEAST_OF_EACH);
     assert!(joined.grounds.total() >= LEAST_PAIRS, "too few pairs");
 }

@@ -18,6 +18,7 @@ use vempaldi_checks::tally::Tally;
 
 const LEAST_TABLES: u64 = 300_000;
 const LEAST_OF_EACH: u64 = 500;
+const LEAST_IN_ROWS: u64 = 200;
 
 fn main() {
     let mut compared = Compared::default();
@@ -28,7 +29,8 @@ fn main() {
         compare(&mut in_rows, bytes);
     });
     in_rows.made.print("reading, rows of a fixed set of records");
-    in_rows.made.require(LEAST_OF_EACH);
+    in_rows.made.require(LEAST_IN_ROWS);
+    compared.grounds.add_all(&in_rows.grounds);
     for (seed, shape, count) in [(1, SMALL, 40_000), (2, MIDDLE, 10_000), (3, LARGE, 4_000)] {
         valid(&mut compared, seed, &shape, count);
         damaged(&mut compared, seed + 10, &shape, count / 4);

@@ -47,7 +47,7 @@ pub fn compare_all() {
     long_runs(&mut tally);
     tally.print("runs in a caller's order");
     println!("  {idle} idle bytes in all");
-    println!("  {} tables of several statements in a loop", statements.several());
+    statements.print_counts("  these runs");
     statements.require_counts(4, LEAST_OF_STATEMENTS);
     tally.require(&[0, 1, 3, 4, 5, 6, 7, 8, 9, 10, 11, 12, 17], 50);
     by_hand();
