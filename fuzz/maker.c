@@ -220,6 +220,8 @@ static void make_loop(struct making *made, int near) {
     put_reference(made, made->stored[0]);
     int items = made->full ? 31 + (int)(take(bytes, 1) % 2) : (int)between(bytes, 1, take(bytes, 1) % 8 ? 7 : 32, made->flaws);
     if (items < made->statements) items = made->statements;
+    /* As a flaw, one item too many over all statements, or some. */
+    if (made->flaws && made->statements > 1 && take(bytes, 1) >= 240) items = 33 + (int)(take(bytes, 1) % 4);
     for (int n = 0; n < made->statements; n++) {
         if (n > 0) put(made, 7, 1), put_reference(made, flawed(made, made->stored[n]));
         items -= make_body(made, items, made->statements - n);
