@@ -116,8 +116,8 @@ static struct stored reference_to(struct making *made, int64_t q) {
     struct stored one = {q, low <= high ? between(made->bytes, low, high, made->flaws) : 0};
     int own;
     struct stored stored = stored_of(made, q, &own);
-    /* Full tables have many references, of which all but few must not meet. */
-    uint32_t times = made->full ? 64 : 8;
+    /* Full tables and loops of several statements have many references that could meet, of which all but few must not. */
+    uint32_t times = made->full ? 64 : made->statements > 1 ? 24 : 8;
     return (low > high || own) && take(made->bytes, 1) % times ? stored : one;
 }
 
