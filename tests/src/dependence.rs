@@ -60,8 +60,9 @@ pub fn dependences_among(
     let accesses: Vec<Vec<Access>> = table.loops.iter().map(chosen).collect();
     let mut ending: Vec<Vec<Dependence>> = vec![Vec::new(); accesses.len()];
     for (to, later) in accesses.iter().enumerate() {
+        let stores: Vec<Access> = later.iter().copied().filter(|access| access.stores).collect();
         for (from, earlier) in accesses[..to].iter().enumerate() {
-            for distance in distances(earlier, later) {
+            for distance in distances(earlier, later, &stores) {
                 if rule(&table.loops[from], &table.loops[to], distance) {
                     ending[to].push(Dependence { from, to, distance });
                 }
@@ -71,11 +72,17 @@ pub fn dependences_among(
     ending
 }
 
-/// The distances between references to one array, two reads left out.
-fn distances<'a>(earlier: &'a [Access], later: &'a [Access]) -> impl Iterator<Item = i64> + 'a {
+/// The distances between references to one array, two reads left out: a read
+/// of the earlier loop makes one with the later loop's destinations alone.
+fn distances<'a>(
+    earlier: &'a [Access],
+    later: &'a [Access],
+    stores: &'a [Access],
+) -> impl Iterator<Item = i64> + 'a {
     earlier.iter().flat_map(move |one| {
-        let met = later.iter().filter(|other| one.stores || other.stores);
-        met.filter(|other| other.at.array == one.at.array)
+        let met = if one.stores { later } else { stores };
+        met.iter()
+            .filter(|other| other.at.array == one.at.array)
             .map(|other| i64::from(one.at.offset) - i64::from(other.at.offset))
     })
 }

@@ -18,7 +18,8 @@ const TAIL: Ground = 8;
 
 /// The table, or the first ground that it meets.
 pub fn read(bytes: &[u8]) -> Result<Table, Refusal> {
-    let mut reader = Reader { bytes, at: 0, table: Table::default(), elements: 0, waiting: 0 };
+    let mut reader =
+        Reader { bytes, at: 0, table: Table::default(), elements: 0, items: 0, waiting: 0 };
     while !reader.record().map_err(|ground| Refusal::new(ground, reader.at))? {}
     if reader.at < bytes.len() {
         return Err(Refusal::new(TAIL, reader.at));
@@ -35,6 +36,8 @@ struct Reader<'a> {
     at: usize,
     table: Table,
     elements: u64,
+    /// The count of items of the loop at hand, over all of its statements.
+    items: usize,
     /// The count of numbers that wait in the body at hand.
     waiting: usize,
 }
@@ -89,15 +92,14 @@ impl Reader<'_> {
         match kind {
             1 => self.table.arrays.len() < MOST_ARRAYS,
             2 => self.table.loops.len() < MOST_LOOPS,
-            3..=5 => self.open_has(Loop::items) < MOST_ITEMS,
-            7 => self.open_has(|open| open.statements.len()) < MOST_STATEMENTS,
+            3..=5 => self.items < MOST_ITEMS,
+            7 => self.statements() < MOST_STATEMENTS,
             _ => true,
         }
     }
 
-    /// A count of the loop at hand, 0 where there is none.
-    fn open_has(&self, count: fn(&Loop) -> usize) -> usize {
-        self.table.loops.last().map_or(0, count)
+    fn statements(&self) -> usize {
+        self.table.loops.last().map_or(0, |open| open.statements.len())
     }
 
     fn array(&mut self, body: &[u8]) -> Result<(), Ground> {
@@ -117,6 +119,7 @@ impl Reader<'_> {
         require(self.inside(first, last, destination), EDGE)?;
         let items = Vec::with_capacity(MOST_ITEMS);
         self.table.loops.push(Loop::of_one(first, last, destination, items));
+        self.items = 0;
         self.waiting = 0;
         Ok(())
     }
@@ -128,7 +131,7 @@ impl Reader<'_> {
         let (first, last) = self.bounds();
         require(self.inside(first, last, destination), EDGE)?;
         if let Some(open) = self.table.loops.last_mut() {
-            open.statements.push(Statement { destination, items: Vec::new() });
+            open.statements.push(Statement { destination, items: Vec::with_capacity(MOST_ITEMS) });
         }
         self.waiting = 0;
         Ok(())
@@ -184,6 +187,7 @@ impl Reader<'_> {
         let open = self.table.loops.last_mut();
         if let Some(statement) = open.and_then(|open| open.statements.last_mut()) {
             statement.items.push(item);
+            self.items += 1;
         }
     }
 
@@ -229,14 +233,20 @@ fn number(bytes: &[u8]) -> u32 {
 /// element that one of them stores, and two of its references by which they
 /// do. All references are numbered in byte order, destinations too.
 fn serial(table: &Table) -> Option<Refusal> {
+    let mut all = Vec::with_capacity(MOST_STATEMENTS + MOST_ITEMS);
     let mut loops = table.loops.iter().enumerate();
-    loops.find_map(|(place, one)| Some(Refusal::serial(place, least_pair(one)?)))
+    loops.find_map(|(place, one)| {
+        all.clear();
+        all.extend(one.accesses());
+        Some(Refusal::serial(place, least_pair(one, &all)?))
+    })
 }
 
-/// The pair whose lower number is least, and then whose higher number is.
-fn least_pair(one: &Loop) -> Option<(usize, usize)> {
-    let all: Vec<Access> = one.accesses().collect();
-    (0..all.len()).find_map(|lower| {
+/// The pair whose lower number is least, and then whose higher number is. One
+/// of the two is a destination, so the lower is none behind the last of these.
+fn least_pair(one: &Loop, all: &[Access]) -> Option<(usize, usize)> {
+    let last = all.iter().rposition(|access| access.stores)?;
+    (0..=last).find_map(|lower| {
         let mut behind = lower + 1..all.len();
         let higher = behind.find(|&higher| one.collide(all[lower], all[higher]))?;
         Some((lower, higher))

@@ -14,7 +14,7 @@ const ROUNDS: usize = 40;
 
 pub fn measure() {
     for (name, reads) in [
-        ("constants alone (the longest tables)", 0),
+        ("constants alone (the longest tables of one statement a loop)", 0),
         ("reads and constants", 2),
         ("reads alone", 4),
     ] {
