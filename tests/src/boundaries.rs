@@ -12,10 +12,9 @@ pub struct Case {
 }
 
 pub fn cases() -> Vec<Case> {
-    [known(), single(), inside(), stores(), statements(), far(), high(), chains(), sixteen()]
-        .into_iter()
-        .flatten()
-        .collect()
+    let statements = [of_two(), of_four(), through_statements()];
+    let others = [known(), single(), inside(), stores(), far(), high(), chains(), sixteen()];
+    others.into_iter().chain(statements).flatten().collect()
 }
 
 fn case(name: &'static str, bytes: Vec<u8>, amounts: &[(u32, u32)]) -> Case {
@@ -135,31 +134,34 @@ fn stated(name: &'static str, loops: &[Statements], amounts: &[(u32, u32)]) -> C
     case(name, encoder.end().bytes, amounts)
 }
 
+/// Stores A0[i] and A1[i].
+const TWO: Statements = &[((0, 0), &[]), ((1, 0), &[])];
+/// Stores A0[i], A1[i], A2[i] and A3[i].
+const FOUR: Statements = &[((0, 0), &[]), ((1, 0), &[]), ((2, 0), &[]), ((3, 0), &[])];
+
 /// Any destination of one loop and any reference of another to its array.
-fn statements() -> Vec<Case> {
-    let two: Statements = &[((0, 0), &[]), ((1, 0), &[])];
-    let four: Statements = &[((0, 0), &[]), ((1, 0), &[]), ((2, 0), &[]), ((3, 0), &[])];
+fn of_two() -> Vec<Case> {
     vec![
-        stated("a read of the second", &[two, &[((2, 0), &[(1, 3)])]], &[(0, 0), (3, 0)]),
-        stated("a read of each", &[two, &[((2, 0), &[(0, -2), (1, 3)])]], &[(0, 0), (3, 2)]),
+        stated("a read of the second", &[TWO, &[((2, 0), &[(1, 3)])]], &[(0, 0), (3, 0)]),
+        stated("a read of each", &[TWO, &[((2, 0), &[(0, -2), (1, 3)])]], &[(0, 0), (3, 2)]),
         stated(
             "the second reads the second",
-            &[two, &[((2, 0), &[]), ((3, 0), &[(1, -4)])]],
+            &[TWO, &[((2, 0), &[]), ((3, 0), &[(1, -4)])]],
             &[(0, 0), (0, 4)],
         ),
         stated(
             "the second stores the second",
-            &[two, &[((2, 0), &[]), ((1, 5), &[])]],
+            &[TWO, &[((2, 0), &[]), ((1, 5), &[])]],
             &[(0, 0), (5, 0)],
         ),
         stated(
             "the first stores the second",
-            &[two, &[((1, -5), &[]), ((2, 0), &[])]],
+            &[TWO, &[((1, -5), &[]), ((2, 0), &[])]],
             &[(0, 0), (0, 5)],
         ),
         stated(
             "the second stores the first",
-            &[two, &[((2, 0), &[]), ((0, 6), &[])]],
+            &[TWO, &[((2, 0), &[]), ((0, 6), &[])]],
             &[(0, 0), (6, 0)],
         ),
         stated(
@@ -167,21 +169,33 @@ fn statements() -> Vec<Case> {
             &[&[((0, 0), &[]), ((1, 0), &[(4, 7)])], &[((2, 0), &[]), ((4, 0), &[])]],
             &[(0, 0), (0, 7)],
         ),
+    ]
+}
+
+/// The same of loops of four statements.
+fn of_four() -> Vec<Case> {
+    vec![
         stated(
             "the fourth reads the fourth",
-            &[four, &[((4, 0), &[]), ((4, 0), &[]), ((4, 0), &[]), ((4, 0), &[(3, 8)])]],
+            &[FOUR, &[((4, 0), &[]), ((4, 0), &[]), ((4, 0), &[]), ((4, 0), &[(3, 8)])]],
             &[(0, 0), (8, 0)],
         ),
         stated(
             "the fourth stores the third, nine back",
-            &[four, &[((4, 0), &[]), ((4, 0), &[]), ((4, 0), &[]), ((2, -9), &[])]],
+            &[FOUR, &[((4, 0), &[]), ((4, 0), &[]), ((4, 0), &[]), ((2, -9), &[])]],
             &[(0, 0), (0, 9)],
         ),
         stated(
             "ten back, where no iterations meet",
-            &[four, &[((4, 0), &[]), ((4, 0), &[]), ((4, 0), &[]), ((2, -10), &[])]],
+            &[FOUR, &[((4, 0), &[]), ((4, 0), &[]), ((4, 0), &[]), ((2, -10), &[])]],
             &[(0, 0), (0, 0)],
         ),
+    ]
+}
+
+/// Which statement of a loop a chain comes to and goes on from does not matter.
+fn through_statements() -> Vec<Case> {
+    vec![
         stated(
             "two reads alone",
             &[&[((0, 0), &[(4, 0)]), ((1, 0), &[(4, 1)])], &[((2, 0), &[(4, 5)]), ((3, 0), &[])]],
@@ -191,15 +205,15 @@ fn statements() -> Vec<Case> {
             "a chain through second statements",
             {
                 let third: Statements = &[((4, 0), &[]), ((4, 0), &[(3, 1)])];
-                &[two, &[((2, 0), &[]), ((3, 0), &[(1, 2)])], third]
+                &[TWO, &[((2, 0), &[]), ((3, 0), &[(1, 2)])], third]
             },
             &[(0, 0), (2, 0), (3, 0)],
         ),
         stated(
-            "no chain through one loop's statements",
+            "a chain that goes on from another statement",
             {
                 let middle: Statements = &[((2, 0), &[(0, 2)]), ((3, 0), &[])];
-                &[two, middle, &[((4, 0), &[(3, 1)])]]
+                &[TWO, middle, &[((4, 0), &[(3, 1)])]]
             },
             &[(0, 0), (2, 0), (3, 0)],
         ),

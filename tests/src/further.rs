@@ -7,10 +7,23 @@ use crate::examples::TWO_STATEMENTS;
 use crate::limits::{case, new, pair, Case};
 
 pub fn cases() -> Vec<Case> {
-    [counts(), items(), fields(), orders(), ends(), pairs(), stores(), between(), loops()]
-        .into_iter()
-        .flatten()
-        .collect()
+    [
+        counts(),
+        items(),
+        waiting(),
+        fields(),
+        orders(),
+        ends(),
+        pairs(),
+        least(),
+        stores(),
+        far_stores(),
+        between(),
+        loops(),
+    ]
+    .into_iter()
+    .flatten()
+    .collect()
 }
 
 /// One array of 5 and a loop from 0 to 4 with a finished body: what follows
@@ -55,7 +68,6 @@ fn items_of(count: usize) -> Encoder {
 }
 
 fn items() -> Vec<Case> {
-    let waiting = |count| finished().statement(0, 0).repeat(count, |e| e.constant(1));
     vec![
         case("32 items over three statements", items_of(32).end(), 0, 0),
         case("33 items over three statements", items_of(33).end(), 4, 98),
@@ -84,6 +96,13 @@ fn items() -> Vec<Case> {
             0,
             0,
         ),
+    ]
+}
+
+/// Waiting numbers begin anew with each statement.
+fn waiting() -> Vec<Case> {
+    let waiting = |count| finished().statement(0, 0).repeat(count, |e| e.constant(1));
+    vec![
         case(
             "8 waiting in a second statement",
             waiting(8).repeat(7, |e| e.operation(1)).end(),
@@ -234,6 +253,12 @@ fn pairs() -> Vec<Case> {
         case("what is stored before, read", one(&[((0, 0), &[]), ((1, 0), &[(0, 0)])]), 0, 0),
         case("what is stored behind, read", one(&[((0, 0), &[(1, 0)]), ((1, 0), &[])]), 0, 0),
         case("two reads", one(&[((0, 0), &[(2, 0)]), ((1, 0), &[(2, 1), (2, -1)])]), 0, 0),
+    ]
+}
+
+/// The least by the lower number, and then by the higher one.
+fn least() -> Vec<Case> {
+    vec![
         // 1 and 4 collide, and 2 and 3 do: the lower number is what counts.
         pair(
             "least by the lower, not by the higher",
@@ -288,6 +313,12 @@ fn stores() -> Vec<Case> {
             0,
             (0, 2),
         ),
+    ]
+}
+
+/// Two destinations that only just meet, or do not.
+fn far_stores() -> Vec<Case> {
+    vec![
         case(
             "one iteration stores two places",
             {
@@ -316,22 +347,22 @@ fn far(last: u32) -> Encoder {
     open.statement(0, 255).constant(1).end()
 }
 
+/// A loop of 22 references, of which the last reads array 0 at `offset` and the
+/// others but the first destination are of other arrays.
+fn most_references(offset: i16) -> Encoder {
+    let reads = |e: Encoder, count: usize| {
+        e.repeat(count, |e| e.read(2, 0)).repeat(count - 1, |e| e.operation(1))
+    };
+    let open = three_arrays().a_loop(20, 29, 0, 0);
+    let three = reads(reads(open, 5).statement(1, 0), 5).statement(1, 0);
+    let last = reads(three, 4).statement(1, 0).repeat(3, |e| e.read(2, 0));
+    last.read(0, offset).repeat(3, |e| e.operation(1)).end()
+}
+
 /// Constants, operations and the loop's own record have no number. A loop of
 /// four statements has at most 22 references.
 fn between() -> Vec<Case> {
     let open = || three_arrays().a_loop(20, 29, 0, 0);
-    let most = |offset| {
-        let reads = |e: Encoder, count: usize| {
-            e.repeat(count, |e| e.read(2, 0)).repeat(count - 1, |e| e.operation(1))
-        };
-        let three = reads(reads(open(), 5).statement(1, 0), 5).statement(1, 0);
-        reads(three, 4)
-            .statement(1, 0)
-            .repeat(3, |e| e.read(2, 0))
-            .read(0, offset)
-            .repeat(3, |e| e.operation(1))
-            .end()
-    };
     vec![
         pair(
             "behind constants and operations",
@@ -355,8 +386,8 @@ fn between() -> Vec<Case> {
             0,
             (0, 2),
         ),
-        pair("the twenty-second reference", most(1), 0, (0, 21)),
-        case("the twenty-second at its own offset", most(0), 0, 0),
+        pair("the twenty-second reference", most_references(1), 0, (0, 21)),
+        case("the twenty-second at its own offset", most_references(0), 0, 0),
     ]
 }
 

@@ -18,8 +18,15 @@ const TAIL: Ground = 8;
 
 /// The table, or the first ground that it meets.
 pub fn read(bytes: &[u8]) -> Result<Table, Refusal> {
-    let mut reader =
-        Reader { bytes, at: 0, table: Table::default(), elements: 0, items: 0, waiting: 0 };
+    let mut reader = Reader {
+        bytes,
+        at: 0,
+        table: Table::default(),
+        elements: 0,
+        items: 0,
+        waiting: 0,
+        body: Vec::new(),
+    };
     while !reader.record().map_err(|ground| Refusal::new(ground, reader.at))? {}
     if reader.at < bytes.len() {
         return Err(Refusal::new(TAIL, reader.at));
@@ -38,7 +45,8 @@ struct Reader<'a> {
     elements: u64,
     /// The count of items of the loop at hand, over all of its statements.
     items: usize,
-    /// The count of numbers that wait in the body at hand.
+    /// The items of the body at hand, and the count of numbers that wait in it.
+    body: Vec<Item>,
     waiting: usize,
 }
 
@@ -62,7 +70,7 @@ impl Reader<'_> {
             4 => self.constant(body)?,
             5 => self.operation(body)?,
             7 => self.statement(body)?,
-            _ => {}
+            _ => self.close(),
         }
         self.at = after;
         Ok(kind == 6)
@@ -117,10 +125,10 @@ impl Reader<'_> {
         require(last <= MOST_LAST && first <= last, FIELD)?;
         let destination = self.reference(&body[8..11])?;
         require(self.inside(first, last, destination), EDGE)?;
-        let items = Vec::with_capacity(MOST_ITEMS);
-        self.table.loops.push(Loop::of_one(first, last, destination, items));
+        self.close();
+        self.table.loops.push(Loop::of_one(first, last, destination, Vec::new()));
         self.items = 0;
-        self.waiting = 0;
+        self.begin_body();
         Ok(())
     }
 
@@ -130,11 +138,17 @@ impl Reader<'_> {
         let destination = self.reference(body)?;
         let (first, last) = self.bounds();
         require(self.inside(first, last, destination), EDGE)?;
+        self.close();
         if let Some(open) = self.table.loops.last_mut() {
-            open.statements.push(Statement { destination, items: Vec::with_capacity(MOST_ITEMS) });
+            open.statements.push(Statement { destination, items: Vec::new() });
         }
-        self.waiting = 0;
+        self.begin_body();
         Ok(())
+    }
+
+    fn begin_body(&mut self) {
+        self.body = Vec::with_capacity(MOST_ITEMS);
+        self.waiting = 0;
     }
 
     fn a_read(&mut self, body: &[u8]) -> Result<(), Ground> {
@@ -184,10 +198,15 @@ impl Reader<'_> {
     }
 
     fn item(&mut self, item: Item) {
+        self.body.push(item);
+        self.items += 1;
+    }
+
+    /// Gives the statement at hand its items, where its body ends.
+    fn close(&mut self) {
         let open = self.table.loops.last_mut();
         if let Some(statement) = open.and_then(|open| open.statements.last_mut()) {
-            statement.items.push(item);
-            self.items += 1;
+            statement.items = std::mem::take(&mut self.body);
         }
     }
 
@@ -237,7 +256,7 @@ fn serial(table: &Table) -> Option<Refusal> {
     let mut loops = table.loops.iter().enumerate();
     loops.find_map(|(place, one)| {
         all.clear();
-        all.extend(one.accesses());
+        one.statements.iter().for_each(|statement| all.extend(statement.accesses()));
         Some(Refusal::serial(place, least_pair(one, &all)?))
     })
 }
