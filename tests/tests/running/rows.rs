@@ -121,7 +121,7 @@ fn row(calls: &mut Calls, random: &mut Random, planned: &Planned, scheduler: Sch
     }
     let mut plain = start.clone();
     plain_run(&planned.bytes, &mut plain).expect("accepted");
-    if calls.rows % SOME == 0 {
+    if calls.rows.is_multiple_of(SOME) {
         calls.misrun.add(&planned.schedule.table, &start, &plain);
     }
     if !same_bits(&state.found, &plain) {
