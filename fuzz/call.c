@@ -6,13 +6,20 @@
 #include <stdlib.h>
 #include <string.h>
 
-enum { MOST_READS = 16, PATTERN = 4096, GROUNDS = 21 };
+enum { MOST_NAMED = 22, PATTERN = 4096, GROUNDS = 21 };
 
 static const char *const names[ENTRIES] = {"check",      "join",        "check plan",   "facts",         "shifts and peels", "threshold",
                                            "sweeps",     "blocks",      "listing",      "fused list",    "peeled list",
                                            "fused ranges", "peeled ranges", "plain run", "step",         "run"};
 
-static uint64_t given[ENTRIES][GROUNDS], named_reads[MOST_READS], with_pairs[MEETINGS];
+static uint64_t given[ENTRIES][GROUNDS], with_pairs[MEETINGS];
+
+/* How often check named a reference with 9, as the lower and as the higher of its pair, and how many of these pairs are of two destinations and of a
+ * read before the destination. */
+static uint64_t named[2][MOST_NAMED], two_stored, read_first;
+
+/* Tables by the most statements of a loop, and grounds by which they are refused at the record of a further statement. */
+static uint64_t with_statements[MOST_STATEMENTS + 2], statement_grounds[GROUNDS];
 
 /* The library is not instrumented, so the fuzzer learns what is new from the answers. Without libFuzzer this is a plain array. */
 #if defined(__clang__)
@@ -38,6 +45,20 @@ void plan_call(struct call *call, struct vempaldi_settings settings) {
 
 void count_pairs(const struct call *call) {
     for (int kind = 0; kind < MEETINGS && !call->verdict[0]; kind++) with_pairs[kind] += call->own.pairs[kind] > 0;
+}
+
+void count_statements(const struct call *call) {
+    with_statements[call->table.most_statements]++;
+    if (call->verdict[0] && call->verdict[0] < 8 && call->table.at_statement) statement_grounds[call->verdict[0]]++;
+}
+
+/* A pair that check names with 9. */
+static void count_named(const struct call *call) {
+    struct access all[MOST_IN_ROW];
+    uint64_t lower = call->answer[2], higher = call->answer[3];
+    accesses_of(&call->table.loop[call->answer[1]], all);
+    named[0][lower % MOST_NAMED]++, named[1][higher % MOST_NAMED]++;
+    two_stored += all[lower].stores && all[higher].stores, read_first += !all[lower].stores;
 }
 
 /* Plans by what their blocks are like, and refusals with 11 by what alone makes them. */
@@ -85,10 +106,10 @@ uint64_t plan_ground(const struct call *call, int has_processor) {
 
 void answered(struct call *call) {
     if (memcmp(call->answer, call->expected, sizeof call->answer)) breach(call, "another answer");
-    uint64_t number = call->answer[0], place = call->answer[1], read = call->answer[2];
+    uint64_t number = call->answer[0], place = call->answer[1], first = call->answer[2], second = call->answer[3];
     given[call->entry][number]++;
-    if (call->entry == CHECK && number == 9) named_reads[read % MOST_READS]++;
-    uint64_t which = number == 9 || number == 20 ? place % 4 * 16 + read % 16 : place < 63 ? place : 63;
+    if (call->entry == CHECK && number == 9) count_named(call);
+    uint64_t which = number == 9 ? place % 2 * 32 + first % 4 * 8 + second % 8 : number == 20 ? place % 4 * 16 + first % 16 : place < 63 ? place : 63;
     novel[((unsigned)call->entry * GROUNDS + number) * 64 + which] = 1;
 }
 
@@ -113,6 +134,15 @@ void breach(const struct call *call, const char *what) {
     abort();
 }
 
+static void tell_statements(void) {
+    fprintf(stderr, "  tables by the most statements of a loop:");
+    for (int count = 0; count < MOST_STATEMENTS + 2; count++) fprintf(stderr, " %d:%" PRIu64, count, with_statements[count]);
+    fprintf(stderr, "\n  grounds at the record of a further statement:");
+    for (int n = 0; n < GROUNDS; n++)
+        if (statement_grounds[n]) fprintf(stderr, " %d:%" PRIu64, n, statement_grounds[n]);
+    fprintf(stderr, "\n");
+}
+
 void tell(void) {
     fprintf(stderr, "fuzz: calls by ground (0 accepted):\n");
     for (int e = 0; e < ENTRIES; e++) {
@@ -121,10 +151,14 @@ void tell(void) {
             if (given[e][n]) fprintf(stderr, " %d:%" PRIu64, n, given[e][n]);
         fprintf(stderr, "\n");
     }
-    fprintf(stderr, "  reads that check named with 9:");
-    for (int read = 0; read < MOST_READS; read++)
-        if (named_reads[read]) fprintf(stderr, " %d:%" PRIu64, read, named_reads[read]);
-    fprintf(stderr, "\n");
+    for (int which = 0; which < 2; which++) {
+        fprintf(stderr, "  references that check named with 9 as the %s:", which ? "higher" : "lower");
+        for (int number = 0; number < MOST_NAMED; number++)
+            if (named[which][number]) fprintf(stderr, " %d:%" PRIu64, number, named[which][number]);
+        fprintf(stderr, "\n");
+    }
+    fprintf(stderr, "  of these pairs, of two destinations: %" PRIu64 ", of a read before the destination: %" PRIu64 "\n", two_stored, read_first);
+    tell_statements();
     fprintf(stderr, "  tables with references that are apart, miss by one, meet once, meet often:");
     for (int kind = 0; kind < MEETINGS; kind++) fprintf(stderr, " %" PRIu64, with_pairs[kind]);
     fprintf(stderr, "\n");

@@ -39,7 +39,8 @@ void by_header(const struct call *call, struct cursor *bytes);
 void count_plan(const struct call *call);
 void tell_plans(void);
 
-/* Counts an accepted table by how the references of its loops meet, and its plan by what its blocks are like. */
+/* Counts a table by its statements, an accepted one by how the references of its loops meet, and its plan by what its blocks are like. */
+void count_statements(const struct call *call);
 void count_pairs(const struct call *call);
 void count_blocks(const struct call *call);
 
@@ -55,7 +56,7 @@ void answered(struct call *call);
 /* Prints the call and its table, and aborts. */
 void breach(const struct call *call, const char *what);
 
-/* How often each entry gave each ground, how often check named each read, and what was counted. */
+/* How often each entry gave each ground, how often check named each reference, and what was counted. */
 void tell(void);
 
 /* Lent bytes with guards on both sides, and beside them what they are to be after the call. */

@@ -61,6 +61,7 @@ int LLVMFuzzerTestOneInput(const uint8_t *data, size_t size) {
     else p = p < 224 ? p % 9 : p < 239 ? p - 160 : p < 240 ? UINT32_MAX : wide(&bytes, 1 + p % 8);
     begin_call(&call, length ? table : NULL, length, (struct vempaldi_settings){.processors = p, .line = any_line(&bytes)});
     plan_call(&call, any_plan(&call, &bytes));
+    count_statements(&call);
     count_pairs(&call);
     count_blocks(&call);
     count_plan(&call);

@@ -50,9 +50,17 @@ static int64_t between(struct cursor *bytes, int64_t low, int64_t high, int flaw
     return high <= low ? low : low + (int64_t)(take(bytes, 2) % (uint32_t)(high - low + 1));
 }
 
-/* How full a table is: as it comes, or with bodies of 31 or 32 items over reads and constants, over constants alone (the longest tables), or
- * over reads of all arrays in turn (the most sweeps, and reads with the highest numbers). */
+/* How full a table is: as it comes, or with loops of 31 or 32 items over reads and constants, over constants alone (the longest tables), or
+ * over reads of all arrays in turn (the most sweeps, and references with the highest numbers). */
 enum fullness { ANY, MIXED, CONSTANTS, IN_TURN };
+
+/* One more than a loop may have. */
+enum { MOST_MADE_STATEMENTS = 5 };
+
+/* An array, and the offset at which it is stored. */
+struct stored {
+    int64_t array, offset;
+};
 
 struct making {
     struct cursor *bytes;
@@ -65,8 +73,10 @@ struct making {
     int64_t moved;
     /* Whether the loops have some of the last indices alone. */
     int at_end;
-    /* Where the loop at hand stores, and how many reads it has so far. */
-    int64_t stored, offset, reads;
+    /* The bounds of the loop at hand, where its statements store, and how many reads it has so far. */
+    int64_t first, last, reads;
+    int near, statements;
+    struct stored stored[MOST_MADE_STATEMENTS];
 };
 
 static void put(struct making *made, uint32_t value, int count) {
@@ -89,37 +99,55 @@ static void make_arrays(struct making *made) {
     }
 }
 
-/* A read of an array at an offset that keeps the indices inside it. Where there is none, and mostly where the array is the one that the
- * loop stores, it reads what it stores, for most other reads would meet 7 or 9. */
-static void reference(struct making *made, int64_t first, int64_t last, int near) {
-    int64_t q = made->full == IN_TURN ? (made->stored + ++made->reads) % 16 : between(made->bytes, 0, made->arrays - 1, made->flaws);
-    int64_t length = q >= 0 && q < made->arrays ? made->lengths[q] : 1;
-    int64_t low = -first < -near ? -near : -first, high = length - 1 - last > near ? near : length - 1 - last;
-    int64_t offset = low <= high ? between(made->bytes, low, high, made->flaws) : 0;
-    /* Full tables have many reads, of which all but few must not meet. */
-    uint32_t times = made->full ? 64 : 8;
-    if ((low > high || q == made->stored) && take(made->bytes, 1) % times) q = made->stored, offset = made->offset;
-    put(made, (uint32_t)q, 1);
-    put(made, (uint32_t)(offset - made->moved), 2);
+/* Where the loop at hand stores this array; any of its destinations where it does not. */
+static struct stored stored_of(struct making *made, int64_t q, int *own) {
+    for (int n = 0; n < made->statements; n++)
+        if (made->stored[n].array == q) return *own = 1, made->stored[n];
+    *own = 0;
+    return made->stored[made->statements > 1 ? take(made->bytes, 1) % (uint32_t)made->statements : 0];
 }
 
-/* Item i of a full body: two numbers, then an operation and a number in turn; a 32nd item negates. */
-static void full_item(struct making *made, int64_t first, int64_t last, int near, int i) {
+/* A reference to an array at an offset that keeps the indices inside it. Where there is none, and mostly where the loop stores the array, it is to
+ * what the loop stores, for most others would meet 7 or 9. */
+static struct stored reference_to(struct making *made, int64_t q) {
+    int64_t length = q >= 0 && q < made->arrays ? made->lengths[q] : 1, low = -made->near, high = made->near;
+    if (low < -made->first) low = -made->first;
+    if (high > length - 1 - made->last) high = length - 1 - made->last;
+    struct stored one = {q, low <= high ? between(made->bytes, low, high, made->flaws) : 0};
+    int own;
+    struct stored stored = stored_of(made, q, &own);
+    /* Full tables and loops of several statements have many references that could meet, of which all but few must not. */
+    uint32_t times = made->full ? 64 : made->statements > 1 ? 24 : 8;
+    return (low > high || own) && take(made->bytes, 1) % times ? stored : one;
+}
+
+static void put_reference(struct making *made, struct stored one) {
+    put(made, (uint32_t)one.array, 1);
+    put(made, (uint32_t)(one.offset - made->moved), 2);
+}
+
+static void read_item(struct making *made) {
+    int64_t q = made->full == IN_TURN ? (made->stored[0].array + ++made->reads) % 16 : between(made->bytes, 0, made->arrays - 1, made->flaws);
+    put(made, 3, 1);
+    put_reference(made, reference_to(made, q));
+}
+
+/* Item i of a full body: two numbers, then an operation and a number in turn; a last item that would be a number negates. */
+static void full_item(struct making *made, int i, int items) {
     if (i > 0 && i % 2 == 0) {
         put(made, 5, 1);
         put(made, (uint32_t)between(made->bytes, 1, 4, made->flaws), 1);
-    } else if (i == 31) {
+    } else if (i > 0 && i == items - 1) {
         put(made, 5 | 5 << 8, 2);
     } else if (made->full == IN_TURN || (made->full == MIXED && take(made->bytes, 1) % 3)) {
-        put(made, 3, 1);
-        reference(made, first, last, near);
+        read_item(made);
     } else {
         put(made, 4, 1);
         put(made, take(made->bytes, 4), 4);
     }
 }
 
-static void make_item(struct making *made, int64_t first, int64_t last, int near, int *waiting, int left) {
+static void make_item(struct making *made, int *waiting, int left) {
     struct cursor *bytes = made->bytes;
     int push = *waiting < 8 && *waiting <= left && (*waiting < 2 || take(bytes, 1) % 2);
     if (made->flaws && take(bytes, 1) == 254) push = !push;
@@ -129,14 +157,51 @@ static void make_item(struct making *made, int64_t first, int64_t last, int near
         put(made, negate ? 5 : (uint32_t)between(bytes, 1, 4, made->flaws), 1);
         *waiting -= !negate;
     } else if (take(bytes, 1) % 3) {
-        put(made, 3, 1);
-        reference(made, first, last, near);
+        read_item(made);
         ++*waiting;
     } else {
         put(made, 4, 1);
         put(made, take(bytes, 4), 4);
         ++*waiting;
     }
+}
+
+/* One statement in half of all loops, else up to four, and as a flaw five. */
+static int statements_of(struct making *made) {
+    uint32_t way = take(made->bytes, 1);
+    if (made->flaws && way >= 240) return MOST_MADE_STATEMENTS;
+    return way % 2 ? 1 : 1 + (int)(way / 2 % 4);
+}
+
+/* The destinations of all statements are drawn before any body, so that reads can keep clear of them. A further one is mostly another array, at times
+ * the same place once more. */
+static void make_destinations(struct making *made, struct stored first) {
+    int count = statements_of(made);
+    made->stored[0] = first, made->statements = 1, made->reads = 0;
+    while (made->statements < count) {
+        struct stored next = reference_to(made, between(made->bytes, 0, made->arrays - 1, made->flaws));
+        made->stored[made->statements++] = next;
+    }
+}
+
+/* A destination, as a flaw of no array or at an offset that is just out of range. */
+static struct stored flawed(struct making *made, struct stored one) {
+    uint32_t way = made->flaws ? take(made->bytes, 1) : 0;
+    if (way >= 252) one.array = made->arrays + (int64_t)(way - 252) * 40;
+    else if (way >= 248) one.offset = (way % 2 ? 256 : -256) + made->moved;
+    return one;
+}
+
+/* A statement's items, of so many that are left for this and the ones behind it. Full bodies have an odd number of items, which is as many operands as
+ * fit. Answers how many items it has. */
+static int make_body(struct making *made, int left, int statements) {
+    int items = left / statements, waiting = 0;
+    if (statements > 1 && !made->full) items = 1 + (int)(take(made->bytes, 1) % (uint32_t)(left - statements + 1));
+    if (made->full && statements > 1 && items % 2 == 0) items++;
+    for (int i = 0; i < items; i++)
+        if (made->full) full_item(made, i, items);
+        else make_item(made, &waiting, items - i - 1);
+    return items;
 }
 
 static void make_loop(struct making *made, int near) {
@@ -147,17 +212,20 @@ static void make_loop(struct making *made, int near) {
     uint32_t times = made->full ? 16 : 4;
     if (take(bytes, 1) % times == 0) first = between(bytes, first, last, made->flaws);
     if (take(bytes, 1) % times == 0) last = between(bytes, first, last, made->flaws);
-    made->stored = q, made->offset = between(bytes, -margin, margin, made->flaws), made->reads = 0;
+    made->first = first, made->last = last, made->near = near;
+    make_destinations(made, (struct stored){q, between(bytes, -margin, margin, made->flaws)});
     put(made, 2, 1);
     put(made, (uint32_t)(first + made->moved), 4);
     put(made, (uint32_t)(last + made->moved), 4);
-    put(made, (uint32_t)q, 1);
-    put(made, (uint32_t)(made->offset - made->moved), 2);
+    put_reference(made, made->stored[0]);
     int items = made->full ? 31 + (int)(take(bytes, 1) % 2) : (int)between(bytes, 1, take(bytes, 1) % 8 ? 7 : 32, made->flaws);
-    int waiting = 0;
-    for (int i = 0; i < items; i++)
-        if (made->full) full_item(made, first, last, near, i);
-        else make_item(made, first, last, near, &waiting, items - i - 1);
+    if (items < made->statements) items = made->statements;
+    /* As a flaw, one item too many over all statements, or some. */
+    if (made->flaws && made->statements > 1 && take(bytes, 1) >= 240) items = 33 + (int)(take(bytes, 1) % 4);
+    for (int n = 0; n < made->statements; n++) {
+        if (n > 0) put(made, 7, 1), put_reference(made, flawed(made, made->stored[n]));
+        items -= make_body(made, items, made->statements - n);
+    }
 }
 
 /* Some loops over the arrays, and the end. */
@@ -169,6 +237,8 @@ static size_t make_loops(struct making *made) {
     /* Lists over long arrays are mostly too long to be asked for whole. */
     made->at_end = way / 4 % (made->lengths[0] > 4096 && !made->full ? 2 : 16) == 0;
     int loops = made->full ? (way / 64 % 2 ? 16 : 8) : (int)between(bytes, 1, take(bytes, 1) % 8 ? 4 : 16, made->flaws);
+    /* As a flaw, a further statement before any loop. */
+    if (made->flaws && take(bytes, 1) >= 250) put(made, 7, 1), put(made, take(bytes, 1) % 3, 3);
     for (int k = 0; k < loops; k++) make_loop(made, near);
     put(made, 6, 1);
     return made->length;
@@ -196,11 +266,11 @@ static size_t damaged(struct cursor *bytes, uint8_t *out, size_t length) {
     switch (take(bytes, 1) % 4) {
     case 0: return at;
     case 1:
-        if (length) out[at] = (uint8_t)(take(bytes, 1) % 2 ? take(bytes, 1) % 8 : take(bytes, 1));
+        if (length) out[at] = (uint8_t)(take(bytes, 1) % 2 ? take(bytes, 1) % 9 : take(bytes, 1));
         return length;
     case 2:
         memmove(out + at + 1, out + at, length - at);
-        out[at] = (uint8_t)(take(bytes, 1) % 8);
+        out[at] = (uint8_t)(take(bytes, 1) % 9);
         return length + 1;
     default:
         out[length] = (uint8_t)take(bytes, 1);

@@ -5,7 +5,7 @@
 #include <stddef.h>
 #include <stdint.h>
 
-enum { MOST_MADE = 2600 };
+enum { MOST_MADE = 2800 };
 
 /* The bytes of an input that are still to be used. A large input, one of few, has arrays of 65,536 elements, one to three processors and
  * always the whole memory. */

@@ -104,8 +104,11 @@ static void any_counts(const struct call *call, struct cursor *bytes, uint32_t c
             /* Near the end of the fused list. */
             if ((bytes->large || way >= 192) && counts[b] > 8) counts[b] -= take(bytes, 1) % 8;
         }
-    for (uint32_t i = way % 8 < 3 || bytes->large ? 0 : take(bytes, 1) % 5; i-- > 0;)
-        counts[take(bytes, 1) % 64] += (take(bytes, 1) % 12) << 8 * (take(bytes, 1) % 4);
+    for (uint32_t i = way % 8 < 3 || bytes->large ? 0 : take(bytes, 1) % 5; i-- > 0;) {
+        uint32_t which = take(bytes, 1);
+        /* The last one more often than others: mostly it is that of no processor. */
+        counts[which < 224 ? which % 64 : 63] += (take(bytes, 1) % 12) << 8 * (take(bytes, 1) % 4);
+    }
 }
 
 /* A step from any counts, then a row of steps from 0 to its end, which leaves the memory of the loops. */

@@ -6,26 +6,41 @@
 #include <stddef.h>
 #include <stdint.h>
 
-enum { MOST_ARRAYS = 16, MOST_LOOPS = 16, MOST_ITEMS = 32, MOST_PROCESSORS = 64, LONGEST_LINE = 64, MOST_AMOUNT = 10000 };
+enum { MOST_ARRAYS = 16, MOST_LOOPS = 16, MOST_STATEMENTS = 4, MOST_ITEMS = 32, MOST_PROCESSORS = 64, LONGEST_LINE = 64, MOST_AMOUNT = 10000 };
+
+/* What a loop's row has room for. */
+enum { MOST_IN_ROW = MOST_STATEMENTS + MOST_ITEMS };
 
 struct reference {
     int array;
     int64_t offset;
 };
 
-/* A read (kind 3), a constant (4) or an operation (5); `value` is the constant or the operation's number. */
+/* A read (kind 3), a constant (4), an operation (5) or the beginning of a statement (7); `at` is what is read or stored, `value` is the constant or
+ * the operation's number. */
 struct item {
     int kind;
-    struct reference from;
+    struct reference at;
     uint32_t value;
 };
 
+/* All statements in one row, in byte order: each begins with its destination, that of the first being the loop record's own. */
 struct loop {
     int64_t first, last;
-    struct reference to;
-    int items;
-    struct item item[MOST_ITEMS];
+    int statements, items;
+    struct item row[MOST_IN_ROW];
 };
+
+static inline int row_length(const struct loop *loop) { return loop->statements + loop->items; }
+
+/* A reference of a loop, and whether it is a destination. */
+struct access {
+    struct reference at;
+    int stores;
+};
+
+/* The references of a loop in byte order: the numbers that 9 names. Answers how many there are. */
+int accesses_of(const struct loop *loop, struct access out[MOST_IN_ROW]);
 
 struct table {
     int arrays, loops;
@@ -35,6 +50,9 @@ struct table {
     struct loop loop[MOST_LOOPS];
     /* Where the loops begin in the bytes, and where the end record stands. */
     size_t loops_at, end_at;
+    /* The most statements of a loop, as far as the bytes were read, a refused one too; and whether the record at which the reading ended is that of a
+     * further statement. */
+    int most_statements, at_statement;
 };
 
 /* The table, or the four numbers of its refusal with 1 to 9. */

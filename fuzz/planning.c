@@ -7,35 +7,26 @@
 static int64_t greater(int64_t one, int64_t other) { return one > other ? one : other; }
 static int64_t lesser(int64_t one, int64_t other) { return one < other ? one : other; }
 
-/* The references of a loop, its destination first; the others are reads. */
-static int references(const struct loop *loop, struct reference out[1 + MOST_ITEMS]) {
-    int count = 0;
-    out[count++] = loop->to;
-    for (int i = 0; i < loop->items; i++)
-        if (loop->item[i].kind == 3) out[count++] = loop->item[i].from;
-    return count;
-}
-
 /* How many elements of their array two references of two loops both reach; 0 and less where they reach none, the less the farther apart. */
 static int64_t common_elements(const struct loop *one, struct reference in_one, const struct loop *other, struct reference in_other) {
     int64_t lowest = greater(one->first + in_one.offset, other->first + in_other.offset);
     return lesser(one->last + in_one.offset, other->last + in_other.offset) - lowest + 1;
 }
 
-/* Two references make a dependence where they reach a common element, and not both read it. A loop stores through one alone. */
-enum { MOST_DISTANCES = 2 * (1 + MOST_ITEMS) };
+/* Two references make a dependence where they reach a common element, and not both read it. */
+enum { MOST_DISTANCES = MOST_IN_ROW * MOST_IN_ROW };
 
 /* The distances of the dependences from loop j to loop k. Answers how many there are; counts the pairs of references by how they meet. */
 static int distances(const struct table *table, int j, int k, int64_t out[MOST_DISTANCES], uint32_t pairs[MEETINGS]) {
     const struct loop *before = &table->loop[j], *behind = &table->loop[k];
-    struct reference from[1 + MOST_ITEMS], to[1 + MOST_ITEMS];
-    int froms = references(before, from), tos = references(behind, to), count = 0;
+    struct access from[MOST_IN_ROW], to[MOST_IN_ROW];
+    int froms = accesses_of(before, from), tos = accesses_of(behind, to), count = 0;
     for (int a = 0; a < froms; a++)
         for (int b = 0; b < tos; b++) {
-            if (from[a].array != to[b].array || (a > 0 && b > 0)) continue;
-            int64_t common = common_elements(before, from[a], behind, to[b]);
+            if (from[a].at.array != to[b].at.array || (!from[a].stores && !to[b].stores)) continue;
+            int64_t common = common_elements(before, from[a].at, behind, to[b].at);
             pairs[common < 0 ? APART : common == 0 ? NEXT : common == 1 ? ONCE : OFTEN]++;
-            if (common > 0) out[count++] = from[a].offset - to[b].offset;
+            if (common > 0) out[count++] = from[a].at.offset - to[b].at.offset;
         }
     return count;
 }
@@ -214,11 +205,13 @@ void sweeps_of(const struct table *table, uint32_t sweeps[2]) {
     uint8_t touched[MOST_ARRAYS] = {0}, written[MOST_ARRAYS] = {0};
     sweeps[0] = 0;
     for (int k = 0; k < table->loops; k++) {
-        struct reference all[1 + MOST_ITEMS];
-        uint8_t own[MOST_ARRAYS] = {0};
-        for (int r = references(&table->loop[k], all); r-- > 0;) own[all[r].array] = touched[all[r].array] = 1;
-        written[table->loop[k].to.array] = 1;
-        sweeps[0] += marked(own) + 1;
+        struct access all[MOST_IN_ROW];
+        uint8_t own[MOST_ARRAYS] = {0}, stored[MOST_ARRAYS] = {0};
+        for (int r = accesses_of(&table->loop[k], all); r-- > 0;) {
+            own[all[r].at.array] = touched[all[r].at.array] = 1;
+            if (all[r].stores) stored[all[r].at.array] = written[all[r].at.array] = 1;
+        }
+        sweeps[0] += marked(own) + marked(stored);
     }
     sweeps[1] = marked(touched) + marked(written);
 }

@@ -12,21 +12,33 @@ static double applied(uint32_t operation, double left, double right) {
     }
 }
 
+static double *element(const struct table *table, struct reference at, uint32_t index, double *memory) {
+    return &memory[table->begins[at.array] + index + at.offset];
+}
+
+/* A result as it is stored. */
+static void store(double *at, double result) {
+    static const uint64_t not_a_number = 0x7ff8000000000000u;
+    if (result != result) memcpy(at, &not_a_number, 8);
+    else *at = result;
+}
+
+/* A statement stores where the next one begins, or at the row's end. */
 void perform(const struct table *table, struct iteration iteration, double *memory) {
     const struct loop *loop = &table->loop[iteration.loop];
-    double waiting[8];
+    double waiting[8], *to = NULL;
     int count = 0;
-    for (int i = 0; i < loop->items; i++) {
-        const struct item *item = &loop->item[i];
-        if (item->kind == 3) waiting[count++] = memory[table->begins[item->from.array] + iteration.index + item->from.offset];
+    for (int i = 0; i < row_length(loop); i++) {
+        const struct item *item = &loop->row[i];
+        if (item->kind == 7) {
+            if (to) store(to, waiting[0]);
+            to = element(table, item->at, iteration.index, memory), count = 0;
+        } else if (item->kind == 3) waiting[count++] = *element(table, item->at, iteration.index, memory);
         else if (item->kind == 4) waiting[count++] = (double)item->value;
         else if (item->value == 5) waiting[count - 1] = -waiting[count - 1];
         else count--, waiting[count - 1] = applied(item->value, waiting[count - 1], waiting[count]);
     }
-    double *stored = &memory[table->begins[loop->to.array] + iteration.index + loop->to.offset];
-    static const uint64_t not_a_number = 0x7ff8000000000000u;
-    if (waiting[0] != waiting[0]) memcpy(stored, &not_a_number, 8);
-    else *stored = waiting[0];
+    store(to, waiting[0]);
 }
 
 void run_plainly(const struct table *table, double *memory) {

@@ -58,6 +58,37 @@ uint64_t loops_of(const uint8_t *table, size_t table_length);
 
 void refuse(uint64_t answer[4], uint64_t ground);
 
+enum { MOST_LOOPS = 16, MOST_REFERENCES = 36 };
+
+/* A loop's bounds, and its references in byte order: of each whether it is a destination, and the number of its statement. */
+struct loop {
+    int64_t first, last, offset[MOST_REFERENCES];
+    int references, array[MOST_REFERENCES], stores[MOST_REFERENCES], statement[MOST_REFERENCES];
+};
+
+/* The loops of a table that ends as it should: one that is accepted, or refused with 9. Answers how many there are. */
+int take_loops(const uint8_t *table, struct loop loops[MOST_LOOPS]);
+
+/* Where the record behind the one at `at` begins. */
+const uint8_t *behind(const uint8_t *at);
+
+/* statements.c: 9 by a wrong rule on the pair, and what reading says where a fifth statement or a 33rd item is let pass, where such a fault is chosen. */
+void misname(const uint8_t *table, uint64_t answer[4]);
+void miscount(const uint8_t *table, size_t table_length, uint64_t answer[4]);
+
+/* A joined table without the records of further statements. Answers its length. */
+uint64_t without_statements(uint8_t *out, uint64_t written);
+
+/* Sweeps of the first statements alone. */
+void sweep_first(const uint8_t *table, uint8_t *out);
+
+/* The table as a call runs it: of the fault CALL-statements-falling with the statements of each loop in falling order, of CALL-first-statement-alone
+ * without any but the first. `own` has room for it. Answers its length. */
+size_t restated(const char *call, const uint8_t *table, size_t table_length, uint8_t own[VEMPALDI_TABLE_BYTES]);
+
+/* Iteration `index` of a loop, with all values worked out from the memory as it is before any is stored. */
+void values_first(const uint8_t *table, uint32_t loop, uint32_t index, double *memory, size_t memory_length);
+
 /* Shifts and peels, or the threshold, of an accepted table by a wrong rule on which loops meet, where such a fault is chosen. */
 void misjudge_amounts(const uint8_t *table, uint8_t *out);
 void misjudge_threshold(const uint8_t *table, uint8_t *out);

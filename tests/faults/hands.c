@@ -3,8 +3,6 @@
 
 #include "faults.h"
 
-enum { MOST_LOOPS = 16 };
-
 void amounts_in_force(const uint8_t *table, size_t length, struct vempaldi_settings settings, uint8_t out[VEMPALDI_AMOUNT_BYTES]) {
     uint64_t answer[4];
     if (settings.by_hand) memcpy(out, settings.plan, VEMPALDI_AMOUNT_BYTES);

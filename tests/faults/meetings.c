@@ -3,41 +3,13 @@
 
 #include "faults.h"
 
-enum { MOST_LOOPS = 16, MOST_REFERENCES = 33, MOST_ITERATIONS = 65536 };
-
-/* A loop's bounds and references, the destination first. */
-struct loop {
-    int64_t first, last;
-    int references, array[MOST_REFERENCES];
-    int64_t offset[MOST_REFERENCES];
-};
+enum { MOST_ITERATIONS = 65536 };
 
 struct found {
     int loops;
     struct loop loop[MOST_LOOPS];
     uint32_t shift[MOST_LOOPS], peel[MOST_LOOPS];
 };
-
-static void add_reference(struct loop *loop, const uint8_t *at) {
-    loop->array[loop->references] = at[0];
-    loop->offset[loop->references++] = (int16_t)(at[1] | at[2] << 8);
-}
-
-/* The loops of an accepted table. */
-static void take_loops(struct found *found, const uint8_t *at) {
-    static const size_t bodies[] = VEMPALDI_BODY_LENGTHS;
-    found->loops = 0;
-    for (; *at != 6; at += 1 + bodies[*at]) {
-        struct loop *loop = &found->loop[found->loops - (*at != 2)];
-        if (*at == 2) {
-            *loop = (struct loop){.first = number_at(at + 1), .last = number_at(at + 5)};
-            add_reference(loop, at + 9);
-            found->loops++;
-        } else if (*at == 3) {
-            add_reference(loop, at + 1);
-        }
-    }
-}
 
 static int has(const struct loop *loop, int64_t index) { return loop->first <= index && index <= loop->last; }
 
@@ -63,6 +35,7 @@ static int miss_by_one(const struct loop *j, const struct loop *k, int64_t d) { 
 static int farthest_not_asked(const struct loop *j, const struct loop *k, int64_t d) {
     return d == 510 || d == -510 || common(j, k, d) > 0;
 }
+static int right(const struct loop *j, const struct loop *k, int64_t d) { return common(j, k, d) > 0; }
 static int far_strictly(const struct loop *j, const struct loop *k, int64_t d) {
     return common(j, k, d) > (d >= 300 || d <= -300);
 }
@@ -82,7 +55,10 @@ static rule *chosen(const char *call) {
                {"strictly-less", strictly},
                {"miss-by-one", miss_by_one},
                {"farthest-not-asked", farthest_not_asked},
-               {"far-strictly-less", far_strictly}};
+               {"far-strictly-less", far_strictly},
+               {"first-destination-alone", right},
+               {"first-reads-alone", right},
+               {"further-as-reads", right}};
     for (size_t i = 0; i < sizeof all / sizeof *all; i++)
         if (fault_in(call, all[i].name)) return all[i].rule;
     return NULL;
@@ -92,13 +68,31 @@ static void raise_to(uint32_t *number, int64_t other) {
     if (other > *number) *number = (uint32_t)other;
 }
 
+/* Whether two references of two loops are to one array, and not both read it. */
+static int joined(const struct loop *one, int a, const struct loop *other, int b) {
+    return one->array[a] >= 0 && one->array[a] == other->array[b] && (one->stores[a] || other->stores[b]);
+}
+
+/* Without what the faults CALL-first-destination-alone, CALL-first-reads-alone and CALL-further-as-reads leave out or take for reads. */
+static void leave_out(const char *call, struct found *found) {
+    int stores = fault_in(call, "first-destination-alone"), reads = fault_in(call, "first-reads-alone"), taken = fault_in(call, "further-as-reads");
+    for (int k = 0; k < found->loops; k++) {
+        struct loop *loop = &found->loop[k];
+        for (int r = 0; r < loop->references; r++) {
+            if (loop->statement[r] == 0) continue;
+            if (loop->stores[r] ? stores : reads) loop->array[r] = -1;
+            if (taken) loop->stores[r] = 0;
+        }
+    }
+}
+
 /* What the pairs of references of j and k give k. */
 static void carry(struct found *found, rule *meet, int j, int k) {
     const struct loop *one = &found->loop[j], *other = &found->loop[k];
     for (int a = 0; a < one->references; a++)
-        for (int b = 0; b < (a ? 1 : other->references); b++) {
+        for (int b = 0; b < other->references; b++) {
             int64_t d = one->offset[a] - other->offset[b];
-            if (one->array[a] != other->array[b] || !meet(one, other, d)) continue;
+            if (!joined(one, a, other, b) || !meet(one, other, d)) continue;
             raise_to(&found->shift[k], found->shift[j] + (d < 0 ? -d : 0));
             raise_to(&found->peel[k], found->peel[j] + (d > 0 ? d : 0));
         }
@@ -111,9 +105,9 @@ static uint32_t ending[MOST_LOOPS][MOST_ITERATIONS][2];
 static void carry_alone(struct found *found, int j, int k) {
     const struct loop *one = &found->loop[j], *other = &found->loop[k];
     for (int a = 0; a < one->references; a++)
-        for (int b = 0; b < (a ? 1 : other->references); b++) {
+        for (int b = 0; b < other->references; b++) {
             int64_t d = one->offset[a] - other->offset[b];
-            if (one->array[a] != other->array[b]) continue;
+            if (!joined(one, a, other, b)) continue;
             for (int64_t i = other->first; i <= other->last; i++) {
                 if (!has(one, i - d)) continue;
                 const uint32_t *before = ending[j][i - d - one->first];
@@ -128,14 +122,15 @@ static void carry_alone(struct found *found, int j, int k) {
 
 void each_dependence(const uint8_t *table, int bounds_asked, dependence *each, void *own) {
     struct found found;
-    take_loops(&found, table);
+    found.loops = take_loops(table, found.loop);
+    leave_out("check-plan", &found);
     for (int k = 0; k < found.loops; k++)
         for (int j = 0; j < k; j++) {
             const struct loop *one = &found.loop[j], *other = &found.loop[k];
             for (int a = 0; a < one->references; a++)
-                for (int b = 0; b < (a ? 1 : other->references); b++) {
+                for (int b = 0; b < other->references; b++) {
                     int64_t d = one->offset[a] - other->offset[b];
-                    if (one->array[a] == other->array[b] && (!bounds_asked || common(one, other, d) > 0)) each(own, j, k, d);
+                    if (joined(one, a, other, b) && (!bounds_asked || common(one, other, d) > 0)) each(own, j, k, d);
                 }
         }
 }
@@ -145,7 +140,8 @@ static int misjudged(const char *call, const uint8_t *table, struct found *found
     rule *meet = chosen(call);
     if (!meet && !fault_in(call, "chain-of-iterations")) return 0;
     memset(found, 0, sizeof *found);
-    take_loops(found, table);
+    found->loops = take_loops(table, found->loop);
+    leave_out(call, found);
     for (int k = 0; k < found->loops; k++) {
         if (!meet) memset(ending[k], 0, sizeof ending[k]);
         for (int j = 0; j < k; j++)

@@ -60,6 +60,7 @@ uint64_t vempaldi_sweeps(const uint8_t *table, size_t table_length, uint8_t *out
     if (fault("sweeps-before-8-bits")) mask(out, 4, 0xff);
     if (fault("sweeps-byte-past-room")) out[out_length] ^= 1;
     if (fault("sweeps-count-one-less")) written--;
+    if (fault("sweeps-first-statement-alone")) sweep_first(table, out);
     return written;
 }
 

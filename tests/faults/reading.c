@@ -20,16 +20,14 @@ static int remembered(const uint8_t *table, size_t length, uint64_t answer[4]) {
     return 0;
 }
 
-/* Whether the read that 9 names is as far from the destination as the loop's bounds allow, and that is 255 or more. */
+/* Whether the references that 9 names are as far from each other as the loop's bounds allow, and that is 255 or more. */
 static int farthest(const uint8_t *table, const uint64_t answer[4]) {
-    static const size_t bodies[] = VEMPALDI_BODY_LENGTHS;
-    const uint8_t *at = table, *loop;
-    for (uint64_t k = 0; *at != 2 || k++ < answer[1];) at += 1 + bodies[*at];
-    for (loop = at, at += 12; *at != 3;) at += 1 + bodies[*at];
-    for (uint64_t read = 0; read < answer[2]; read += *at == 3) at += 1 + bodies[*at];
-    int to = (int16_t)(loop[10] | loop[11] << 8), from = (int16_t)(at[2] | at[3] << 8);
-    uint32_t distance = (uint32_t)(to > from ? to - from : from - to);
-    return distance >= 255 && distance == number_at(loop + 5) - number_at(loop + 1);
+    static _Thread_local struct loop loops[MOST_LOOPS];
+    take_loops(table, loops);
+    const struct loop *loop = &loops[answer[1]];
+    int64_t distance = loop->offset[answer[2]] - loop->offset[answer[3]];
+    if (distance < 0) distance = -distance;
+    return distance >= 255 && distance == loop->last - loop->first;
 }
 
 void vempaldi_check(const uint8_t *table, size_t table_length, uint64_t answer[4]) {
@@ -41,9 +39,11 @@ void vempaldi_check(const uint8_t *table, size_t table_length, uint64_t answer[4
     if (fault("check-tail-place") && answer[0] == 8) answer[1]--;
     if (fault("check-farthest-accepted") && answer[0] == 9 && farthest(table, answer)) refuse(answer, 0);
     if (fault("check-place-10-bits")) answer[1] &= 0x3ff;
-    if (fault("check-read-14-as-13") && answer[0] == 9 && answer[2] == 14) answer[2] = 13;
-    if (fault("check-read-above-12") && answer[0] == 9 && answer[2] > 12) answer[2] = 12;
-    if (fault("check-higher-read") && answer[0] == 9) answer[2]++;
+    if (fault("check-reference-21-as-20") && answer[0] == 9 && answer[3] == 21) answer[3] = 20;
+    if (fault("check-reference-above-13") && answer[0] == 9 && answer[3] > 13) answer[3] = 13;
+    if (fault("check-higher-reference") && answer[0] == 9) answer[3]++;
+    misname(table, answer);
+    miscount(table, table_length, answer);
     if (fault("check-serial-accepted") && answer[0] == 9) refuse(answer, 0);
     /* It comes to nothing: the accepted answer has a 0 there. */
     if (fault("check-looks-past") && table_length && ((const volatile uint8_t *)table)[table_length] && !answer[0]) answer[2] = 0;
@@ -54,6 +54,7 @@ uint64_t vempaldi_join(const uint8_t *left, size_t left_length, const uint8_t *r
     left_length = length_in("join-left", left_length), right_length = length_in("join-right", right_length);
     uint64_t written = real_vempaldi_join(left, left_length, right, right_length, out, out_length, answer);
     if (fault("join-long-wrong") && written > 1500) out[1500] ^= 1;
+    if (fault("join-statements-dropped") && !answer[0]) written = without_statements(out, written);
     if (fault("join-right-first") && !answer[0])
         written = real_vempaldi_join(right, right_length, left, left_length, out, out_length, answer);
     if (fault("join-count-one-more") && !answer[0]) written++;

@@ -28,13 +28,12 @@ static void other_sign(double *memory, const double *before, size_t length) {
 
 /* The table with its last loop one iteration shorter, run from the same memory. */
 static void without_last(const uint8_t *table, size_t length, double *memory, const double *before, size_t numbers) {
-    static const size_t bodies[] = VEMPALDI_BODY_LENGTHS;
     uint8_t shorter[VEMPALDI_TABLE_BYTES];
     uint64_t answer[4];
     size_t last = 0;
     memcpy(shorter, table, length);
-    for (size_t at = 0; at < length; at += 1 + bodies[table[at]])
-        if (table[at] == 2) last = at;
+    for (const uint8_t *at = table; *at != 6; at = behind(at))
+        if (*at == 2) last = (size_t)(at - table);
     if (number_at(table + last + 1) == number_at(table + last + 5)) return;
     put_at(shorter + last + 5, number_at(table + last + 5) - 1);
     put_back(memory, before, numbers);
@@ -47,6 +46,51 @@ static size_t elements_of(const uint8_t *table, size_t length) {
     return real_vempaldi_facts(table, length, facts, sizeof facts, answer) ? number_at(facts + 8) : 0;
 }
 
+/* The plain run with all values of an iteration worked out before any is stored. */
+static void plain_values_first(const uint8_t *table, double *memory, const double *before, size_t numbers) {
+    static _Thread_local struct loop loops[MOST_LOOPS];
+    int count = take_loops(table, loops);
+    put_back(memory, before, numbers);
+    for (int k = 0; k < count; k++)
+        for (int64_t i = loops[k].first; i <= loops[k].last; i++) values_first(table, (uint32_t)k, (uint32_t)i, memory, numbers);
+}
+
+/* The same table with other statements, run from the same memory. */
+static void plain_restated(const uint8_t *table, size_t length, double *memory, const double *before, size_t numbers) {
+    uint8_t other[VEMPALDI_TABLE_BYTES];
+    uint64_t answer[4];
+    put_back(memory, before, numbers);
+    length = restated("plain", table, length, other);
+    real_vempaldi_plain_run(other, length, memory, numbers, answer);
+}
+
+/* The plan of the table as it is, by hand, for a call that is given a table with other statements. */
+static struct vempaldi_settings as_planned(const uint8_t *table, size_t length, struct vempaldi_settings settings) {
+    uint64_t answer[4];
+    if (settings.by_hand) return settings;
+    settings.plan_length = (uint32_t)real_vempaldi_shifts_and_peels(table, length, settings.plan, sizeof settings.plan, answer);
+    settings.by_hand = 1;
+    return settings;
+}
+
+/* What a step that performed an iteration is to leave, by a wrong way to run its statements; `before` is the memory as the step found it, and
+ * `was` the counts. */
+static void step_restated(const uint8_t *table, size_t length, struct vempaldi_settings settings, uint32_t processor, const uint32_t was[64],
+                          const uint32_t report[3], double *memory, const double *before, size_t numbers) {
+    uint8_t other[VEMPALDI_TABLE_BYTES];
+    uint32_t counts[64], told[3];
+    uint64_t answer[4];
+    put_back(memory, before, numbers);
+    if (fault("step-values-first")) {
+        values_first(table, report[1], report[2], memory, numbers);
+        return;
+    }
+    memcpy(counts, was, sizeof counts);
+    settings = as_planned(table, length, settings);
+    length = restated("step", table, length, other);
+    real_vempaldi_step(other, length, settings, processor, counts, memory, numbers, told, answer);
+}
+
 void vempaldi_plain_run(const uint8_t *table, size_t table_length, double *memory, size_t memory_length, uint64_t answer[4]) {
     double *before = copy_of(memory, memory_length);
     table_length = length_in("plain", table_length), memory_length = low_of("plain-memory-16-bits", memory_length);
@@ -54,6 +98,9 @@ void vempaldi_plain_run(const uint8_t *table, size_t table_length, double *memor
     if (fault("plain-longer-memory") && answer[0] == 12 && memory_length > elements_of(table, table_length))
         real_vempaldi_plain_run(table, table_length, memory, elements_of(table, table_length), answer);
     if (fault("plain-last-missing") && !answer[0]) without_last(table, table_length, memory, before, memory_length);
+    int restate = fault("plain-statements-falling") || fault("plain-first-statement-alone");
+    if (restate && !answer[0]) plain_restated(table, table_length, memory, before, memory_length);
+    if (fault("plain-values-first") && !answer[0]) plain_values_first(table, memory, before, memory_length);
     if (fault("plain-nan-sign") || fault("all-nan-sign")) other_sign(memory, before, memory_length);
     free(before);
 }
@@ -100,7 +147,8 @@ static void told_wrong(uint32_t counts[64], uint32_t processor, uint32_t report[
 void vempaldi_step(const uint8_t *table, size_t table_length, struct vempaldi_settings settings, uint32_t processor, uint32_t counts[64],
                    double *memory, size_t memory_length, uint32_t report[3], uint64_t answer[4]) {
     double *before = copy_of(memory, memory_length);
-    uint32_t processors = settings.processors, above = processors < 64 ? counts[63] : 0, found[3] = {report[0], report[1], report[2]};
+    uint32_t processors = settings.processors, above = processors < 64 ? counts[63] : 0, found[3] = {report[0], report[1], report[2]}, was[64];
+    memcpy(was, counts, sizeof was);
     table_length = length_in("step", table_length), settings = settings_in("step", table, table_length, settings);
     memory_length = low_of("step-memory-16-bits", memory_length);
     if (fault("step-processor-16-bits")) processor &= 0xffff;
@@ -116,6 +164,9 @@ void vempaldi_step(const uint8_t *table, size_t table_length, struct vempaldi_se
     if (fault("step-unmet-counts") && answer[0] == 20 && processor < 64) counts[processor]++;
     if (fault("step-last-count-not-looked-at") && processors < 64) counts[63] = above;
     if (fault("step-stores-nothing")) put_back(memory, before, memory_length);
+    int restate = fault("step-statements-falling") || fault("step-first-statement-alone") || fault("step-values-first");
+    if (restate && !answer[0] && report[0] == VEMPALDI_ITERATION)
+        step_restated(table, table_length, settings, processor, was, report, memory, before, memory_length);
     if (!answer[0]) told_wrong(counts, processor, report, found);
     if (fault("step-refused-counts") && answer[0] == 10) counts[0]++;
     if (fault("step-refused-zeroes") && answer[0]) memset(report, 0, 12);
@@ -150,6 +201,14 @@ uint64_t vempaldi_run(const uint8_t *table, size_t table_length, struct vempaldi
     if (fault("run-memory-before-plan") && plan && memory_length != elements_of(table, table_length)) refuse(answer, 12);
     if (fault("run-memory-before-line") && answer[0] == 17 && memory_length != elements_of(table, table_length)) refuse(answer, 12);
     if (fault("run-stores-nothing")) put_back(memory, before, memory_length);
+    int restate = fault("run-statements-falling") || fault("run-first-statement-alone");
+    if (restate && !answer[0]) {
+        uint8_t other[VEMPALDI_TABLE_BYTES];
+        put_back(memory, before, memory_length);
+        settings = as_planned(table, table_length, settings);
+        size_t length = restated("run", table, table_length, other);
+        real_vempaldi_run(other, length, settings, order, order_length, memory, memory_length, answer);
+    }
     if (fault("run-writes-order") && order_length) ((uint8_t *)order)[0] ^= 1;
     if (fault("run-refused-writes") && answer[0] && memory_length) memory[0] = 0.5;
     if (fault("all-nan-sign")) other_sign(memory, before, memory_length);

@@ -1,18 +1,75 @@
-//! Makes random bodies: postfix rows of items that leave exactly one number.
+//! Makes random loops of several statements, and their bodies: postfix rows of
+//! items that leave exactly one number.
 
 use crate::random::Random;
 use crate::table::*;
 
-/// Where a body stands, and what it may hold.
+/// Where a loop stands, and what it may hold.
 pub struct Setting<'a> {
     pub arrays: &'a [u32],
     pub first: u32,
     pub last: u32,
-    pub destination: Reference,
-    /// The largest offset of a read, on either side of 0.
+    /// Where its statements store, as far as that is drawn.
+    pub destinations: Vec<Reference>,
+    /// The largest offset of a reference, on either side of 0.
     pub offset: i64,
-    /// Whether a read may meet the store of another iteration (ground 9).
+    /// Whether different iterations may meet at an element that one of them
+    /// stores (ground 9).
     pub serial: bool,
+}
+
+/// One statement in half of all cases, else from 1 to `most`.
+pub fn statements(random: &mut Random, most: i64) -> usize {
+    if random.chance(1, 2) {
+        1
+    } else {
+        random.between(1, most) as usize
+    }
+}
+
+/// A loop of at most so many statements, and of so many items over all of them.
+/// It stores where the setting says and, for each further statement, where it
+/// may.
+pub fn a_loop(random: &mut Random, setting: Setting, statements: usize, count: usize) -> Loop {
+    let setting = with_further(random, setting, statements.min(count));
+    let counts = split(random, count, setting.destinations.len());
+    let one = |(&destination, count)| {
+        let items = body(random, &setting, count);
+        Statement { destination, items }
+    };
+    let statements = setting.destinations.iter().zip(counts).map(one).collect();
+    Loop { first: setting.first, last: setting.last, statements }
+}
+
+/// The setting with destinations for so many statements, or for fewer where
+/// none was found.
+pub fn with_further<'a>(random: &mut Random, setting: Setting<'a>, count: usize) -> Setting<'a> {
+    let mut setting = setting;
+    for _ in setting.destinations.len()..count {
+        let found = (0..4).find_map(|_| further(random, &setting));
+        setting.destinations.extend(found);
+    }
+    setting
+}
+
+/// A destination of a further statement: at times that of an earlier one.
+fn further(random: &mut Random, setting: &Setting) -> Option<Reference> {
+    if random.chance(1, 8) {
+        return Some(random.pick(&setting.destinations));
+    }
+    let (array, low, high) = reach(random, setting)?;
+    let offset = random.between(low, high) as i16;
+    let store = Access { at: Reference { array, offset }, stores: true };
+    (setting.serial || !setting.collides(store)).then_some(store.at)
+}
+
+/// So many parts, each of 1 at least.
+fn split(random: &mut Random, count: usize, parts: usize) -> Vec<usize> {
+    let mut counts = vec![1; parts];
+    for _ in parts..count {
+        counts[random.below(parts)] += 1;
+    }
+    counts
 }
 
 /// A body of `count` items, each step drawn among those after which the rest
@@ -38,11 +95,32 @@ pub fn body(random: &mut Random, setting: &Setting, count: usize) -> Vec<Item> {
         .collect()
 }
 
-/// A body of 32 items with as many operands as fit: 16 operands, 15
-/// operations on two numbers and one negation.
-pub fn full(random: &mut Random, operand: impl Fn(&mut Random) -> Item) -> Vec<Item> {
-    let mut items = Vec::with_capacity(MOST_ITEMS);
-    let mut operands = 16;
+/// Bodies of so many statements with 32 items in all and as many operands as
+/// fit: n statements have half of 32 + n operands, and a negation where that is
+/// an odd number.
+pub fn full(
+    random: &mut Random,
+    statements: usize,
+    operand: impl Fn(&mut Random) -> Item,
+) -> Vec<Vec<Item>> {
+    let operands = split(random, (MOST_ITEMS + statements) / 2, statements);
+    let mut bodies: Vec<Vec<Item>> =
+        operands.into_iter().map(|count| summed(random, count, &operand)).collect();
+    if (MOST_ITEMS + statements) % 2 == 1 {
+        let body = random.below(statements);
+        let place = 1 + random.below(bodies[body].len());
+        bodies[body].insert(place, Item::Operation(Operation::Negate));
+    }
+    bodies
+}
+
+/// A body of so many operands, and operations on two numbers alone.
+fn summed(
+    random: &mut Random,
+    mut operands: usize,
+    operand: &impl Fn(&mut Random) -> Item,
+) -> Vec<Item> {
+    let mut items = Vec::with_capacity(2 * operands);
     let mut waiting = 0;
     while operands > 0 || waiting > 1 {
         let may_push = operands > 0 && waiting < MOST_WAITING;
@@ -55,8 +133,6 @@ pub fn full(random: &mut Random, operand: impl Fn(&mut Random) -> Item) -> Vec<I
             waiting -= 1;
         }
     }
-    let place = 1 + random.below(items.len());
-    items.insert(place, Item::Operation(Operation::Negate));
     items
 }
 
@@ -81,20 +157,34 @@ fn constant(random: &mut Random) -> u32 {
     random.pick(&[0, 1, 2, 3, 255, 65_536, u32::MAX, large])
 }
 
-/// A reference that stays inside its array in every iteration.
-fn a_read(random: &mut Random, setting: &Setting) -> Option<Reference> {
+/// An array, and the least and the greatest offset at which every iteration
+/// stays inside it.
+fn reach(random: &mut Random, setting: &Setting) -> Option<(u8, i64, i64)> {
     let array = random.below(setting.arrays.len());
     let room = i64::from(setting.arrays[array]) - 1 - i64::from(setting.last);
     let low = (-setting.offset).max(-i64::from(setting.first));
     let high = setting.offset.min(room);
-    if low > high {
-        return None;
+    (low <= high).then_some((array as u8, low, high))
+}
+
+/// A read; often of what a statement of the loop stores in the same iteration.
+fn a_read(random: &mut Random, setting: &Setting) -> Option<Reference> {
+    let (array, low, high) = reach(random, setting)?;
+    let stored = setting.destinations.iter().filter(|to| to.array == array);
+    let own: Vec<Reference> = stored.copied().collect();
+    if !own.is_empty() && random.chance(1, 2) {
+        return Some(random.pick(&own));
     }
-    let store = setting.destination;
-    let own = array == usize::from(store.array);
-    let offset =
-        if own && random.chance(1, 2) { store.offset } else { random.between(low, high) as i16 };
-    let distance = u32::from(offset.abs_diff(store.offset));
-    let collides = own && distance > 0 && distance <= setting.last - setting.first;
-    (setting.serial || !collides).then_some(Reference { array: array as u8, offset })
+    let offset = random.between(low, high) as i16;
+    let read = Access { at: Reference { array, offset }, stores: false };
+    (setting.serial || !setting.collides(read)).then_some(read.at)
+}
+
+impl Setting<'_> {
+    /// Whether a reference meets another iteration's store.
+    pub fn collides(&self, access: Access) -> bool {
+        let bounds = Loop { first: self.first, last: self.last, statements: Vec::new() };
+        let mut stores = self.destinations.iter().map(|&at| Access { at, stores: true });
+        stores.any(|store| bounds.collide(store, access))
+    }
 }

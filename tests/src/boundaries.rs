@@ -12,10 +12,9 @@ pub struct Case {
 }
 
 pub fn cases() -> Vec<Case> {
-    [known(), single(), inside(), stores(), far(), high(), chains(), sixteen()]
-        .into_iter()
-        .flatten()
-        .collect()
+    let statements = [of_two(), of_four(), through_statements()];
+    let others = [known(), single(), inside(), stores(), far(), high(), chains(), sixteen()];
+    others.into_iter().chain(statements).flatten().collect()
 }
 
 fn case(name: &'static str, bytes: Vec<u8>, amounts: &[(u32, u32)]) -> Case {
@@ -114,6 +113,115 @@ fn stores() -> Vec<Case> {
         case("a store at the first store", after_store((4, 13), -3), &[(0, 0), (0, 3)]),
         case("a store before the first store", after_store((4, 12), -3), &[(0, 0), (0, 0)]),
         case("two reads", two_reads(), &[(0, 0), (0, 0)]),
+    ]
+}
+
+/// Loops over 10 to 19 and five arrays of 50. Each row is a loop of which each
+/// statement stores an array at an offset and reads others, summed.
+type Statements<'a> = &'a [((u8, i16), &'a [(u8, i16)])];
+
+fn stated(name: &'static str, loops: &[Statements], amounts: &[(u32, u32)]) -> Case {
+    let mut encoder = Encoder::new().repeat(5, |e| e.array(50));
+    for one in loops {
+        for (number, &((array, offset), reads)) in one.iter().enumerate() {
+            encoder = match number {
+                0 => encoder.a_loop(10, 19, array, offset).constant(1),
+                _ => encoder.statement(array, offset).constant(1),
+            };
+            encoder = reads.iter().fold(encoder, |e, &(q, c)| e.read(q, c).operation(1));
+        }
+    }
+    case(name, encoder.end().bytes, amounts)
+}
+
+/// Stores A0[i] and A1[i].
+const TWO: Statements = &[((0, 0), &[]), ((1, 0), &[])];
+/// Stores A0[i], A1[i], A2[i] and A3[i].
+const FOUR: Statements = &[((0, 0), &[]), ((1, 0), &[]), ((2, 0), &[]), ((3, 0), &[])];
+
+/// Any destination of one loop and any reference of another to its array.
+fn of_two() -> Vec<Case> {
+    vec![
+        stated("a read of the second", &[TWO, &[((2, 0), &[(1, 3)])]], &[(0, 0), (3, 0)]),
+        stated("a read of each", &[TWO, &[((2, 0), &[(0, -2), (1, 3)])]], &[(0, 0), (3, 2)]),
+        stated(
+            "the second reads the second",
+            &[TWO, &[((2, 0), &[]), ((3, 0), &[(1, -4)])]],
+            &[(0, 0), (0, 4)],
+        ),
+        stated(
+            "the second stores the second",
+            &[TWO, &[((2, 0), &[]), ((1, 5), &[])]],
+            &[(0, 0), (5, 0)],
+        ),
+        stated(
+            "the first stores the second",
+            &[TWO, &[((1, -5), &[]), ((2, 0), &[])]],
+            &[(0, 0), (0, 5)],
+        ),
+        stated(
+            "the second stores the first",
+            &[TWO, &[((2, 0), &[]), ((0, 6), &[])]],
+            &[(0, 0), (6, 0)],
+        ),
+        stated(
+            "the second stores what the first's second reads",
+            &[&[((0, 0), &[]), ((1, 0), &[(4, 7)])], &[((2, 0), &[]), ((4, 0), &[])]],
+            &[(0, 0), (0, 7)],
+        ),
+    ]
+}
+
+/// The same of loops of four statements.
+fn of_four() -> Vec<Case> {
+    vec![
+        stated(
+            "the fourth reads the fourth",
+            &[FOUR, &[((4, 0), &[]), ((4, 0), &[]), ((4, 0), &[]), ((4, 0), &[(3, 8)])]],
+            &[(0, 0), (8, 0)],
+        ),
+        stated(
+            "the fourth stores the third, nine back",
+            &[FOUR, &[((4, 0), &[]), ((4, 0), &[]), ((4, 0), &[]), ((2, -9), &[])]],
+            &[(0, 0), (0, 9)],
+        ),
+        stated(
+            "ten back, where no iterations meet",
+            &[FOUR, &[((4, 0), &[]), ((4, 0), &[]), ((4, 0), &[]), ((2, -10), &[])]],
+            &[(0, 0), (0, 0)],
+        ),
+    ]
+}
+
+/// Which statement of a loop a chain comes to and goes on from does not matter.
+fn through_statements() -> Vec<Case> {
+    vec![
+        stated(
+            "two reads alone",
+            &[&[((0, 0), &[(4, 0)]), ((1, 0), &[(4, 1)])], &[((2, 0), &[(4, 5)]), ((3, 0), &[])]],
+            &[(0, 0), (0, 0)],
+        ),
+        stated(
+            "a chain through second statements",
+            {
+                let third: Statements = &[((4, 0), &[]), ((4, 0), &[(3, 1)])];
+                &[TWO, &[((2, 0), &[]), ((3, 0), &[(1, 2)])], third]
+            },
+            &[(0, 0), (2, 0), (3, 0)],
+        ),
+        stated(
+            "a chain that goes on from another statement",
+            {
+                let middle: Statements = &[((2, 0), &[(0, 2)]), ((3, 0), &[])];
+                &[TWO, middle, &[((4, 0), &[(3, 1)])]]
+            },
+            &[(0, 0), (2, 0), (3, 0)],
+        ),
+        stated(
+            "one place stored twice by one loop",
+            &[&[((0, 0), &[]), ((0, 0), &[])], &[((1, 0), &[(0, 1)]), ((1, 0), &[(0, -1)])]],
+            &[(0, 0), (1, 1)],
+        ),
     ]
 }
 

@@ -50,13 +50,12 @@ fn need(earlier: usize, later: usize, one: &Loop, other: &Loop) -> Option<Need> 
 
 /// Whether one of the two iterations stores an element that the other touches.
 fn meet(one: &Loop, i: u32, other: &Loop, n: u32) -> bool {
-    let stored = [element(one.destination, i), element(other.destination, n)];
-    touches(other, n, stored[0]) || touches(one, i, stored[1])
+    one.destinations().any(|to| touches(other, n, element(to, i)))
+        || other.destinations().any(|to| touches(one, i, element(to, n)))
 }
 
 fn touches(one: &Loop, index: u32, wanted: (u8, i64)) -> bool {
-    element(one.destination, index) == wanted
-        || one.reads().any(|read| element(read, index) == wanted)
+    one.accesses().any(|access| element(access.at, index) == wanted)
 }
 
 /// The array, and the element's number in it.

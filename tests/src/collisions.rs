@@ -1,7 +1,7 @@
 //! Makes tables in which iterations of a loop may meet (ground 9). Before the
-//! first read that collides stand others that do not: of other arrays, of the
-//! destination's array at its own offset, and of that array farther away than
-//! the loop is long.
+//! first pair that collides stand others that do not: of other arrays, of one
+//! array at the same offset, and of one array farther away than the loop is
+//! long.
 
 use crate::bodies::{self, Setting};
 use crate::random::Random;
@@ -29,8 +29,8 @@ pub fn table(random: &mut Random) -> Table {
 }
 
 /// A table whose loops have at most twelve iterations. Its offsets lie as far
-/// apart, so that some reads meet the store of another iteration and some do
-/// not.
+/// apart, so that some references meet the store of another iteration and some
+/// do not.
 pub fn short_table(random: &mut Random) -> Table {
     let (most, offset) = (random.between(2, 12), random.between(1, 12));
     with_sizes(random, most, offset)
@@ -56,7 +56,9 @@ fn a_loop(random: &mut Random, common: &Common, serial: bool) -> Loop {
         array: random.below(arrays.len()) as u8,
         offset: random.between(-offset, *offset) as i16,
     };
-    let setting = Setting { arrays, first, last, destination, offset: *offset, serial };
-    let count = 1 + random.below(MOST_ITEMS);
-    Loop { first, last, destination, items: bodies::body(random, &setting, count) }
+    let destinations = vec![destination];
+    let setting = Setting { arrays, first, last, destinations, offset: *offset, serial };
+    let statements = bodies::statements(random, MOST_STATEMENTS as i64);
+    let count = (1 + random.below(MOST_ITEMS)).max(statements);
+    bodies::a_loop(random, setting, statements, count)
 }

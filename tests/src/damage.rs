@@ -4,6 +4,7 @@
 use crate::encoder::Encoder;
 use crate::random::Random;
 use crate::reader::body_length;
+use crate::table::MOST_STATEMENTS;
 
 pub fn change_byte(random: &mut Random, bytes: &[u8]) -> Vec<u8> {
     let mut changed = bytes.to_vec();
@@ -54,9 +55,9 @@ pub fn mostly_kinds(random: &mut Random, most: usize) -> Vec<u8> {
 
 fn likely_byte(random: &mut Random) -> u8 {
     match random.below(8) {
-        0..=3 => random.pick(&[1, 2, 3, 4, 5, 6]),
+        0..=3 => random.pick(&[1, 2, 3, 4, 5, 6, 7]),
         4 | 5 => 0,
-        6 => random.pick(&[7, 8, 15, 16, 17, 127, 128, 254, 255]),
+        6 => random.pick(&[8, 9, 15, 16, 17, 127, 128, 254, 255]),
         _ => random.byte(),
     }
 }
@@ -93,21 +94,55 @@ pub fn rearrange(random: &mut Random, bytes: &[u8]) -> Vec<u8> {
     rows.concat()
 }
 
-/// Makes one array, loop or body too many, by the same one over and over: an
-/// array, a loop with its body, or negations behind an item.
+/// Makes one array, loop, item or statement too many, by the same one over and
+/// over: an array, a loop with its bodies, negations behind an item, or a
+/// further statement with its body.
 pub fn crowd(random: &mut Random, bytes: &[u8]) -> Vec<u8> {
     let mut rows = records(bytes);
     let from = random.below(rows.len());
     let (after, more) = match rows[from][0] {
-        2 => {
-            let is_item = |row: &&Vec<u8>| matches!(row[0], 3..=5);
-            let items = rows[from + 1..].iter().take_while(is_item).count();
-            (from + items + 1, rows[from..=from + items].concat().repeat(16))
-        }
+        2 => with_items(&rows, from, |kind| matches!(kind, 3..=5 | 7), 16),
+        7 => with_items(&rows, from, |kind| matches!(kind, 3..=5), MOST_STATEMENTS),
         3..=5 => (from + 1, [5, 5].repeat(32)),
         _ => (from, rows[from].repeat(16)),
     };
     rows.insert(after, more);
+    rows.concat()
+}
+
+/// Where the records behind the one at `from` that belong to it end, and all of
+/// them so many times over.
+fn with_items(
+    rows: &[Vec<u8>],
+    from: usize,
+    belongs: fn(u8) -> bool,
+    times: usize,
+) -> (usize, Vec<u8>) {
+    let items = rows[from + 1..].iter().take_while(|row| belongs(row[0])).count();
+    (from + items + 1, rows[from..=from + items].concat().repeat(times))
+}
+
+/// Puts a further statement between two records, mostly behind an item: with a
+/// body or without, at times with fields outside their ranges, at times cut
+/// short, where the bytes end.
+pub fn statement(random: &mut Random, bytes: &[u8]) -> Vec<u8> {
+    let mut rows = records(bytes);
+    let items: Vec<usize> = (0..rows.len()).filter(|&at| matches!(rows[at][0], 3..=5)).collect();
+    let behind = !items.is_empty() && random.chance(7, 8);
+    let place = if behind { random.pick(&items) + 1 } else { random.below(rows.len() + 1) };
+    let near = random.between(-9, 9) as i16;
+    let own = [random.below(3) as u8, near.to_le_bytes()[0], near.to_le_bytes()[1]];
+    let (array, offset) = reference(random, &own);
+    let mut row = Encoder::new().statement(array, offset);
+    match random.below(4) {
+        0 => {
+            row.bytes.truncate(1 + random.below(3));
+            rows.truncate(place);
+        }
+        1 => {}
+        _ => row = row.constant(5),
+    }
+    rows.insert(place, row.bytes);
     rows.concat()
 }
 
@@ -126,6 +161,10 @@ pub fn field(random: &mut Random, bytes: &[u8]) -> Vec<u8> {
         3 => {
             let (array, offset) = reference(random, &rows[place][1..4]);
             Encoder::new().read(array, offset)
+        }
+        7 => {
+            let (array, offset) = reference(random, &rows[place][1..4]);
+            Encoder::new().statement(array, offset)
         }
         4 => Encoder::new().constant(random.draw() as u32),
         5 => Encoder::new().operation(random.pick(&[0, 1, 2, 3, 4, 5, 6, 255])),

@@ -1,7 +1,7 @@
 //! The dependences of a table, one for every pair of references that make
 //! one.
 
-use crate::table::{Loop, Reference, Table};
+use crate::table::{Access, Loop, Table};
 
 #[derive(Clone, Copy, Debug, PartialEq, Eq)]
 pub struct Dependence {
@@ -48,11 +48,21 @@ pub fn dependences_by(
     table: &Table,
     rule: impl Fn(&Loop, &Loop, i64) -> bool,
 ) -> Vec<Vec<Dependence>> {
-    let accesses: Vec<Vec<Access>> = (0..table.loops.len()).map(|k| accesses(table, k)).collect();
+    dependences_among(table, |one| one.accesses().collect(), rule)
+}
+
+/// The same of references that are chosen.
+pub fn dependences_among(
+    table: &Table,
+    chosen: impl Fn(&Loop) -> Vec<Access>,
+    rule: impl Fn(&Loop, &Loop, i64) -> bool,
+) -> Vec<Vec<Dependence>> {
+    let accesses: Vec<Vec<Access>> = table.loops.iter().map(chosen).collect();
     let mut ending: Vec<Vec<Dependence>> = vec![Vec::new(); accesses.len()];
     for (to, later) in accesses.iter().enumerate() {
+        let stores: Vec<Access> = later.iter().copied().filter(|access| access.stores).collect();
         for (from, earlier) in accesses[..to].iter().enumerate() {
-            for distance in distances(earlier, later) {
+            for distance in distances(earlier, later, &stores) {
                 if rule(&table.loops[from], &table.loops[to], distance) {
                     ending[to].push(Dependence { from, to, distance });
                 }
@@ -62,25 +72,18 @@ pub fn dependences_by(
     ending
 }
 
-/// A reference, and whether it is the one that its loop stores.
-type Access = (Reference, bool);
-
-/// The destination first, then the reads.
-fn accesses(table: &Table, number: usize) -> Vec<Access> {
-    let one = &table.loops[number];
-    let reads = one.reads().map(|read| (read, false));
-    std::iter::once((one.destination, true)).chain(reads).collect()
-}
-
-/// The distances between references to one array, two reads left out. Since
-/// a loop stores through its first reference alone, a pair has that of the
-/// earlier loop or that of the later one.
-fn distances<'a>(earlier: &'a [Access], later: &'a [Access]) -> impl Iterator<Item = i64> + 'a {
-    earlier.iter().flat_map(move |&(one, stores)| {
-        let met = if stores { later } else { &later[..1] };
+/// The distances between references to one array, two reads left out: a read
+/// of the earlier loop makes one with the later loop's destinations alone.
+fn distances<'a>(
+    earlier: &'a [Access],
+    later: &'a [Access],
+    stores: &'a [Access],
+) -> impl Iterator<Item = i64> + 'a {
+    earlier.iter().flat_map(move |one| {
+        let met = if one.stores { later } else { stores };
         met.iter()
-            .filter(move |(other, _)| other.array == one.array)
-            .map(move |(other, _)| i64::from(one.offset) - i64::from(other.offset))
+            .filter(|other| other.at.array == one.at.array)
+            .map(|other| i64::from(one.at.offset) - i64::from(other.at.offset))
     })
 }
 
@@ -89,6 +92,7 @@ mod tests {
     use super::*;
     use crate::meeting;
     use crate::random::Random;
+    use crate::table::Reference;
     use crate::tables::{self, SMALL};
 
     /// The elements that a reference touches, iteration by iteration.
@@ -100,13 +104,13 @@ mod tests {
     /// element: the elements of both are listed and compared.
     fn every_pair(table: &Table, from: usize, to: usize) -> Vec<i64> {
         let mut found = Vec::new();
-        for (one, one_stores) in accesses(table, from) {
-            let touched = elements(&table.loops[from], one);
-            for (other, other_stores) in accesses(table, to) {
-                let again = elements(&table.loops[to], other);
+        for one in table.loops[from].accesses() {
+            let touched = elements(&table.loops[from], one.at);
+            for other in table.loops[to].accesses() {
+                let again = elements(&table.loops[to], other.at);
                 let common = again.iter().any(|element| touched.contains(element));
-                if one.array == other.array && (one_stores || other_stores) && common {
-                    found.push(i64::from(one.offset - other.offset));
+                if one.at.array == other.at.array && (one.stores || other.stores) && common {
+                    found.push(i64::from(one.at.offset - other.at.offset));
                 }
             }
         }
@@ -132,8 +136,7 @@ mod tests {
 
     /// A loop of which the bounds alone count.
     fn bounds(first: u32, last: u32) -> Loop {
-        let destination = Reference { array: 0, offset: 0 };
-        Loop { first, last, destination, items: Vec::new() }
+        Loop { first, last, statements: Vec::new() }
     }
 
     /// Every two loops among six indices, at every distance at which they

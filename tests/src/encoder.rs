@@ -47,6 +47,13 @@ impl Encoder {
         self
     }
 
+    pub fn statement(mut self, array: u8, offset: i16) -> Encoder {
+        self.bytes.push(7);
+        self.bytes.push(array);
+        self.bytes.extend(offset.to_le_bytes());
+        self
+    }
+
     pub fn end(mut self) -> Encoder {
         self.bytes.push(6);
         self
@@ -89,10 +96,13 @@ pub fn encode(table: &Table) -> Vec<u8> {
         encoder = encoder.array(length);
     }
     for one in &table.loops {
-        let store = one.destination;
-        encoder = encoder.a_loop(one.first, one.last, store.array, store.offset);
-        for &item in &one.items {
-            encoder = encoder.item(item);
+        for (number, statement) in one.statements.iter().enumerate() {
+            let Reference { array, offset } = statement.destination;
+            encoder = match number {
+                0 => encoder.a_loop(one.first, one.last, array, offset),
+                _ => encoder.statement(array, offset),
+            };
+            encoder = statement.items.iter().fold(encoder, |encoder, &item| encoder.item(item));
         }
     }
     encoder.end().bytes

@@ -18,6 +18,19 @@ pub const EXAMPLE: [u8; 61] = [
     6, // end
 ];
 
+/// One loop of two statements, and one iteration: 42 bytes.
+pub const TWO_STATEMENTS: [u8; 42] = [
+    1, 5, 0, 0, 0, // array 0, 5 elements
+    1, 5, 0, 0, 0, // array 1
+    2, 4, 0, 0, 0, 4, 0, 0, 0, 0, 0, 0, // loop 0, 4 to 4, stores A0[i]
+    3, 1, 0xFF, 0xFF, // A1[i-1]
+    4, 9, 0, 0, 0, // 9
+    5, 1, // add
+    7, 1, 0, 0, // and then stores A1[i]
+    3, 0, 0, 0, // A0[i]
+    6, // end
+];
+
 /// 1 to 10, A0 of 21 elements, A0[i] = A0[i + offset].
 pub fn reads_own_array(offset: i16) -> Vec<u8> {
     Encoder::new().array(21).a_loop(1, 10, 0, 0).read(0, offset).end().bytes

@@ -32,22 +32,24 @@ pub fn fits(table: &Table, memory: &[f64]) -> Result<(), Refusal> {
     }
 }
 
-/// Iteration `index` of one loop: its body, then the store.
+/// Iteration `index` of one loop: its statements in order, each stored before
+/// the next begins.
 pub fn iteration(one: &Loop, beginnings: &[usize], memory: &mut [f64], index: u32) {
-    let result = evaluate(one, beginnings, memory, index);
-    let stored = if result.is_nan() { f64::from_bits(STORED_NAN) } else { result };
-    memory[element(one.destination, beginnings, index)] = stored;
+    for statement in &one.statements {
+        let stored = evaluate(statement, beginnings, memory, index);
+        memory[element(statement.destination, beginnings, index)] = stored;
+    }
 }
 
-fn element(reference: Reference, beginnings: &[usize], index: u32) -> usize {
+pub fn element(reference: Reference, beginnings: &[usize], index: u32) -> usize {
     let begin = beginnings[usize::from(reference.array)];
     (begin as i64 + i64::from(index) + i64::from(reference.offset)) as usize
 }
 
-/// The one number that remains when the items are worked in byte order. The
-/// reader has made sure that no operation lacks an operand and that at most
-/// eight numbers wait.
-fn evaluate(one: &Loop, beginnings: &[usize], memory: &[f64], index: u32) -> f64 {
+/// The one number that remains when the items are worked in byte order, as it
+/// is stored. The reader has made sure that no operation lacks an operand and
+/// that at most eight numbers wait.
+pub fn evaluate(one: &Statement, beginnings: &[usize], memory: &[f64], index: u32) -> f64 {
     let mut waiting = [0.0; MOST_WAITING];
     let mut count = 0;
     for item in &one.items {
@@ -67,7 +69,12 @@ fn evaluate(one: &Loop, beginnings: &[usize], memory: &[f64], index: u32) -> f64
             }
         }
     }
-    waiting[0]
+    let result = waiting[0];
+    if result.is_nan() {
+        f64::from_bits(STORED_NAN)
+    } else {
+        result
+    }
 }
 
 fn apply(operation: Operation, left: f64, right: f64) -> f64 {

@@ -184,6 +184,25 @@ fn the_example_sweeps_6_before_and_5_after() {
     assert_eq!(sweeps(&table(&EXAMPLE)), Sweeps { before: 6, after: 5 });
 }
 
+/// Before: A0, A1 and A2 are touched and A0 and A1 written by loop 0, A0, A2 and
+/// A3 touched and A2 written by loop 1. After: four touched, three written.
+#[test]
+fn all_statements_sweep() {
+    let open = Encoder::new().repeat(4, |e| e.array(9)).a_loop(0, 8, 0, 0).constant(1);
+    let first = open.statement(1, 0).read(2, 0).a_loop(0, 8, 2, 0).read(0, 0);
+    let bytes = first.statement(2, 0).read(3, 0).end().bytes;
+    assert_eq!(sweeps(&table(&bytes)), Sweeps { before: 9, after: 7 });
+}
+
+#[test]
+fn a_statement_sees_what_the_one_before_stored() {
+    let mut memory: Vec<f64> = (0..10).map(f64::from).collect();
+    plain_run(&TWO_STATEMENTS, &mut memory).expect("accepted");
+    // A0[4] = A1[3] + 9, and A1[4] = A0[4].
+    assert_eq!((memory[4], memory[9]), (17.0, 17.0));
+    assert_eq!((memory[3], memory[5], memory[8]), (3.0, 5.0, 8.0));
+}
+
 #[test]
 fn the_example_leaves_3_12_and_21() {
     let table = table(&EXAMPLE);

@@ -3,6 +3,7 @@
 
 use crate::encoder::Encoder;
 use crate::examples::{reads_own_array, EXAMPLE};
+use crate::further;
 use crate::outcome::Answer;
 
 pub struct Case {
@@ -25,6 +26,7 @@ pub fn cases() -> Vec<Case> {
         reads_between(),
         several_loops(),
         orders(),
+        further::cases(),
     ]
     .into_iter()
     .flatten()
@@ -32,16 +34,22 @@ pub fn cases() -> Vec<Case> {
 }
 
 /// Accepted (number 0), or a ground that names nothing.
-fn case(name: &'static str, encoder: Encoder, number: u64, place: u64) -> Case {
+pub fn case(name: &'static str, encoder: Encoder, number: u64, place: u64) -> Case {
     Case { name, bytes: encoder.bytes, answer: [number, place, 0, 0] }
 }
 
-/// Ground 9 with its loop and the read of that loop.
+/// Ground 9 of a loop of one statement: the pair of its destination and of a
+/// read, counted from 0 among the reads.
 fn names(name: &'static str, encoder: Encoder, place: u64, read: u64) -> Case {
-    Case { name, bytes: encoder.bytes, answer: [9, place, read, 0] }
+    pair(name, encoder, place, (0, read + 1))
 }
 
-fn new() -> Encoder {
+/// Ground 9 with its loop and the pair of references of that loop.
+pub fn pair(name: &'static str, encoder: Encoder, place: u64, pair: (u64, u64)) -> Case {
+    Case { name, bytes: encoder.bytes, answer: [9, place, pair.0, pair.1] }
+}
+
+pub fn new() -> Encoder {
     Encoder::new()
 }
 
@@ -207,7 +215,8 @@ fn endings() -> Vec<Case> {
         case("end alone", new().end(), 2, 0),
         case("end after an array", new().array(3).end(), 2, 5),
         case("kind 0", new().raw(&[0]), 2, 0),
-        case("kind 7", new().array(3).raw(&[7]), 2, 5),
+        case("kind 8", new().array(3).raw(&[8]), 2, 5),
+        case("kind 8 in a body", open_body().constant(1).raw(&[8]), 2, 22),
         case("kind 255", open_body().raw(&[255]), 2, 17),
         case("item before any loop", new().array(3).constant(1), 2, 5),
         case("read before any array", new().read(0, 0), 2, 0),

@@ -93,7 +93,7 @@ fn shifted_and_peeled(bounds: [(i64, i64); 2], shift: i64, peel: i64) -> Table {
     let at = |array, offset: i64| Reference { array, offset: offset as i16 };
     let a_loop = |number: usize, items| {
         let (first, last) = (bounds[number].0 as u32, bounds[number].1 as u32);
-        Loop { first, last, destination: at(number as u8, 0), items }
+        Loop::of_one(first, last, at(number as u8, 0), items)
     };
     let sum = |one, other| vec![one, other, Item::Operation(Operation::Add)];
     let front = sum(Item::Read(at(1, 0)), Item::Constant(3));

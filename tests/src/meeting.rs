@@ -68,16 +68,16 @@ fn with_sizes(random: &mut Random, indices: i64, most: i64, offset: i64, moved: 
 /// The loop with its indices so much higher, at the same elements.
 fn lifted(one: Loop, moved: i64) -> Loop {
     let lower = |at: Reference| Reference { offset: at.offset - moved as i16, ..at };
-    let items = one.items.into_iter().map(|item| match item {
+    let item = |item| match item {
         Item::Read(read) => Item::Read(lower(read)),
         other => other,
-    });
-    Loop {
-        first: one.first + moved as u32,
-        last: one.last + moved as u32,
+    };
+    let statement = |one: Statement| Statement {
         destination: lower(one.destination),
-        items: items.collect(),
-    }
+        items: one.items.into_iter().map(item).collect(),
+    };
+    let statements = one.statements.into_iter().map(statement).collect();
+    Loop { first: one.first + moved as u32, last: one.last + moved as u32, statements }
 }
 
 /// Anywhere, or at the greatest indices.
@@ -88,7 +88,7 @@ fn first_loop(random: &mut Random, common: &Common, at_end: bool) -> Loop {
         (first, last) = (first + up, last + up);
     }
     let destination = any_reference(random, common);
-    with_body(random, common, (first, last), destination, None)
+    with_bodies(random, common, (first, last), destination, None)
 }
 
 fn any_bounds(random: &mut Random, common: &Common) -> (i64, i64) {
@@ -117,16 +117,17 @@ fn any_offset(random: &mut Random, common: &Common) -> i16 {
 fn next_loop(random: &mut Random, common: &Common, earlier: &[Loop]) -> Loop {
     let partner = &earlier[random.below(earlier.len())];
     let reads: Vec<Reference> = partner.reads().collect();
+    let stores: Vec<Reference> = partner.destinations().collect();
     let read = (!reads.is_empty() && random.chance(1, 3)).then(|| random.pick(&reads));
-    let met = read.unwrap_or(partner.destination);
+    let met = read.unwrap_or_else(|| random.pick(&stores));
     let own = Reference { array: met.array, offset: any_offset(random, common) };
     let distance = i64::from(met.offset) - i64::from(own.offset);
     let bounds = bounds_for(random, common, partner, distance);
     if read.is_some() || random.chance(1, 4) {
-        with_body(random, common, bounds, own, None)
+        with_bodies(random, common, bounds, own, None)
     } else {
         let destination = any_reference(random, common);
-        with_body(random, common, bounds, destination, Some(own))
+        with_bodies(random, common, bounds, destination, Some(own))
     }
 }
 
@@ -164,30 +165,40 @@ fn inside(random: &mut Random, first: i64, last: i64) -> (i64, i64) {
     (from, random.between(from, last - 1))
 }
 
-/// One read, the given one where it meets no other iteration's store, and a
-/// few items more at times.
-fn with_body(
+/// The given destination is that of any of the loop's statements, and the given
+/// read, where it meets no other iteration's store, stands in any of them.
+fn with_bodies(
     random: &mut Random,
     common: &Common,
     (first, last): (i64, i64),
     destination: Reference,
     read: Option<Reference>,
 ) -> Loop {
-    let (first, last) = (first as u32, last as u32);
-    let collides = |read: &Reference| {
-        let distance = u32::from(read.offset.abs_diff(destination.offset));
-        read.array == destination.array && distance > 0 && distance <= last - first
+    let (first, last, offset) = (first as u32, last as u32, common.offset);
+    let (arrays, destinations) = (&common.arrays[..], vec![destination]);
+    let setting = Setting { arrays, first, last, destinations, offset, serial: false };
+    let count = bodies::statements(random, MOST_STATEMENTS as i64);
+    let mut setting = bodies::with_further(random, setting, count);
+    let count = setting.destinations.len();
+    setting.destinations.swap(0, random.below(count));
+    let read = read.filter(|&at| !setting.collides(Access { at, stores: false }));
+    let with_read = random.below(count);
+    let statement = |(number, &destination)| {
+        let read = read.filter(|_| number == with_read);
+        Statement { destination, items: short_body(random, &setting, read) }
     };
-    let read = read.filter(|read| !collides(read));
-    let arrays = &common.arrays;
-    let setting =
-        Setting { arrays, first, last, destination, offset: common.offset, serial: false };
+    let statements = setting.destinations.iter().enumerate().map(statement).collect();
+    Loop { first, last, statements }
+}
+
+/// The given read or a constant, and a few items more at times.
+fn short_body(random: &mut Random, setting: &Setting, read: Option<Reference>) -> Vec<Item> {
     let mut items = vec![read.map_or(Item::Constant(7), Item::Read)];
     for _ in 0..random.small(0, 3) {
-        items.push(bodies::operand(random, &setting));
+        items.push(bodies::operand(random, setting));
         items.push(Item::Operation(Operation::Add));
     }
-    Loop { first, last, destination, items }
+    items
 }
 
 #[cfg(test)]

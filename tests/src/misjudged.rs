@@ -1,7 +1,8 @@
 //! Wrong ways to tell which pairs of references make a dependence, and a
 //! count of the tables by which each of them would be seen.
 
-use crate::dependence::{dependences, dependences_by, meetings, Dependence};
+use crate::dependence::{dependences, dependences_among, dependences_by};
+use crate::dependence::{meet, meetings, Dependence};
 use crate::planner::{amounts, amounts_of, Amounts};
 use crate::table::*;
 
@@ -10,7 +11,7 @@ type Way = fn(&Table) -> Vec<Amounts>;
 
 /// Here t is the table, j and k are the bounds of the earlier and the later
 /// loop, and d is the distance.
-const WAYS: [(&str, Way); 17] = [
+const WAYS: [(&str, Way); 24] = [
     ("bounds not asked", |t| by(t, |_, _, _| true)),
     ("only that the later loop does not begin too late", |t| by(t, |j, k, d| k.0 - d <= j.1)),
     ("only that the later loop does not end too early", |t| by(t, |j, k, d| j.0 <= k.1 - d)),
@@ -28,7 +29,68 @@ const WAYS: [(&str, Way); 17] = [
     ("asked of forward distances alone", |t| by(t, |j, k, d| d <= 0 || common(j, k, d) > 0)),
     ("asked once for two loops", once_for_two_loops),
     ("chains through the same iterations alone", along_iterations),
+    ("the first destination alone", |t| among(t, |number, one| number == 0 || !one.stores)),
+    ("further destinations taken for reads", further_as_reads),
+    ("the first statement's reads alone", |t| among(t, |number, one| number == 0 || one.stores)),
+    ("the first statement alone", |t| among(t, |number, _| number == 0)),
+    ("the last statement alone", last_statement),
+    ("the last statement left out", without_last),
+    ("two destinations not joined", stores_not_joined),
 ];
+
+/// The references of a loop that are chosen by their statement's number.
+fn among(table: &Table, chosen: fn(usize, &Access) -> bool) -> Vec<Amounts> {
+    let some = |one: &Loop| chosen_of(one, chosen);
+    amounts_of(&dependences_among(table, some, meet))
+}
+
+/// The same, for plans by hand as well.
+pub fn chosen_of(one: &Loop, chosen: fn(usize, &Access) -> bool) -> Vec<Access> {
+    let all = one.statements.iter().enumerate();
+    let own = |(number, one): (usize, &Statement)| -> Vec<Access> {
+        one.accesses().filter(|access| chosen(number, access)).collect()
+    };
+    all.flat_map(own).collect()
+}
+
+fn further_as_reads(table: &Table) -> Vec<Amounts> {
+    let taken = |one: &Loop| {
+        let mut all: Vec<Access> = one.accesses().collect();
+        all.iter_mut().skip(1).for_each(|access| access.stores = false);
+        all
+    };
+    amounts_of(&dependences_among(table, taken, meet))
+}
+
+fn last_statement(table: &Table) -> Vec<Amounts> {
+    let last = |one: &Loop| {
+        let last = one.statements.iter().last();
+        last.map_or(Vec::new(), |last| last.accesses().collect())
+    };
+    amounts_of(&dependences_among(table, last, meet))
+}
+
+/// Of loops of several statements.
+fn without_last(table: &Table) -> Vec<Amounts> {
+    let front = |one: &Loop| {
+        let count = one.statements.len();
+        one.statements[..count.max(2) - 1].iter().flat_map(Statement::accesses).collect()
+    };
+    amounts_of(&dependences_among(table, front, meet))
+}
+
+/// Only a read and a destination make a dependence.
+fn stores_not_joined(table: &Table) -> Vec<Amounts> {
+    let mut all = dependences(table);
+    let stores = |one: &Loop| one.accesses().filter(|access| access.stores).collect();
+    for (row, stores) in all.iter_mut().zip(dependences_among(table, stores, meet)) {
+        for store in stores {
+            let place = row.iter().position(|one| *one == store);
+            place.map(|place| row.remove(place));
+        }
+    }
+    amounts_of(&all)
+}
 
 /// Whether a table has other shifts and peels than one whose loops' bounds are
 /// not asked.
@@ -103,6 +165,8 @@ fn at_iteration(table: &Table, found: &[Vec<Amounts>], row: &[Dependence], i: i6
 #[derive(Default)]
 pub struct Misjudged {
     tables: u64,
+    /// By the most statements of a loop.
+    statements: [u64; MOST_STATEMENTS + 1],
     kinds: [u64; KINDS.len()],
     shown: [u64; WAYS.len()],
 }
@@ -129,6 +193,8 @@ impl Misjudged {
 
     pub fn add(&mut self, table: &Table) {
         self.tables += 1;
+        let most = table.loops.iter().map(|one| one.statements.len()).max().unwrap_or(0);
+        self.statements[most] += 1;
         let pairs = dependences_by(table, |_, _, _| true);
         for (count, (_, kind)) in self.kinds.iter_mut().zip(KINDS) {
             let is = |one: &Dependence| of_kind(table, one, kind);
@@ -142,6 +208,9 @@ impl Misjudged {
 
     pub fn print(&self, name: &str) {
         println!("{name}: {} tables, of which so many have", self.tables);
+        for (count, tables) in self.statements.iter().enumerate().skip(1) {
+            println!("  {tables:6} loops of {count} statements at most");
+        }
         for (count, (kind, _)) in self.kinds.iter().zip(KINDS) {
             println!("  {count:6} {kind}");
         }
@@ -154,6 +223,9 @@ impl Misjudged {
     /// Ends the program where a kind of pair was made or a wrong way would
     /// have shown too seldom.
     pub fn require(&self, least: u64) {
+        for (count, &tables) in self.statements.iter().enumerate().skip(1) {
+            assert!(tables >= least, "{count} statements: {tables} tables, fewer than {least}");
+        }
         for (count, (kind, _)) in self.kinds.iter().zip(KINDS) {
             assert!(*count >= least, "{kind}: in {count} tables, fewer than {least}");
         }
@@ -172,6 +244,7 @@ fn of_kind(table: &Table, pair: &Dependence, kind: Kind) -> bool {
 mod tests {
     use super::*;
     use crate::boundaries::two_loops;
+    use crate::encoder::Encoder;
     use crate::reader::read;
 
     /// The shift of loop 1 by each way.
@@ -186,16 +259,33 @@ mod tests {
         // Index 7 of loop 0 would be the first to meet index 5 of loop 1. A
         // way that is wrong here gives 2.
         let miss = shifts((1, 6), (5, 9), 2);
-        assert_eq!(miss, [2, 0, 2, 2, 2, 2, 2, 0, 0, 0, 0, 0, 2, 0, 2, 0, 0]);
+        assert_eq!(miss[..17], [2, 0, 2, 2, 2, 2, 2, 0, 0, 0, 0, 0, 2, 0, 2, 0, 0]);
         // It does, and it alone. A way that is wrong here gives 0.
         let one = shifts((1, 7), (5, 9), 2);
-        assert_eq!(one, [2, 2, 2, 2, 2, 2, 2, 2, 0, 2, 2, 0, 2, 2, 2, 2, 2]);
+        assert_eq!(one[..17], [2, 2, 2, 2, 2, 2, 2, 2, 0, 2, 2, 0, 2, 2, 2, 2, 2]);
         // Indices 7 to 9 of loop 0, which has 1 to 12.
         let inside = shifts((1, 12), (5, 7), 2);
-        assert_eq!(inside, [2, 2, 2, 2, 2, 2, 2, 0, 0, 0, 2, 2, 2, 2, 2, 2, 2]);
+        assert_eq!(inside[..17], [2, 2, 2, 2, 2, 2, 2, 0, 0, 0, 2, 2, 2, 2, 2, 2, 2]);
         // Loop 1 ends before loop 0 begins.
         let before = shifts((5, 9), (1, 2), 2);
-        assert_eq!(before, [2, 2, 0, 2, 0, 0, 0, 0, 0, 0, 0, 0, 2, 0, 2, 0, 0]);
+        assert_eq!(before[..17], [2, 2, 0, 2, 0, 0, 0, 0, 0, 0, 0, 0, 2, 0, 2, 0, 0]);
+        // One statement a loop: all ways on statements are right.
+        assert!(miss[17..].iter().all(|&shift| shift == 0));
+        assert!(one[17..].iter().all(|&shift| shift == 2));
+    }
+
+    /// Loop 0 stores A0[i] and then A1[i]; loop 1 stores A2[i], which reads A0[i
+    /// + 1], and then A3[i], which reads A1[i + 2]; loop 2 stores A0[i + 4].
+    #[test]
+    fn each_wrong_way_on_statements_finds_what_its_words_say() {
+        let arrays = Encoder::new().repeat(4, |e| e.array(60));
+        let first = arrays.a_loop(10, 49, 0, 0).constant(1).statement(1, 0).constant(2);
+        let second = first.a_loop(10, 49, 2, 0).read(0, 1).statement(3, 0).read(1, 2);
+        let table = read(&second.a_loop(10, 49, 0, 4).constant(3).end().bytes).expect("accepted");
+        let found = |way: Way| way(&table).iter().map(|one| one.shift).collect::<Vec<i64>>();
+        assert_eq!(amounts(&table).iter().map(|one| one.shift).collect::<Vec<i64>>(), [0, 2, 5]);
+        let typed = [[0, 1, 4], [0, 1, 4], [0, 1, 4], [0, 1, 4], [0, 2, 0], [0, 1, 4], [0, 2, 5]];
+        assert_eq!(WAYS[17..].iter().map(|(_, way)| found(*way)).collect::<Vec<_>>(), typed);
     }
 
     #[test]

@@ -3,12 +3,13 @@
 
 use crate::blocks::{indices, laid, Plan, LONGEST_LINE, MOST_PROCESSORS};
 use crate::by_hand::{meets, LOOP_BYTES, MOST_AMOUNT};
-use crate::dependence::{dependences, dependences_by, Dependence};
+use crate::dependence::{dependences, dependences_among, dependences_by, meet, Dependence};
 use crate::lists::lists;
+use crate::misjudged::chosen_of;
 use crate::outcome::Answer;
 use crate::planner::{amounts_of, threshold, Amounts};
 use crate::settings::{Settings, PLAN_BYTES};
-use crate::table::{Table, MOST_LOOPS};
+use crate::table::{Access, Loop, Table, MOST_LOOPS};
 
 /// What a call is asked: a table, the settings, and a processor where the call
 /// has one.
@@ -118,6 +119,12 @@ fn without_bounds(asked: &Asked, given: &[Amounts]) -> Pairs {
     unmet(&dependences_by(asked.table, |_, _, _| true), given, meets)
 }
 
+/// References that are chosen by their statement's number count alone.
+fn among(asked: &Asked, given: &[Amounts], chosen: fn(usize, &Access) -> bool) -> Pairs {
+    let some = |one: &Loop| chosen_of(one, chosen);
+    unmet(&dependences_among(asked.table, some, meet), given, meets)
+}
+
 /// A plan is taken where no number is below the loop's own.
 fn not_below_own(asked: &Asked, given: &[Amounts]) -> Pairs {
     let low = |(one, own): (&Amounts, &Amounts)| one.shift < own.shift || one.peel < own.peel;
@@ -179,7 +186,7 @@ const fn listed(listed: Chosen<Vec<Amounts>>) -> Rule {
 
 use Ask::{Line, Named, Plan as Numbers, Processors, Short, Unmet};
 
-const WAYS: [(&str, Rule); 44] = [
+const WAYS: [(&str, Rule); 46] = [
     ("a plan by hand ignored", hand(|_| false)),
     ("by hand only where it is 1", hand(|number| number == 1)),
     ("by hand by the low byte alone", hand(|number| number & 0xFF != 0)),
@@ -210,6 +217,14 @@ const WAYS: [(&str, Rule); 44] = [
     ("neighbours alone asked", met_by(|a, g| by(a, g, |d, g| d.to > d.from + 1 || meets(d, g)))),
     ("distances of 0 not asked", met_by(|a, g| by(a, g, |d, g| d.distance == 0 || meets(d, g)))),
     ("bounds not asked", met_by(without_bounds)),
+    (
+        "the first destination alone asked",
+        met_by(|a, g| among(a, g, |number, one| number == 0 || !one.stores)),
+    ),
+    (
+        "the first statement's reads alone asked",
+        met_by(|a, g| among(a, g, |number, one| number == 0 || one.stores)),
+    ),
     ("accepted where no number is below the own", met_by(not_below_own)),
     ("20 not asked", met_by(|_, _| Vec::new())),
     ("the last pair told", told(|p| [p[p.len() - 1].0, p[p.len() - 1].1])),
@@ -303,7 +318,7 @@ fn differ(one: &Outcome, other: &Outcome) -> bool {
 /// What is easily missed, of a call and what it rightly comes to.
 type Kind = fn(&Asked, &Outcome) -> bool;
 
-const KINDS: [(&str, Kind); 17] = [
+const KINDS: [(&str, Kind); 19] = [
     ("an accepted plan by hand", |a, o| a.settings.by_hand != 0 && o.is_ok()),
     ("one above the own, for two processors or more", |a, o| {
         a.settings.processors >= 2 && o.as_ref().is_ok_and(|(_, plan)| plan.amounts != a.own)
@@ -343,10 +358,18 @@ const KINDS: [(&str, Kind); 17] = [
         let own = Asked { settings: a.settings.own(), ..Asked::new(a.table, a.settings, a.named) };
         ground(o) == 11 && outcome(&own, &RIGHT).is_ok()
     }),
+    ("an accepted plan by hand of several statements in a loop", |a, o| {
+        a.settings.by_hand != 0 && several(a) && o.is_ok()
+    }),
+    ("20 of several statements in a loop", |a, o| several(a) && ground(o) == 20),
     ("bytes of a plan where none is by hand", |a, _| {
         a.settings.by_hand == 0 && a.settings.plan_length > 0
     }),
 ];
+
+fn several(asked: &Asked) -> bool {
+    asked.table.loops.iter().any(|one| one.statements.len() > 1)
+}
 
 fn ground(outcome: &Outcome) -> u64 {
     outcome.as_ref().err().map_or(0, |answer| answer[0])

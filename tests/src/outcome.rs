@@ -13,8 +13,8 @@ const UNMET: u64 = 20;
 pub struct Refusal {
     pub number: u64,
     pub place: u64,
-    /// For ground 9 a read of the loop and 0, for 20 the later loop and 0;
-    /// for the others 0 and 0.
+    /// For ground 9 two references of the loop, the lower number first; for 20
+    /// the later loop and 0; for the others 0 and 0.
     pub named: [u64; 2],
 }
 
@@ -29,9 +29,9 @@ impl Refusal {
         Refusal::new(number, 0)
     }
 
-    /// Ground 9, with its loop and the read of that loop.
-    pub fn serial(place: usize, read: usize) -> Refusal {
-        Refusal { named: [read as u64, 0], ..Refusal::new(SERIAL, place) }
+    /// Ground 9, with its loop and two references of that loop.
+    pub fn serial(place: usize, (lower, higher): (usize, usize)) -> Refusal {
+        Refusal { named: [lower as u64, higher as u64], ..Refusal::new(SERIAL, place) }
     }
 
     /// Ground 20, with the earlier loop and the later one.

@@ -77,16 +77,20 @@ mod tests {
     #[test]
     fn shifts_and_peels_are_the_largest_totals_of_listed_chains() {
         let mut random = Random::new(1);
+        let (mut listed, mut several) = (0, 0);
         for number in 0..4_000 {
             let table = match number % 2 {
                 0 => tables::any(&mut random, &SMALL),
                 _ => meeting::short_table(&mut random),
             };
+            let ending = dependences(&table);
             // Sixteen loops have too many chains to list.
-            if table.loops.len() > 6 {
+            let chains_at_most: usize = ending.iter().map(|row| row.len() + 1).product();
+            if table.loops.len() > 6 || chains_at_most > 30_000 {
                 continue;
             }
-            let ending = dependences(&table);
+            listed += 1;
+            several += u32::from(table.loops.iter().any(|one| one.statements.len() > 1));
             for (k, found) in amounts(&table).iter().enumerate() {
                 let all = chains(&ending, k);
                 let shift = all.iter().map(|one| one.0).max().unwrap_or(0);
@@ -94,5 +98,6 @@ mod tests {
                 assert_eq!(*found, Amounts { shift, peel });
             }
         }
+        assert!(listed > 3_000 && several > 1_500, "{listed}, {several} of several statements");
     }
 }

@@ -18,7 +18,15 @@ const TAIL: Ground = 8;
 
 /// The table, or the first ground that it meets.
 pub fn read(bytes: &[u8]) -> Result<Table, Refusal> {
-    let mut reader = Reader { bytes, at: 0, table: Table::default(), elements: 0, waiting: 0 };
+    let mut reader = Reader {
+        bytes,
+        at: 0,
+        table: Table::default(),
+        elements: 0,
+        items: 0,
+        waiting: 0,
+        body: Vec::new(),
+    };
     while !reader.record().map_err(|ground| Refusal::new(ground, reader.at))? {}
     if reader.at < bytes.len() {
         return Err(Refusal::new(TAIL, reader.at));
@@ -35,7 +43,10 @@ struct Reader<'a> {
     at: usize,
     table: Table,
     elements: u64,
-    /// The count of numbers that wait in the body at hand.
+    /// The count of items of the loop at hand, over all of its statements.
+    items: usize,
+    /// The items of the body at hand, and the count of numbers that wait in it.
+    body: Vec<Item>,
     waiting: usize,
 }
 
@@ -58,7 +69,8 @@ impl Reader<'_> {
             3 => self.a_read(body)?,
             4 => self.constant(body)?,
             5 => self.operation(body)?,
-            _ => {}
+            7 => self.statement(body)?,
+            _ => self.close(),
         }
         self.at = after;
         Ok(kind == 6)
@@ -71,14 +83,16 @@ impl Reader<'_> {
         match kind {
             1 => !in_loop,
             2 => true,
-            3..=6 => in_loop,
+            3..=7 => in_loop,
             _ => false,
         }
     }
 
-    /// A body ends where the next loop or the end record begins.
+    /// A body ends where the next loop, a further statement or the end record
+    /// begins.
     fn body_finished(&self, kind: u8) -> bool {
-        let ends_body = kind == 6 || (kind == 2 && !self.table.loops.is_empty());
+        let in_loop = !self.table.loops.is_empty();
+        let ends_body = in_loop && matches!(kind, 2 | 6 | 7);
         !ends_body || self.waiting == 1
     }
 
@@ -86,13 +100,14 @@ impl Reader<'_> {
         match kind {
             1 => self.table.arrays.len() < MOST_ARRAYS,
             2 => self.table.loops.len() < MOST_LOOPS,
-            3..=5 => self.items() < MOST_ITEMS,
+            3..=5 => self.items < MOST_ITEMS,
+            7 => self.statements() < MOST_STATEMENTS,
             _ => true,
         }
     }
 
-    fn items(&self) -> usize {
-        self.table.loops.last().map_or(0, |open| open.items.len())
+    fn statements(&self) -> usize {
+        self.table.loops.last().map_or(0, |open| open.statements.len())
     }
 
     fn array(&mut self, body: &[u8]) -> Result<(), Ground> {
@@ -110,14 +125,30 @@ impl Reader<'_> {
         require(last <= MOST_LAST && first <= last, FIELD)?;
         let destination = self.reference(&body[8..11])?;
         require(self.inside(first, last, destination), EDGE)?;
-        self.table.loops.push(Loop {
-            first,
-            last,
-            destination,
-            items: Vec::with_capacity(MOST_ITEMS),
-        });
-        self.waiting = 0;
+        self.close();
+        self.table.loops.push(Loop::of_one(first, last, destination, Vec::new()));
+        self.items = 0;
+        self.begin_body();
         Ok(())
+    }
+
+    /// The items go on to be counted over the whole loop; the waiting numbers
+    /// begin anew.
+    fn statement(&mut self, body: &[u8]) -> Result<(), Ground> {
+        let destination = self.reference(body)?;
+        let (first, last) = self.bounds();
+        require(self.inside(first, last, destination), EDGE)?;
+        self.close();
+        if let Some(open) = self.table.loops.last_mut() {
+            open.statements.push(Statement { destination, items: Vec::new() });
+        }
+        self.begin_body();
+        Ok(())
+    }
+
+    fn begin_body(&mut self) {
+        self.body = Vec::with_capacity(MOST_ITEMS);
+        self.waiting = 0;
     }
 
     fn a_read(&mut self, body: &[u8]) -> Result<(), Ground> {
@@ -167,8 +198,15 @@ impl Reader<'_> {
     }
 
     fn item(&mut self, item: Item) {
-        if let Some(open) = self.table.loops.last_mut() {
-            open.items.push(item);
+        self.body.push(item);
+        self.items += 1;
+    }
+
+    /// Gives the statement at hand its items, where its body ends.
+    fn close(&mut self) {
+        let open = self.table.loops.last_mut();
+        if let Some(statement) = open.and_then(|open| open.statements.last_mut()) {
+            statement.items = std::mem::take(&mut self.body);
         }
     }
 
@@ -201,6 +239,7 @@ pub fn body_length(kind: u8) -> usize {
         3 => 3,
         4 => 4,
         5 => 1,
+        7 => 3,
         _ => 0,
     }
 }
@@ -210,21 +249,27 @@ fn number(bytes: &[u8]) -> u32 {
 }
 
 /// Ground 9: the lowest loop in which two different iterations meet at an
-/// element that one of them stores, and the lowest of its reads that takes
-/// part. Reads alone are counted, in byte order; the destination is none.
+/// element that one of them stores, and two of its references by which they
+/// do. All references are numbered in byte order, destinations too.
 fn serial(table: &Table) -> Option<Refusal> {
-    table.loops.iter().enumerate().find_map(|(place, one)| {
-        let read = one.reads().position(|read| collides(one, read))?;
-        Some(Refusal::serial(place, read))
+    let mut all = Vec::with_capacity(MOST_STATEMENTS + MOST_ITEMS);
+    let mut loops = table.loops.iter().enumerate();
+    loops.find_map(|(place, one)| {
+        all.clear();
+        one.statements.iter().for_each(|statement| all.extend(statement.accesses()));
+        Some(Refusal::serial(place, least_pair(one, &all)?))
     })
 }
 
-/// A read of the destination array meets the store of another iteration when
-/// the offsets differ by no more than the loop is long.
-fn collides(one: &Loop, read: Reference) -> bool {
-    let store = one.destination;
-    let distance = u32::from(read.offset.abs_diff(store.offset));
-    read.array == store.array && distance > 0 && distance <= one.last - one.first
+/// The pair whose lower number is least, and then whose higher number is. One
+/// of the two is a destination, so the lower is none behind the last of these.
+fn least_pair(one: &Loop, all: &[Access]) -> Option<(usize, usize)> {
+    let last = all.iter().rposition(|access| access.stores)?;
+    (0..=last).find_map(|lower| {
+        let mut behind = lower + 1..all.len();
+        let higher = behind.find(|&higher| one.collide(all[lower], all[higher]))?;
+        Some((lower, higher))
+    })
 }
 
 #[cfg(test)]
@@ -232,7 +277,7 @@ mod tests {
     use super::*;
     use crate::collisions;
     use crate::encoder::encode;
-    use crate::examples::{reads_own_array, EXAMPLE};
+    use crate::examples::{reads_own_array, EXAMPLE, TWO_STATEMENTS};
     use crate::limits;
     use crate::outcome::ACCEPTED;
     use crate::random::Random;
@@ -242,7 +287,7 @@ mod tests {
     }
 
     fn from_1_to_10(array: u8, items: Vec<Item>) -> Loop {
-        Loop { first: 1, last: 10, destination: at(array, 0), items }
+        Loop::of_one(1, 10, at(array, 0), items)
     }
 
     #[test]
@@ -270,7 +315,7 @@ mod tests {
 
     #[test]
     fn a_distance_of_9_in_ten_iterations_is_serial() {
-        assert_eq!(read(&reads_own_array(9)), Err(Refusal::serial(0, 0)));
+        assert_eq!(read(&reads_own_array(9)), Err(Refusal::serial(0, (0, 1))));
     }
 
     #[test]
@@ -287,29 +332,57 @@ mod tests {
         }
     }
 
-    /// The ground's sentence, pair by pair: some iteration stores the element
-    /// that another one reads, both inside the bounds.
-    fn meets(one: &Loop, read: Reference) -> bool {
-        let store = one.destination;
+    #[test]
+    fn a_further_statement_says_what_was_typed() {
+        let statement = |to, items| Statement { destination: to, items };
+        let add = Item::Operation(Operation::Add);
+        let first = statement(at(0, 0), vec![Item::Read(at(1, -1)), Item::Constant(9), add]);
+        let second = statement(at(1, 0), vec![Item::Read(at(0, 0))]);
+        let table = Table {
+            arrays: vec![5, 5],
+            loops: vec![Loop { first: 4, last: 4, statements: vec![first, second] }],
+        };
+        assert_eq!(read(&TWO_STATEMENTS), Ok(table.clone()));
+        assert_eq!(encode(&table), TWO_STATEMENTS);
+    }
+
+    /// Every pair of references, from the least on, with the iterations gone
+    /// through one by one: two different ones touch an element, and one of
+    /// the references is a destination.
+    fn meets(one: &Loop, lower: Access, higher: Access) -> bool {
         let indices = || i64::from(one.first)..=i64::from(one.last);
         let element = |index: i64, of: Reference| (of.array, index + i64::from(of.offset));
-        indices().any(|i| indices().any(|j| i != j && element(i, store) == element(j, read)))
+        let stores = lower.stores || higher.stores;
+        let meet = |i: i64, j: i64| i != j && element(i, lower.at) == element(j, higher.at);
+        stores && indices().any(|i| indices().any(|j| meet(i, j)))
+    }
+
+    fn pair_by_iterations(one: &Loop) -> Option<(usize, usize)> {
+        let all: Vec<Access> = one.accesses().collect();
+        let pairs =
+            (0..all.len()).flat_map(|low| (low + 1..all.len()).map(move |high| (low, high)));
+        pairs.filter(|&(low, high)| meets(one, all[low], all[high])).min()
     }
 
     #[test]
-    fn serial_names_the_first_read_that_meets_another_iteration() {
+    fn serial_names_the_least_pair_that_meets_in_two_iterations() {
         let mut random = Random::new(1);
-        let mut refused = 0;
-        for _ in 0..3_000 {
+        let (mut refused, mut several, mut stores) = (0, 0, 0);
+        for _ in 0..4_000 {
             let table = collisions::short_table(&mut random);
-            let wanted = table.loops.iter().enumerate().find_map(|(place, one)| {
-                let reads: Vec<Reference> = one.reads().collect();
-                let lowest = (0..reads.len()).find(|&number| meets(one, reads[number]))?;
-                Some(Refusal::serial(place, lowest))
-            });
-            assert_eq!(read(&encode(&table)).err(), wanted, "{table:?}");
+            let mut loops = table.loops.iter().enumerate();
+            let wanted = loops.find_map(|(place, one)| Some((place, pair_by_iterations(one)?)));
+            let refusal = wanted.map(|(place, pair)| Refusal::serial(place, pair));
+            assert_eq!(read(&encode(&table)).err(), refusal, "{table:?}");
             refused += u64::from(wanted.is_some());
+            if let Some((place, (lower, higher))) = wanted {
+                let all: Vec<Access> = table.loops[place].accesses().collect();
+                several += u64::from(table.loops[place].statements.len() > 1);
+                stores += u64::from(all[lower].stores && all[higher].stores);
+            }
         }
-        assert!((1_000..2_500).contains(&refused), "{refused} of 3,000 are serial");
+        assert!((1_300..3_600).contains(&refused), "{refused} of 4,000 are serial");
+        assert!(several > 500, "{several} by a loop of several statements");
+        assert!(stores > 100, "{stores} by two destinations");
     }
 }

@@ -22,8 +22,12 @@ pub fn forms() -> Vec<Vec<u8>> {
         one().operation(1),
         one().operation(5),
         one().operation(6),
+        one().statement(0, 0),
+        one().statement(0, 2),
+        one().statement(9, 256),
         one().end(),
         one().raw(&[0]),
+        one().raw(&[8]),
         one().raw(&[7]),
         one().raw(&[2, 0]),
         one().raw(&[3]),
@@ -49,6 +53,11 @@ pub fn beginnings() -> Vec<Vec<u8>> {
         .repeat(8, |encoder| encoder.constant(1))
         .repeat(7, |encoder| encoder.operation(2))
         .repeat(15, |encoder| encoder.operation(5));
+    let three = Encoder::new()
+        .array(4)
+        .a_loop(0, 2, 0, 0)
+        .constant(1)
+        .repeat(2, |encoder| encoder.statement(0, 1).constant(1));
     [
         Encoder::new(),
         Encoder::new().array(4),
@@ -57,6 +66,7 @@ pub fn beginnings() -> Vec<Vec<u8>> {
         filled,
         many,
         crowded,
+        three,
     ]
     .into_iter()
     .map(|encoder| encoder.bytes)

@@ -16,7 +16,7 @@ pub fn sweeps(table: &Table) -> Sweeps {
     let mut all_written = BTreeSet::new();
     for one in &table.loops {
         let touched = touched(one);
-        let written = BTreeSet::from([one.destination.array]);
+        let written: BTreeSet<u8> = one.destinations().map(|to| to.array).collect();
         before += touched.len() + written.len();
         all_touched.extend(touched);
         all_written.extend(written);
@@ -24,7 +24,7 @@ pub fn sweeps(table: &Table) -> Sweeps {
     Sweeps { before, after: all_touched.len() + all_written.len() }
 }
 
-/// The arrays that a loop reads or writes.
+/// The arrays that a loop reads or writes, in any of its statements.
 fn touched(one: &Loop) -> BTreeSet<u8> {
-    one.reads().map(|read| read.array).chain([one.destination.array]).collect()
+    one.accesses().map(|access| access.at.array).collect()
 }

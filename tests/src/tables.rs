@@ -10,6 +10,8 @@ use crate::table::*;
 pub struct Shape {
     pub arrays: i64,
     pub loops: i64,
+    /// Of a loop; above four, tables are made that are refused for it.
+    pub statements: i64,
     pub items: i64,
     /// The longest array.
     pub length: i64,
@@ -21,14 +23,28 @@ pub struct Shape {
 
 /// Few of everything: most mistakes show in small tables.
 pub const SMALL: Shape =
-    Shape { arrays: 3, loops: 3, items: 6, length: 24, offset: 4, serial: false };
+    Shape { arrays: 3, loops: 3, statements: 4, items: 8, length: 24, offset: 4, serial: false };
 
-pub const MIDDLE: Shape =
-    Shape { arrays: 8, loops: 8, items: 16, length: 600, offset: 255, serial: false };
+pub const MIDDLE: Shape = Shape {
+    arrays: 8,
+    loops: 8,
+    statements: 4,
+    items: 16,
+    length: 600,
+    offset: 255,
+    serial: false,
+};
 
 /// Every size up to a table's limits.
-pub const LARGE: Shape =
-    Shape { arrays: 16, loops: 16, items: 32, length: 65_536, offset: 255, serial: false };
+pub const LARGE: Shape = Shape {
+    arrays: 16,
+    loops: 16,
+    statements: 4,
+    items: 32,
+    length: 65_536,
+    offset: 255,
+    serial: false,
+};
 
 /// A table whose loops have bounds of their own.
 pub fn any(random: &mut Random, shape: &Shape) -> Table {
@@ -106,10 +122,11 @@ fn with_body(
     (first, last): (u32, u32),
     destination: Reference,
 ) -> Loop {
-    let setting =
-        Setting { arrays, first, last, destination, offset: shape.offset, serial: shape.serial };
-    let count = size(random, shape.items);
-    Loop { first, last, destination, items: bodies::body(random, &setting, count) }
+    let (offset, serial) = (shape.offset, shape.serial);
+    let setting = Setting { arrays, first, last, destinations: vec![destination], offset, serial };
+    let statements = bodies::statements(random, shape.statements);
+    let count = size(random, shape.items).max(statements);
+    bodies::a_loop(random, setting, statements, count)
 }
 
 /// A table whose loops run over nearly the same indices and whose references
@@ -138,30 +155,40 @@ fn aligned_loop(random: &mut Random, shape: &Shape, arrays: &[u32], indices: i64
     with_body(random, shape, arrays, (first as u32, last as u32), destination)
 }
 
-/// A table with the most arrays, loops and items: 16 of 16 and 32 each.
-/// Without reads it has the most bytes that a table can have, 2,065.
-pub fn full(random: &mut Random, reads: usize, of: usize) -> Table {
+/// A table with the most arrays, loops and items: 16 of 16 and 32 each, over
+/// so many statements. Without reads and with four statements it has the most
+/// bytes that a table can have, 2,353.
+pub fn full(random: &mut Random, statements: usize, reads: usize, of: usize) -> Table {
     let arrays = vec![MOST_ELEMENTS as u32 / MOST_ARRAYS as u32; MOST_ARRAYS];
-    let loops = (0..MOST_LOOPS).map(|number| full_loop(random, number as u8, reads, of)).collect();
+    let loops = 0..MOST_LOOPS;
+    let loops = loops.map(|number| full_loop(random, number, statements, (reads, of))).collect();
     Table { arrays, loops }
 }
 
-/// Loop k stores array k and reads the fifteen others.
-fn full_loop(random: &mut Random, number: u8, reads: usize, of: usize) -> Loop {
+/// Loop k stores array k and those behind it, and reads the others.
+fn full_loop(
+    random: &mut Random,
+    number: usize,
+    statements: usize,
+    (reads, of): (usize, usize),
+) -> Loop {
+    let array = |after: usize| ((number + after) % MOST_ARRAYS) as u8;
+    let at = |random: &mut Random, after| Reference {
+        array: array(after),
+        offset: random.between(-8, 8) as i16,
+    };
     let operand = |random: &mut Random| {
         if random.chance(reads, of) {
-            let array = (usize::from(number) + 1 + random.below(15)) % 16;
-            Item::Read(Reference { array: array as u8, offset: random.between(-8, 8) as i16 })
+            let after = statements + random.below(MOST_ARRAYS - statements);
+            Item::Read(at(random, after))
         } else {
             Item::Constant(random.draw() as u32)
         }
     };
-    Loop {
-        first: 8,
-        last: 16_000,
-        destination: Reference { array: number, offset: random.between(-8, 8) as i16 },
-        items: bodies::full(random, operand),
-    }
+    let bodies = bodies::full(random, statements, operand).into_iter().enumerate();
+    let statements =
+        bodies.map(|(after, items)| Statement { destination: at(random, after), items }).collect();
+    Loop { first: 8, last: 16_000, statements }
 }
 
 #[cfg(test)]
@@ -184,11 +211,31 @@ mod tests {
     }
 
     #[test]
-    fn the_longest_table_has_2065_bytes() {
+    fn the_longest_table_has_2353_bytes() {
         let mut random = Random::new(1);
-        let table = full(&mut random, 0, 4);
-        assert_eq!(encode(&table).len(), 2_065);
-        let table = full(&mut random, 4, 4);
-        assert_eq!(read(&encode(&table)), Ok(table));
+        let lengths = [1, 2, 3, 4].map(|statements| {
+            let table = full(&mut random, statements, 4, 4);
+            assert_eq!(read(&encode(&table)), Ok(table));
+            encode(&full(&mut random, statements, 0, 4)).len()
+        });
+        // Two statements have one operand more and one operation fewer, which
+        // is three bytes, and four for the record; three have 16 operations
+        // again, of which one negates.
+        assert_eq!(lengths, [2_065, 2_065 + 16 * (3 + 4), 2_065 + 16 * (3 + 8), 2_353]);
+    }
+
+    #[test]
+    fn every_count_of_statements_is_made() {
+        let mut random = Random::new(6);
+        let five = Shape { statements: 5, ..SMALL };
+        let mut counts = [0; 6];
+        for _ in 0..2_000 {
+            let table = any(&mut random, &five);
+            let refusal = read(&encode(&table)).err();
+            let most = table.loops.iter().map(|one| one.statements.len()).max().unwrap_or(0);
+            assert_eq!(refusal.map(|one| one.number), (most > 4).then_some(4));
+            counts[most] += 1;
+        }
+        assert!(counts[1..].iter().all(|&count| count > 100), "{counts:?}");
     }
 }

@@ -17,6 +17,13 @@ impl Tally {
         self.counts[number as usize] += 1;
     }
 
+    /// Counts what another one counted.
+    pub fn add_all(&mut self, other: &Tally) {
+        for (count, more) in self.counts.iter_mut().zip(other.counts) {
+            *count += more;
+        }
+    }
+
     pub fn total(&self) -> u64 {
         self.counts.iter().sum()
     }

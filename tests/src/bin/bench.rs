@@ -15,6 +15,8 @@ mod reading;
 #[cfg(feature = "running")]
 #[path = "bench/running.rs"]
 mod running;
+#[path = "bench/statements.rs"]
+mod statements;
 
 fn main() {
     println!("factor: the library's time divided by the second implementation's\n");
@@ -24,6 +26,7 @@ fn main() {
     planning::measure();
     #[cfg(feature = "running")]
     running::measure();
+    statements::measure();
     #[cfg(feature = "planning")]
     growth::measure();
     #[cfg(feature = "running")]

@@ -43,8 +43,7 @@ const DAMAGED: u64 = 8;
 /// Enough for the lists and listings of the tables that are given back.
 const ROOM: usize = 65_536;
 /// Chains over few arrays, so that most loops depend on several others.
-const CHAINED: Shape =
-    Shape { arrays: 2, loops: 8, items: 5, length: 90, offset: 3, serial: false };
+const CHAINED: Shape = Shape { arrays: 2, loops: 8, items: 6, length: 90, offset: 3, ..SMALL };
 
 pub fn compare_all() {
     let mut tally = Tally::new();
@@ -136,7 +135,7 @@ fn longest_listing() {
         for array in (0..7).filter(|&array| array != own % 7) {
             items.extend([Item::Read(at(array)), Item::Operation(Operation::Add)]);
         }
-        Loop { first, last, destination: at(own % 7), items }
+        Loop::of_one(first, last, at(own % 7), items)
     };
     let table = Table { arrays: vec![last + 1; 7], loops: (0..16).map(a_loop).collect() };
     let settings = Settings::of(64).with_plan(&bytes_of(&[(200, 200); 16]));

@@ -14,12 +14,16 @@ use vempaldi_checks::outcome::{agrees, hex, Answer};
 use vempaldi_checks::outputs::{self, Output};
 use vempaldi_checks::processors;
 use vempaldi_checks::random::Random;
+use vempaldi_checks::reader::read;
 use vempaldi_checks::settings::Settings;
+use vempaldi_checks::statements::Statements;
 use vempaldi_checks::tables::{self, Shape, LARGE, MIDDLE, SMALL};
 use vempaldi_checks::tally::Tally;
 
 const LEAST_OF_EACH: u64 = 100;
 const SMALL_PLANS: u64 = 4_000;
+/// Of each ground at the record of a further statement.
+const LEAST_AT_STATEMENTS: u64 = 40;
 
 type Expected<'a> = Box<dyn Fn(usize) -> Output + 'a>;
 type Call<'a> = Box<dyn Fn(&mut [u8]) -> (Answer, u64) + 'a>;
@@ -47,10 +51,13 @@ pub fn compare_all() {
             every_entry(&mut tally, &case.bytes, Settings::new(2, line), 1);
         }
     }
+    let mut statements = Statements::new();
     for (seed, shape, count) in [(21, SMALL, 6_000), (22, MIDDLE, 2_000), (23, LARGE, 400)] {
-        mixed(&mut tally, seed, &shape, count);
+        mixed(&mut tally, &mut statements, seed, &shape, count);
     }
     tally.print("entries of planning");
+    statements.print("entries of planning");
+    statements.require(LEAST_AT_STATEMENTS);
     println!("  every list of {plans} small plans among them");
     tally.require(&[0, 1, 2, 3, 4, 5, 6, 7, 8, 9, 10, 11, 13, 17], LEAST_OF_EACH);
 }
@@ -79,9 +86,9 @@ fn every_list(tally: &mut Tally) -> u64 {
     plans
 }
 
-fn mixed(tally: &mut Tally, seed: u64, shape: &Shape, count: u64) {
+fn mixed(tally: &mut Tally, statements: &mut Statements, seed: u64, shape: &Shape, count: u64) {
     let mut random = Random::new(seed);
-    let serial = Shape { serial: true, ..*shape };
+    let serial = Shape { serial: true, statements: 5, ..*shape };
     for _ in 0..count {
         let good = encode(&tables::aligned(&mut random, shape));
         let meeting = encode(&tables::any(&mut random, &serial));
@@ -89,7 +96,9 @@ fn mixed(tally: &mut Tally, seed: u64, shape: &Shape, count: u64) {
         let broken = damage::field(&mut random, &good);
         let crowded = damage::crowd(&mut random, &good);
         let torn = good[..random.below(good.len())].to_vec();
-        for bytes in [good, meeting, colliding, broken, crowded, torn] {
+        let stated = damage::statement(&mut random, &good);
+        for bytes in [good, meeting, colliding, broken, crowded, torn, stated] {
+            statements.add(&bytes, read(&bytes).err().as_ref());
             let processors = processors::any(&mut random);
             let settings = Settings::new(processors, line_lengths::any(&mut random));
             let processor = random.below(processors.max(1) as usize + 1) as u32;

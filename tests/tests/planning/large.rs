@@ -19,6 +19,10 @@ pub fn compare_all() {
         every_entry(&mut tally, &long, Settings::new(processors, line), processor);
     }
     every_entry(&mut tally, &encode(&large::chained()), two, 1);
+    let by_four = encode(&large::last_indices_by_four());
+    for (processors, processor, line) in [(1, 0, 1), (2, 1, 63), (64, 63, 64)] {
+        every_entry(&mut tally, &by_four, Settings::new(processors, line), processor);
+    }
     for table in [&EXAMPLE[..], &long] {
         every_entry(&mut tally, &large::followed(table), two, 1);
         // Numbers of which the low bytes alone name a processor or a length.
@@ -49,4 +53,10 @@ fn typed() {
     written(&|out| library::threshold(&chained, out), &[7_650]);
     let touching = encode(&large::touching());
     written(&|out| library::sweeps(&touching, out), &[272, 32]);
+    let by_four = encode(&large::touching_by_four());
+    written(&|out| library::sweeps(&by_four, out), &[320, 32]);
+    let by_four = encode(&large::last_indices_by_four());
+    written(&|out| library::shifts_and_peels(&by_four, out), &[0, 0, 0, 2]);
+    // All four arrays are touched and written, by both.
+    written(&|out| library::sweeps(&by_four, out), &[16, 8]);
 }

@@ -166,7 +166,7 @@ fn full(counts: &mut Counts) {
     let mut random = Random::new(7);
     for reads in 0..=4 {
         counts.tables += 1;
-        let table = encode(&tables::full(&mut random, reads, 4));
+        let table = encode(&tables::full(&mut random, 1 + reads % 4, reads, 4));
         for number in 0..=66 {
             compare(counts, &table, Settings::of(number));
             compare(counts, &table, Settings::new(66 - number, number));
@@ -194,7 +194,7 @@ fn long(counts: &mut Counts) {
 fn long_table() -> Table {
     let (first, last) = (10_000, 10_000 + 64 * 201 - 1);
     let at = |array, offset| Reference { array, offset };
-    let a_loop = |destination, items| Loop { first, last, destination, items };
+    let a_loop = |to, items| Loop::of_one(first, last, to, items);
     let mut items =
         vec![Item::Read(at(0, -100)), Item::Read(at(0, 100)), Item::Operation(Operation::Add)];
     for array in 2..8 {

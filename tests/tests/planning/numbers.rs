@@ -144,7 +144,7 @@ fn every_room(tally: &mut Tally, table: &[u8], entry: &Entry) {
 /// Every room, of tables of each size; the full one needs the most.
 fn rooms(of_facts: &mut Tally, of_ranges: &mut Tally) {
     let mut random = Random::new(34);
-    let full = tables::full(&mut random, 2, 4);
+    let full = tables::full(&mut random, 4, 2, 4);
     let bytes = encode(&full);
     assert_eq!(needed(&facts(&bytes)), FACTS_ROOM, "the longest facts");
     assert_eq!(needed(&ranges(&bytes, Settings::of(64), 0)[0]), RANGES_ROOM, "the longest ranges");

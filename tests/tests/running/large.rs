@@ -15,6 +15,7 @@ use vempaldi_checks::outcome::{agrees, ACCEPTED};
 use vempaldi_checks::random::Random;
 use vempaldi_checks::settings::Settings;
 use vempaldi_checks::stepping::{Counts, Report, Schedule};
+use vempaldi_checks::table::Table;
 
 /// More bytes than two can count.
 const LONG_ORDER: usize = 70_000;
@@ -40,13 +41,24 @@ pub fn compare_all() {
     }
     // The longest list that there can be: 1,048,576 iterations.
     steps += near_the_ends(&planned_for(16, Settings::of(1)), &start);
+    let start = memories::any(&mut random, 262_144);
+    for (processors, line) in [(1, 1), (64, 63)] {
+        let table = large::last_indices_by_four();
+        let planned = planned_of(&table, Settings::new(processors, line));
+        steps += near_the_ends(&planned, &start);
+        runs(&mut random, &planned, &start);
+    }
     println!(
         "large tables: {steps} steps near the ends of their lists, runs of {LONG_ORDER} bytes"
     );
 }
 
 fn planned_for(loops: usize, settings: Settings) -> Planned {
-    let bytes = encode(&large::last_indices(loops));
+    planned_of(&large::last_indices(loops), settings)
+}
+
+fn planned_of(table: &Table, settings: Settings) -> Planned {
+    let bytes = encode(table);
     let schedule = Schedule::new(&bytes, settings).expect("planned");
     Planned { bytes, schedule }
 }

@@ -17,19 +17,22 @@ use vempaldi_checks::plans_by_hand;
 use vempaldi_checks::processors;
 use vempaldi_checks::random::Random;
 use vempaldi_checks::settings::Settings;
+use vempaldi_checks::statements::Statements;
 use vempaldi_checks::stepping::{run, Schedule};
-use vempaldi_checks::tables::{self, Shape};
+use vempaldi_checks::tables::{self, Shape, LARGE};
 use vempaldi_checks::tally::Tally;
 
 const PLANS: u64 = 20_000;
+const LEAST_OF_STATEMENTS: u64 = 1_000;
 
 pub fn compare_all() {
     typed();
     let mut random = Random::new(13);
     let mut tally = Tally::new();
-    let mut idle = 0;
+    let (mut idle, mut statements) = (0, Statements::new());
     for turn in 0..PLANS {
         let planned = planned(&mut random);
+        statements.add(&planned.bytes, None);
         let order = any_order(&mut random, &planned);
         let length = planned.schedule.table.elements() as usize;
         let start = memories::any(&mut random, length);
@@ -44,6 +47,8 @@ pub fn compare_all() {
     long_runs(&mut tally);
     tally.print("runs in a caller's order");
     println!("  {idle} idle bytes in all");
+    statements.print_counts("  these runs");
+    statements.require_counts(4, LEAST_OF_STATEMENTS);
     tally.require(&[0, 1, 3, 4, 5, 6, 7, 8, 9, 10, 11, 12, 17], 50);
     by_hand();
 }
@@ -102,7 +107,7 @@ fn typed() {
 
 /// Few runs of larger tables, up to some thousand iterations.
 fn long_runs(tally: &mut Tally) {
-    let shape = Shape { arrays: 8, loops: 16, items: 32, length: 2_000, offset: 3, serial: false };
+    let shape = Shape { arrays: 8, length: 2_000, offset: 3, ..LARGE };
     let mut random = Random::new(14);
     for _ in 0..60 {
         let table = tables::aligned(&mut random, &shape);

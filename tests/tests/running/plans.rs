@@ -15,13 +15,12 @@ use vempaldi_checks::table::Table;
 use vempaldi_checks::tables::{self, Shape, SMALL};
 
 /// Offsets next to 0, so that many processors find room.
-const NEAR: Shape = Shape { arrays: 4, loops: 6, items: 7, length: 40, offset: 1, serial: false };
+const NEAR: Shape = Shape { arrays: 4, loops: 6, items: 8, length: 40, offset: 1, ..SMALL };
 /// Long chains over few arrays.
-const CHAINED: Shape =
-    Shape { arrays: 2, loops: 8, items: 4, length: 60, offset: 2, serial: false };
+const CHAINED: Shape = Shape { arrays: 2, loops: 8, items: 5, length: 60, offset: 2, ..SMALL };
 
 /// Enough indices for 64 processors.
-const WIDE: Shape = Shape { arrays: 3, loops: 3, items: 4, length: 150, offset: 1, serial: false };
+const WIDE: Shape = Shape { items: 5, length: 150, offset: 1, ..SMALL };
 
 pub struct Planned {
     pub bytes: Vec<u8>,

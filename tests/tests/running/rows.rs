@@ -11,6 +11,7 @@ use vempaldi_checks::interpreter::plain_run;
 use vempaldi_checks::library_running as library;
 use vempaldi_checks::memories;
 use vempaldi_checks::misjudged::bounds_matter;
+use vempaldi_checks::misrun::Misrun;
 use vempaldi_checks::outcome::agrees;
 use vempaldi_checks::random::Random;
 use vempaldi_checks::stepping::{Counts, Report};
@@ -19,6 +20,9 @@ const PLANS: u64 = 6_000;
 const LEAST_OF_EACH: u64 = 10_000;
 const LEAST_LINED: u64 = 1_000;
 const LEAST_BY_HAND: u64 = 300;
+const LEAST_SHOWN: u64 = 200;
+/// Of so many rows, one shows by which of them wrong ways would be seen.
+const SOME: u64 = 12;
 
 #[derive(Default)]
 struct Calls {
@@ -29,6 +33,8 @@ struct Calls {
     /// were not asked.
     apart: u64,
     lines: Lines,
+    /// Of one row in so many, so that it is not slow.
+    misrun: Misrun,
     done: u64,
     waiting: u64,
     finished: u64,
@@ -57,6 +63,8 @@ fn own() {
     println!("  {} for two processors and more with loops that bounds keep apart", calls.apart);
     calls.lines.print();
     calls.lines.require(LEAST_LINED);
+    calls.misrun.print("statements of an iteration, some of the rows");
+    calls.misrun.require(LEAST_SHOWN);
     assert!(calls.widest >= 50, "too few plans for 64 processors");
     assert!(calls.apart >= 500, "too few plans of loops that never meet");
 }
@@ -72,6 +80,8 @@ fn by_hand() {
     calls.print("rows of steps by hand");
     hands.print();
     hands.require(LEAST_BY_HAND);
+    calls.misrun.print("statements of an iteration, some of the rows by hand");
+    calls.misrun.require(LEAST_SHOWN);
 }
 
 fn every_row(calls: &mut Calls, random: &mut Random, planned: &Planned) {
@@ -109,8 +119,11 @@ fn row(calls: &mut Calls, random: &mut Random, planned: &Planned, scheduler: Sch
     for named in 0..=planned.schedule.processors() {
         call(calls, planned, &mut state, named);
     }
-    let mut plain = start;
+    let mut plain = start.clone();
     plain_run(&planned.bytes, &mut plain).expect("accepted");
+    if calls.rows.is_multiple_of(SOME) {
+        calls.misrun.add(&planned.schedule.table, &start, &plain);
+    }
     if !same_bits(&state.found, &plain) {
         let difference = first_difference(&state.found, &plain);
         let settings = planned.schedule.settings;

@@ -18,7 +18,7 @@ pub const STEPS: usize = 9;
 /// Room for every output of the tables that are made here.
 const ROOM: usize = 8_192;
 /// Enough indices for 64 processors.
-const WIDE: Shape = Shape { arrays: 3, loops: 3, items: 4, length: 150, offset: 1, serial: false };
+const WIDE: Shape = Shape { items: 5, length: 150, offset: 1, ..SMALL };
 
 pub struct Made {
     bytes: Vec<u8>,

@@ -27,7 +27,7 @@ pub fn measure() {
     let mut random = Random::new(1);
     let mixed = repeat(TABLES, || accepted(|| mixed(&mut random)));
     compare("planning 400 mixed tables for 16 processors", &mixed);
-    let full = repeat(16, || accepted(|| tables::full(&mut random, 4, 4)));
+    let full = repeat(16, || accepted(|| tables::full(&mut random, 1, 4, 4)));
     compare("planning full tables, each array stored once", &full);
     let dense = repeat(16, || accepted(|| dense(&mut random)));
     compare("planning full tables, two arrays shared by all loops", &dense);
@@ -232,7 +232,8 @@ fn dense(random: &mut Random) -> Table {
                 Item::Read(Reference { array: read, offset })
             };
             let destination = Reference { array: store, offset: 0 };
-            Loop { first: 8, last: 65_000, destination, items: bodies::full(random, operand) }
+            let items = bodies::full(random, 1, operand).concat();
+            Loop::of_one(8, 65_000, destination, items)
         })
         .collect();
     Table { arrays, loops }
@@ -261,7 +262,8 @@ pub fn a_loop(
 ) -> Loop {
     let near = i64::from(margin);
     let destination = Reference { array: store, offset: random.between(-near, near) as i16 };
-    let setting = Setting { arrays, first: margin, last, destination, offset: near, serial: false };
-    let items = bodies::body(random, &setting, items);
-    Loop { first: margin, last, destination, items }
+    let destinations = vec![destination];
+    let setting =
+        Setting { arrays, first: margin, last, destinations, offset: near, serial: false };
+    bodies::a_loop(random, setting, 1, items)
 }

@@ -14,7 +14,7 @@ const ROUNDS: usize = 40;
 
 pub fn measure() {
     for (name, reads) in [
-        ("constants alone (the longest tables)", 0),
+        ("constants alone (the longest tables of one statement a loop)", 0),
         ("reads and constants", 2),
         ("reads alone", 4),
     ] {
@@ -26,7 +26,7 @@ pub fn measure() {
 fn kind(name: &str, reads: usize) {
     let mut random = Random::new(1);
     let made: Vec<Vec<u8>> =
-        (0..TABLES).map(|_| encode(&tables::full(&mut random, reads, 4))).collect();
+        (0..TABLES).map(|_| encode(&tables::full(&mut random, 1, reads, 4))).collect();
     let bytes = made[0].len();
     let pair = measure::beside(
         ROUNDS,

@@ -25,7 +25,7 @@ pub fn measure() {
     measure::print("run in a caller's order, 16 processors", "iteration", &pair);
     let pair = caller_order(&table, LINED);
     measure::print("run in a caller's order, 16 processors, lines of 8", "iteration", &pair);
-    let full = encode(&tables::full(&mut Random::new(1), 4, 4));
+    let full = encode(&tables::full(&mut Random::new(1), 1, 4, 4));
     step("the example, 2 processors", &EXAMPLE, Settings::of(2));
     step("two loops of 50,000, 16 processors", &table, SIXTEEN);
     step("two loops of 50,000, 16 processors, lines of 8", &table, LINED);
