@@ -272,7 +272,7 @@ impl Case<'_> {
     fn tail(&self) -> bool {
         let (end, count) = (self.place - 1, self.bytes.len() - self.place);
         let follow = if count == 1 { "1 byte follows it".to_string() } else { format!("{count} bytes follow it") };
-        let least = if self.bytes.len() >= 2_362 { "at least " } else { "" };
+        let least = if self.bytes.len() >= 2_364 { "at least " } else { "" };
         let whole = seen(&self.bytes[..self.place]);
         whole.ended && self.bytes[end] == 6 && self.words == format!("the end record is byte {end}, {least}{follow}")
     }
