@@ -23,7 +23,7 @@ ghost use Rattle.plain.specs.Plain.{plainAnswer, runOf, plainMemory};
 ghost use Rattle.plain.specs.Running.{Running};
 
 // Iterations `first` to `last` of the statements in the rows from `from` up to `past`.
-fn run_range(
+pub fn run_range(
     store: &Store,
     bases: &[u32; 17],
     from: usize,
