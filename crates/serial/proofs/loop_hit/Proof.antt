@@ -68,7 +68,7 @@ returns-2 c =
     let b = c .before .before .before .before .before .before .before in
     let l = c .before .loop in
     loop-nothing (now (b .args .store)) (b .pre .0) (b .args .k) (b .pre .1) _ _ _ _ (c .before .before .before .before .first-at .ensures) (c .before .before .before .last-at .ensures)
-    (c .before .before .before .before .before .before .start-at .ensures) (c .before .before .before .before .before .start-at2 .ensures) (l .row) _ (l .inv) (c .before .before .last-destination .ensures) (c .loop-test .left)
+    (c .before .before .before .before .before .before .start-at .ensures) (c .before .before .before .before .before .start-at2 .ensures) (l .row) _ (l .inv) (c .before .before .last-destination .ensures) (omega (arith, c .loop-test .left))
 
 pub loop-hit-spec : {M : Type 1} → statement M
 loop-hit-spec =
