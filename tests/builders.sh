@@ -60,14 +60,14 @@ examples() {
     all_build "$made/examples.script" "$made/examples.lines"
 }
 
-# Fields' ends as they are typed; then 474 arrays, which leave room for 3 bytes more: neither an array nor, after that error, an end.
+# Fields' ends as they are typed; then 475 arrays, which fill the room: there is none for an array more nor, after that error, for an end.
 edges() {
     grep -v '^#' tests/builders/edges.txt | grep '|\|^end' | sed 's/ | /\n/g' > "$made/edges.script"
     grep '^[0-9]' tests/builders/edges.txt > "$made/edges.lines"
     [ "$(wc -l < "$made/edges.lines")" -eq 26 ] || wrong "edges.txt has not its 26 tables"
-    yes 'array 1' | head -n 475 >> "$made/edges.script"
+    yes 'array 1' | head -n 476 >> "$made/edges.script"
     echo end >> "$made/edges.script"
-    echo "2 474 2370 x$(yes 0101000000 | head -n 474 | tr -d '\n')" >> "$made/edges.lines"
+    echo "2 475 2375 x$(yes 0101000000 | head -n 475 | tr -d '\n')" >> "$made/edges.lines"
     all_build "$made/edges.script" "$made/edges.lines"
 }
 
