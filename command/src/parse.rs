@@ -184,7 +184,7 @@ impl Maker {
     }
 
     fn stored(&self, store: &Piece) -> Result<Reference, Wrong> {
-        self.reference(store, "not what a loop stores: NAME[i], NAME[i+3] or NAME[i-3]")
+        self.reference(store, "not what a statement stores: NAME[i], NAME[i+3] or NAME[i-3]")
     }
 
     fn items(&mut self, said: Piece) -> Result<(), Wrong> {

@@ -11,7 +11,7 @@ use borrow.Author.Tests.{ltb-true, ltb-false, leb-true, leb-false, eqb-true, eqb
 use Rattle.records.specs.declared.Kind.the-variants as kind
 use Rattle.records.specs.declared.Record.{Record}
 use Rattle.records.specs.declared.Record.the-variants.{Unknown, Array, Loop, Read, Constant, Operation, End, Statement}
-use Rattle.records.specs.Bytes.{byte, kindOf, recordAt}
+use Rattle.records.specs.Bytes.{recordAt}
 use Rattle.records.specs.Same.{kindIn, kind-of-record}
 use Rattle.records.specs.History.{summary, lengths, operands}
 use Rattle.records.specs.ClearLaws.{nothing}

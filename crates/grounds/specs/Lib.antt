@@ -24,5 +24,5 @@ pub mod Accepted
 pub mod AcceptedLaws
 -- how many bytes the records of a table take
 pub mod Sizes
--- the first 2,077 bytes decide the answer
+-- the first 2,364 bytes decide the answer
 pub mod Prefix

@@ -28,8 +28,8 @@ abbrev pub store : ℕ → List ℕ
 store a = loop 1 10 a (ahead 0)
 
 -- a further statement of a loop, which stores at an offset in array a
-abbrev pub further : ℕ → List ℕ → List ℕ
-further a offset = 7 ∷ a ∷ offset
+abbrev pub statement : ℕ → List ℕ → List ℕ
+statement a offset = 7 ∷ a ∷ offset
 
 abbrev pub read : ℕ → List ℕ → List ℕ
 read a offset = 3 ∷ a ∷ offset

@@ -23,7 +23,7 @@ add = 5 ∷ 1 ∷ []
 abbrev statement : List ℕ
 statement = 7 ∷ 0 ∷ 0 ∷ 0 ∷ []
 
--- n items and one more, n + 1 constants and n additions, that leave one number
+-- 2 n + 1 items, n + 1 constants and n additions, that leave one number
 abbrev sumOf : ℕ → List ℕ
 sumOf n = constant ++ times n (constant ++ add)
 

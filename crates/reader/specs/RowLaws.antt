@@ -5,7 +5,7 @@ use native.Mathlib.Decide.{ℕ-discrete, decLt}
 use native.Mathlib.Numerals.{add-one}
 use mathlib.Core.Path.{_≡_, refl, sym, ap, subst, _∙_}
 use mathlib.Core.Logic.{⊎-elim}
-use mathlib.Core.Bool.{true, false, cond}
+use mathlib.Core.Bool.{true, cond}
 use mathlib.Core.List.{List, [], _∷_, _++_, append-nil, append-assoc, List·Memᴰ·append-cases}
 use mathlib.Core.List.{List·Memᴰ as Mem}
 use mathlib.Core.List.{List·Memᴰ·cases-cons as cases-cons, List·Memᴰ·not-nil as not-nil}
@@ -18,7 +18,7 @@ use Rattle.model.specs.References.{reads, references, refs}
 use Rattle.reader.specs.Store.{startAt, kindAt, arrayAt, valueAt, itemOf, itemAt, leadFrom, bodyFrom, tableIn}
 use Rattle.reader.specs.Stored.{Row}
 use Rattle.reader.specs.Held.{Held, loop-held, rows-rise, few-rows, row-held, opening-held}
-use Rattle.reader.specs.Rows.{refIn, rowRefs, refsFrom, refsIn, LastDestination}
+use Rattle.reader.specs.Rows.{refIn, rowRefs, refsFrom, refsIn, NoneBehind, LastDestination}
 
 module _ (c : List ℕ) (k : ℕ) where
   -- ONE ROW
@@ -137,18 +137,11 @@ module _ {c : List ℕ} (h : Held c) (k : ℕ) (l : k < count (tableIn c)) where
       (λ i a. row-held h (suc k) i l (omega (arith, rows-rise h k l))) x (rw refs-held at m)
 
 -- THE LAST DESTINATION, looked for from the last row back
-module _ {c : List ℕ} (h : Held c) (k : ℕ) (l : k < count (tableIn c)) where
-  pub last-row : (past : ℕ) → past ≡ startAt c (k + 1) → LastDestination c k (past - 1)
-  last-row past e =
-      let f = ap (startAt c) (add-one k) in
-      let up = rows-rise h k l in
-      record { from = omega arith; before = omega arith; none = λ i a b. absurd (omega arith) }
+pub last-found : (c : List ℕ) (k r : ℕ) → NoneBehind c k r → kindAt c r ≡ 1 → LastDestination c k r
+last-found c k r d e = record { is = e; from = d .from; before = d .before; none = d .none }
 
-  pub last-few : (r : ℕ) → LastDestination c k r → r < 576
-  last-few r d = omega (arith, d .before, few-rows h (suc k) l)
-
-pub last-before : (c : List ℕ) (k r : ℕ) → LastDestination c k r → startAt c k < r → (kindAt c r ≡ 1 → ⊥) → LastDestination c k (r - 1)
-last-before c k r d up n = record {
+pub behind-before : (c : List ℕ) (k r : ℕ) → NoneBehind c k r → startAt c k < r → (kindAt c r ≡ 1 → ⊥) → NoneBehind c k (r - 1)
+behind-before c k r d up n = record {
   from = omega arith;
   before = omega (arith, d .before);
   none = λ i a b e. go i a b e (ℕ-discrete i r);
@@ -157,3 +150,19 @@ last-before c k r d up n = record {
     go : (i : ℕ) → r - 1 < i → i < startAt c (suc k) → kindAt c i ≡ 1 → Dec (i ≡ r) → ⊥
     go i a b e (yes z) = n (rw (← z) e)
     go i a b e (no z) = d .none i (omega arith) b e
+
+module _ {c : List ℕ} (h : Held c) (k : ℕ) (l : k < count (tableIn c)) where
+  pub behind-last : (past : ℕ) → past ≡ startAt c (k + 1) → NoneBehind c k (past - 1)
+  behind-last past e =
+      let f = ap (startAt c) (add-one k) in
+      let up = rows-rise h k l in
+      record { from = omega arith; before = omega arith; none = λ i a b. absurd (omega arith) }
+
+  pub behind-few : (r : ℕ) → NoneBehind c k r → r < 576
+  behind-few r d = omega (arith, d .before, few-rows h (suc k) l)
+
+  -- the first row is one
+  pub first-found : (start r : ℕ) → start ≡ startAt c k → NoneBehind c k r → r ≤ start → LastDestination c k r
+  first-found start r s d m =
+      let e : r ≡ startAt c k = omega (arith, d .from) in
+      last-found c k r d (rw e (opening-held h k l))

@@ -26,7 +26,14 @@ module _ (c : List ℕ) (k : ℕ) where
   refsIn r past = refsFrom r (past - r)
 
   -- row r is of loop k, and no row of the loop past it is a destination's
+  pub record NoneBehind (r : ℕ) : Type 0 where
+    pub from : startAt c k ≤ r
+    pub before : r < startAt c (suc k)
+    pub none : (i : ℕ) → r < i → i < startAt c (suc k) → kindAt c i ≡ 1 → ⊥
+
+  -- it is the last that is one
   pub record LastDestination (r : ℕ) : Type 0 where
+    pub is : kindAt c r ≡ 1
     pub from : startAt c k ≤ r
     pub before : r < startAt c (suc k)
     pub none : (i : ℕ) → r < i → i < startAt c (suc k) → kindAt c i ≡ 1 → ⊥

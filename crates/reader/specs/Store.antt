@@ -49,11 +49,6 @@ module _ (c : List ℕ) where
   abbrev pub itemAt : ℕ → Item
   itemAt r = itemOf (kindAt c r) (arrayAt c r) (valueAt c r)
 
-  -- the n items from row r on
-  unfoldable pub itemsFrom : ℕ → ℕ → List Item
-  itemsFrom r zero = []
-  itemsFrom r (suc n) = itemAt r ∷ itemsFrom (suc r) n
-
   -- the items from row r on, of n rows, up to the first destination's row; behind the last row the items xs
   unfoldable pub leadFrom : ℕ → ℕ → List Item → List Item
   leadFrom r zero xs = xs

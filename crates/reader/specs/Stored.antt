@@ -7,7 +7,7 @@ use Rattle.records.specs.declared.Record.{Record}
 use Rattle.records.specs.History.{summary, lengths}
 use Rattle.model.specs.Table.{Item, Statement, Loop, Table}
 use Rattle.reader.specs.Reading.{loopsOf}
-use Rattle.reader.specs.Store.{Sized, firstAt, lastAt, startAt, kindAt, arrayAt, valueAt, arraysIn, loopsIn, tableIn, bodyFrom, loopsFrom}
+use Rattle.reader.specs.Store.{Sized, firstAt, lastAt, startAt, kindAt, valueAt, arraysIn, loopsIn, tableIn, bodyFrom, loopsFrom}
 use Rattle.reader.specs.Store.{kept}
 
 -- what holds of each row: what a destination or a read has for an offset is one

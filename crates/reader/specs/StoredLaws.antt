@@ -25,7 +25,7 @@ use Rattle.reader.specs.Stored.{Row, InPlace, Holds, loopWith, shown, St
 
 -- THE STATEMENTS AND LOOPS OF A STORE, n rows and m more
 module _ (c : List ℕ) (m : ℕ) (xs : List Item) (ss : List Statement) where
-  pub lead-append : (r n : ℕ) → leadFrom c r (n + m) xs ≡ leadFrom c r n (leadFrom c (r + n) m xs)
+  lead-append : (r n : ℕ) → leadFrom c r (n + m) xs ≡ leadFrom c r n (leadFrom c (r + n) m xs)
   unfolding leadFrom
   lead-append r zero = let z : 0 + m ≡ m = omega arith in let e : r ≡ r + 0 = omega arith in rw (z, ← e)
   lead-append r (suc n) =
@@ -33,7 +33,7 @@ module _ (c : List ℕ) (m : ℕ) (xs : List Item) (ss : List Statement) where
       let e : suc r + n ≡ r + suc n = omega arith in
       rw (z, ← e, lead-append (suc r) n)
 
-  pub body-append : (r n : ℕ) → bodyFrom c r (n + m) xs ss ≡ bodyFrom c r n (leadFrom c (r + n) m xs) (bodyFrom c (r + n) m xs ss)
+  body-append : (r n : ℕ) → bodyFrom c r (n + m) xs ss ≡ bodyFrom c r n (leadFrom c (r + n) m xs) (bodyFrom c (r + n) m xs ss)
   unfolding bodyFrom
   body-append r zero = let z : 0 + m ≡ m = omega arith in let e : r ≡ r + 0 = omega arith in rw (z, ← e)
   body-append r (suc n) =

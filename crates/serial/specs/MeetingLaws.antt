@@ -1,11 +1,11 @@
 -- Laws of the test of ground 9: it decides the statement; the pair that it names collides, and no lesser pair does.
-use Prim.Native.Nat.{ℕ, zero, suc, _+_, _≤_, _<_}
+use Prim.Native.Nat.{ℕ, zero, suc, _+_, _<_}
 use native.Mathlib.Omega.{arith}
-use native.Mathlib.Decide.{ℕ-discrete, decLt}
+use native.Mathlib.Decide.{decLt}
 use mathlib.Core.Path.{_≡_, refl, sym, ap, subst, _∙_}
 use mathlib.Core.Logic.{_⊎_, inl, inr, ⊎-elim, _≢_}
 use mathlib.Core.Bool.{Bool, true, false, not}
-use mathlib.Core.List.{List, [], _∷_, _++_}
+use mathlib.Core.List.{List, [], _∷_, _++_, append-nil}
 use mathlib.Core.List.{List·Memᴰ as Mem, List·Memᴰ·head as mhere, List·Memᴰ·tail as mthere}
 use lib.ListN.{length, getD}
 use lib.Dec.{eqb}
@@ -15,7 +15,7 @@ use Rattle.overlap.specs.OverlapLaws.{Meeting, overlap-is, is-overlap}
 use Rattle.order.specs.Lists.{nth-mem}
 use Rattle.model.specs.declared.Reference.{Reference}
 use Rattle.model.specs.Table.{Item, read, constant, operation, Statement, Table, loop, count, first, last, iteration, Inside}
-use Rattle.model.specs.References.{reads, references, refs, touch, Touch, Meet}
+use Rattle.model.specs.References.{destination, reads, references, refs, touch, Touch, Meet}
 use Rattle.chains.specs.DependenceLaws.{touch-is}
 use Rattle.serial.specs.declared.Collision.{Collision}
 use Rattle.serial.specs.declared.Collision.the-variants.{Nothing, Pair}
@@ -317,3 +317,29 @@ module _ (t : Table) (k : ℕ) where
     right-in = nth-mem (refs t k) none n (c .there);
     meet = c .meet;
   }
+
+-- IN A LOOP OF ONE STATEMENT the lower reference of a pair that collides is the destination, 0; the reads behind it are numbered from 1
+read-reads : (k : ℕ) (d : Reference) (xs : List Item) (n : ℕ) → n < length (reads k xs) → getD (reads k xs) n d .stores ≡ false
+read-reads k d [] n h = absurd (omega arith)
+read-reads k d (read a o ∷ xs) zero h = refl
+read-reads k d (read a o ∷ xs) (suc n) h = read-reads k d xs n (omega arith)
+read-reads k d (constant c ∷ xs) n h = read-reads k d xs n h
+read-reads k d (operation c ∷ xs) n h = read-reads k d xs n h
+
+module _ (t : Table) (k : ℕ) (s : Statement) (only : loop t k .body ≡ s ∷ []) where
+  own : refs t k ≡ destination k s ∷ reads k (s .items)
+  own = rw only (ap (λ (l : List Reference). destination k s ∷ l) (append-nil (reads k (s .items))))
+
+  pub one-numbered : (r : ℕ) → numbered t k (suc r) ≡ getD (reads k (s .items)) r (none t k)
+  one-numbered r = ap (λ (l : List Reference). getD l (suc r) (none t k)) own
+
+  later-reads : (n : ℕ) → suc n < length (refs t k) → numbered t k (suc n) .stores ≡ false
+  later-reads n h =
+      ap (λ (r : Reference). r .stores) (one-numbered n) ∙ read-reads k (none t k) (s .items) n (omega (arith, ap length own))
+
+  pub one-statement : (m n : ℕ) → Collides t k m n → m ≡ 0
+  one-statement zero n c = refl
+  one-statement (suc m) zero c = absurd (omega (arith, c .lower))
+  one-statement (suc m) (suc n) c =
+      ⊎-elim (λ e. absurd (false-true (sym (later-reads m (omega (arith, c .lower, c .there))) ∙ e)))
+      (λ e. absurd (false-true (sym (later-reads n (c .there)) ∙ e))) (c .meet .0 .1)

@@ -4,7 +4,7 @@ use mathlib.Core.Path.{_≡_, refl}
 use mathlib.Core.List.{List, [], _∷_, _++_}
 use Prim.Native.Nat.{ℕ}
 use Rattle.refusals.specs.Refusals.{none, met}
-use Rattle.known.specs.Records.{array, ahead, back, further, one, operation, add, end, times}
+use Rattle.known.specs.Records.{array, ahead, back, statement, one, operation, add, end, times}
 use Rattle.known.specs.Bytes.{begun}
 use Rattle.known.specs.Computed.{refusal}
 
@@ -13,51 +13,51 @@ abbrev first : List ℕ
 first = begun ++ one
 
 abbrev next : List ℕ
-next = further 0 (ahead 0) ++ one
+next = statement 0 (ahead 0) ++ one
 
 abbrev four : List ℕ
 four = first ++ times 3 next
 
 pub record Grounds : Type 0 where
   -- 2: before any loop; cut short it is 2, too, and where there is no such array
-  pub before-loop : refusal (array 1 ++ further 0 (ahead 0)) ≡ met 2 5
+  pub before-loop : refusal (array 1 ++ statement 0 (ahead 0)) ≡ met 2 5
   pub kind-torn : refusal (7 ∷ []) ≡ met 2 0
-  pub kind-array : refusal (array 1 ++ further 9 (ahead 0)) ≡ met 2 5
+  pub kind-array : refusal (array 1 ++ statement 9 (ahead 0)) ≡ met 2 5
   -- 6, at its own place: the body before it leaves no number, or two
-  pub none-left : refusal (begun ++ further 0 (ahead 0)) ≡ met 6 17
-  pub two-left : refusal (first ++ one ++ further 0 (ahead 0)) ≡ met 6 27
-  pub second-unfinished : refusal (first ++ further 0 (ahead 0) ++ further 0 (ahead 0)) ≡ met 6 26
-  pub last-unfinished : refusal (first ++ further 0 (ahead 0) ++ end) ≡ met 6 26
+  pub none-left : refusal (begun ++ statement 0 (ahead 0)) ≡ met 6 17
+  pub two-left : refusal (first ++ one ++ statement 0 (ahead 0)) ≡ met 6 27
+  pub second-unfinished : refusal (first ++ statement 0 (ahead 0) ++ statement 0 (ahead 0)) ≡ met 6 26
+  pub last-unfinished : refusal (first ++ statement 0 (ahead 0) ++ end) ≡ met 6 26
   -- 6 before 4, before 1 and before 5
-  pub body-crowd : refusal (first ++ times 2 next ++ times 2 (further 0 (ahead 0))) ≡ met 6 44
+  pub body-crowd : refusal (first ++ times 2 next ++ times 2 (statement 0 (ahead 0))) ≡ met 6 44
   pub body-torn : refusal (begun ++ 7 ∷ []) ≡ met 6 17
-  pub body-array : refusal (begun ++ further 9 (ahead 0)) ≡ met 6 17
+  pub body-array : refusal (begun ++ statement 9 (ahead 0)) ≡ met 6 17
   -- 4: a loop has four statements, and no fifth
   pub fourth : refusal (four ++ end) ≡ none
-  pub fifth : refusal (four ++ further 0 (ahead 0)) ≡ met 4 49
+  pub fifth : refusal (four ++ statement 0 (ahead 0)) ≡ met 4 49
   -- of the next loop there are four again
   pub each-loop : refusal (array 1 ++ times 2 (2 ∷ 0 ∷ 0 ∷ 0 ∷ 0 ∷ 0 ∷ 0 ∷ 0 ∷ 0 ∷ 0 ∷ 0 ∷ 0 ∷ one ++ times 3 next) ++ end) ≡ none
   -- 4 before 1 and before 5
   pub crowd-torn : refusal (four ++ 7 ∷ []) ≡ met 4 49
-  pub crowd-array : refusal (four ++ further 9 (ahead 0)) ≡ met 4 49
+  pub crowd-array : refusal (four ++ statement 9 (ahead 0)) ≡ met 4 49
   -- 1: it is cut short; before 5
   pub torn : refusal (first ++ 7 ∷ 0 ∷ 0 ∷ []) ≡ met 1 22
   pub torn-array : refusal (first ++ 7 ∷ 9 ∷ []) ≡ met 1 22
   -- 5: no array of that number; before 3
-  pub no-array : refusal (first ++ further 1 (ahead 0)) ≡ met 5 22
-  pub array-offset : refusal (first ++ further 1 (ahead 256)) ≡ met 5 22
+  pub no-array : refusal (first ++ statement 1 (ahead 0)) ≡ met 5 22
+  pub array-offset : refusal (first ++ statement 1 (ahead 256)) ≡ met 5 22
   -- 3: an offset outside -255 to 255; before 7
-  pub offset : refusal (first ++ further 0 (ahead 256)) ≡ met 3 22
+  pub offset : refusal (first ++ statement 0 (ahead 256)) ≡ met 3 22
   -- 7: some iteration of its loop reaches outside the array
-  pub edge-past : refusal (first ++ further 0 (ahead 1)) ≡ met 7 22
-  pub edge-before : refusal (first ++ further 0 back) ≡ met 7 22
+  pub edge-past : refusal (first ++ statement 0 (ahead 1)) ≡ met 7 22
+  pub edge-before : refusal (first ++ statement 0 back) ≡ met 7 22
   -- 32 items over all statements of a loop, sixteen and sixteen; a 33rd is 4
   pub items-most : refusal (first ++ times 15 (operation 5) ++ next ++ times 15 (operation 5) ++ end) ≡ none
   pub items-past : refusal (first ++ times 15 (operation 5) ++ next ++ times 16 (operation 5)) ≡ met 4 91
   -- waiting numbers begin anew: eight in each statement, no ninth, and none of the statement before
-  pub eight-each : refusal (begun ++ times 8 one ++ times 7 add ++ further 0 (ahead 0) ++ times 8 one ++ times 7 add ++ end) ≡ none
-  pub ninth : refusal (first ++ further 0 (ahead 0) ++ times 9 one) ≡ met 6 66
-  pub none-before : refusal (first ++ further 0 (ahead 0) ++ operation 5) ≡ met 6 26
+  pub eight-each : refusal (begun ++ times 8 one ++ times 7 add ++ statement 0 (ahead 0) ++ times 8 one ++ times 7 add ++ end) ≡ none
+  pub ninth : refusal (first ++ statement 0 (ahead 0) ++ times 9 one) ≡ met 6 66
+  pub none-before : refusal (first ++ statement 0 (ahead 0) ++ operation 5) ≡ met 6 26
 
 pub grounds : Grounds
 unfolding refusal

@@ -1,5 +1,5 @@
 use native.Mathlib.Omega.{arith}
-use mathlib.Core.Path.{sym, ap, _∙_}
+use mathlib.Core.Path.{ap, _∙_}
 use denote.Ref.{now}
 use Rattle.model.specs.declared.Reference.{Reference}
 use Rattle.serial.proofs.Walks.{row-apart, row-other, row-reference-is}
