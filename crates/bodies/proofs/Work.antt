@@ -13,12 +13,14 @@ use borrow.Author.Tests.{eq-eqb, ne-eqb}
 use Rattle.records.specs.History.{operands}
 use Rattle.model.specs.Table.{Item, read, constant, operation}
 use Rattle.model.specs.Bodies.{negated, combined, applied, worked, workedAll, value}
-use Rattle.reader.specs.Store.{kindAt, itemOf, itemAt, leadFrom, bodyFrom, statementsFrom}
+use Rattle.reader.specs.Store.{kindAt, arrayAt, valueAt, itemOf, itemAt, leadFrom, bodyFrom, statementsFrom}
 use Rattle.grounds.specs.Accepted.{Works}
 use Rattle.bodies.specs.declared.Waiting.{Waiting}
 use Rattle.bodies.specs.Stack.{tops, waiting, Holds}
 use Rattle.bodies.specs.Workable.{Based, Element, ReadsWithin, Ready, next}
-use Rattle.bodies.specs.Stopped.{Opens, Stopped}
+use Rattle.bodies.specs.declared.Step.{Step}
+use Rattle.bodies.specs.declared.Step.the-variants as step
+use Rattle.bodies.specs.Stopped.{Stepped, Opens, Stopped}
 
 -- WHICH ITEM IT IS
 item-read : (k q v : ℕ) → k ≡ 0 → itemOf k q v ≡ read q v
@@ -121,65 +123,76 @@ module _ (bs : List ℕ) (i : ℕ) (m : List Float) (cs : List ℕ) (from past :
   all = leadFrom cs from (past - from) []
 
   pub record RowsLeft (row : ℕ) (w : Waiting) : Type 0 where
+    pub long : length (w .values) ≡ 8
     pub low : from ≤ row
     pub high : row ≤ past
     pub same : statementsFrom cs from (past - from) ≡ statementsFrom cs row (past - row)
     pub left : Left bs i m all (waiting s) (leadFrom cs row (past - row) []) (waiting w) (w .count)
 
-  pub rows-start : from ≤ past → s .count ≤ 8 → Works all (s .count) → ReadsWithin bs i (length m) all → RowsLeft from s
-  rows-start h f w r = record { low = omega arith; high = h; same = refl; left = left-start bs i m all (waiting s) (s .count) f w r }
+  pub rows-start : length (s .values) ≡ 8 → from ≤ past → s .count ≤ 8 → Works all (s .count) → ReadsWithin bs i (length m) all → RowsLeft from s
+  rows-start k h f w r = record { long = k; low = omega arith; high = h; same = refl; left = left-start bs i m all (waiting s) (s .count) f w r }
+
+  -- at the end: a destination's row, or the last
+  abbrev Ended : ℕ → Waiting → Type 0
+  Ended row w =
+      ((w .count ≡ 1) × Stopped cs from past row) × ((ns : List ℕ) → Based bs ns → waiting w ≡ workedAll ns i m all (waiting s))
 
   module _ (row : ℕ) (w : Waiting) (l : RowsLeft row w) where
-    -- an item
-    module _ (h : row < past) (item : kindAt cs row ≡ 1 → ⊥) where
-      abbrev rest : List Item
-      rest = leadFrom cs (row + 1) (past - (row + 1)) []
-
-      one : past - row ≡ suc (past - (row + 1))
-      one = omega arith
-
-      split : leadFrom cs row (past - row) [] ≡ itemAt cs row ∷ rest
-      unfolding leadFrom
-      split = rw (one, ne-eqb (kindAt cs row) 1 item, add-one row)
-
-      begun : statementsFrom cs row (past - row) ≡ statementsFrom cs (row + 1) (past - (row + 1))
-      unfolding bodyFrom
-      begun = rw (one, ne-eqb (kindAt cs row) 1 item, add-one row)
-
-      here : Left bs i m all (waiting s) (itemAt cs row ∷ rest) (waiting w) (w .count)
-      here = subst (λ (xs : List Item). Left bs i m all (waiting s) xs (waiting w) (w .count)) split (l .left)
-
-      pub rows-ready : Ready bs i (length m) (itemAt cs row) (w .count)
-      rows-ready = left-ready bs i m all (waiting s) (itemAt cs row) rest (waiting w) (w .count) here
-
-      pub rows-next : (v : Waiting) → v .count ≡ next (itemAt cs row) (w .count)
-          → ((ns : List ℕ) → Based bs ns → waiting v ≡ worked ns i m (itemAt cs row) (waiting w)) → RowsLeft (row + 1) v
-      rows-next v e f = record {
-        low = omega (arith, l .low);
-        high = omega arith;
-        same = l .same ∙ begun;
-        left = left-next bs i m all (waiting s) (itemAt cs row) rest (waiting w) (w .count) here (waiting v) (v .count) e f;
-      }
-
-    -- the end: a destination's row, or the last
-    abbrev pub Ended : Type 0
-    Ended =
-        ((w .count ≡ 1) × Stopped cs from past row) × ((ns : List ℕ) → Based bs ns → waiting w ≡ workedAll ns i m all (waiting s))
-
-    ended : Opens cs row past → leadFrom cs row (past - row) [] ≡ [] → Ended
+    ended : Opens cs row past → leadFrom cs row (past - row) [] ≡ [] → Ended row w
     ended o e =
         let z =
         left-end bs i m all (waiting s) (waiting w) (w .count)
         (subst (λ (xs : List Item). Left bs i m all (waiting s) xs (waiting w) (w .count)) e (l .left)) in
         ((z .0, record { low = l .low; high = l .high; opens = o; same = l .same }), z .1)
 
-    pub rows-met : row < past → kindAt cs row ≡ 1 → Ended
-    unfolding leadFrom
-    rows-met h e = let f : past - row ≡ suc (past - suc row) = omega arith in ended (λ k. e) (rw (f, eq-eqb (kindAt cs row) 1 e))
-
-    pub rows-end : past ≤ row → Ended
+    pub rows-end : past ≤ row → Ended row w
     unfolding leadFrom
     rows-end h = let e : past - row ≡ 0 = omega arith in ended (λ k. absurd (omega arith)) (rw e)
+
+    module _ (h : row < past) where
+      one : past - row ≡ suc (past - (row + 1))
+      one = omega arith
+
+      -- what a row did
+      abbrev Did : List Float → Step → Type 0
+      Did = Stepped bs i m (kindAt cs row) (arrayAt cs row) (valueAt cs row) (w .values) (w .count)
+
+      pub rows-met : (r : Step) (after : List Float) → Did after r → r ≡ step.Destination → Ended row (record { values = after; count = w .count })
+      unfolding leadFrom
+      rows-met r after d e =
+          let z = rw e at d in
+          rw (z .1) (ended (λ k. z .0) (rw (one, eq-eqb (kindAt cs row) 1 (z .0))))
+
+      -- an item
+      module _ (item : kindAt cs row ≡ 1 → ⊥) where
+        abbrev rest : List Item
+        rest = leadFrom cs (row + 1) (past - (row + 1)) []
+
+        split : leadFrom cs row (past - row) [] ≡ itemAt cs row ∷ rest
+        unfolding leadFrom
+        split = rw (one, ne-eqb (kindAt cs row) 1 item, add-one row)
+
+        begun : statementsFrom cs row (past - row) ≡ statementsFrom cs (row + 1) (past - (row + 1))
+        unfolding bodyFrom
+        begun = rw (one, ne-eqb (kindAt cs row) 1 item, add-one row)
+
+        here : Left bs i m all (waiting s) (itemAt cs row ∷ rest) (waiting w) (w .count)
+        here = subst (λ (xs : List Item). Left bs i m all (waiting s) xs (waiting w) (w .count)) split (l .left)
+
+        pub rows-ready : Ready bs i (length m) (itemAt cs row) (w .count)
+        rows-ready = left-ready bs i m all (waiting s) (itemAt cs row) rest (waiting w) (w .count) here
+
+      pub rows-next : (r : Step) (after : List Float) → Did after r → (e : ℕ) → r ≡ step.Item e → RowsLeft (row + 1) (record { values = after; count = e })
+      rows-next r after d e f =
+          let z = rw f at d in
+          record {
+            long = z .1;
+            low = omega (arith, l .low);
+            high = omega arith;
+            same = l .same ∙ begun (z .0);
+            left =
+                left-next bs i m all (waiting s) (itemAt cs row) (rest (z .0)) (waiting w) (w .count) (here (z .0)) (tops after e) e (z .2) (z .3);
+          }
 
 -- from where nothing waits to where one value does: it is at the bottom
 pub at-bottom : (xs : List Item) (ns : List ℕ) (i : ℕ) (m : List Float) (s w : Waiting) → s .count ≡ 0 → w .count ≡ 1
@@ -187,34 +200,40 @@ pub at-bottom : (xs : List Item) (ns : List ℕ) (i : ℕ) (m : List Float) (s w
 unfolding tops value
 at-bottom xs ns i m s w e f g = let z = rw (e, f) at g in ap (λ (l : List Float). getD l 0 nan) z
 
--- THE ITEM OF A ROW, OF KIND k, ARRAY q AND VALUE v, IN ITERATION i: the array then holds vs, e numbers of it
-module _ (bs : List ℕ) (i : ℕ) (m : List Float) (k q v : ℕ) (w : List Float) (d : ℕ) (ready : Ready bs i (length m) (itemOf k q v) d) where
-  abbrev Worked : List Float → ℕ → Type 0
-  Worked vs e = ((length vs ≡ 8) × (e ≡ next (itemOf k q v) d)) × ((ns : List ℕ) → Based bs ns → tops vs e ≡ worked ns i m (itemOf k q v) w)
+-- A ROW OF KIND k, ARRAY q AND VALUE v, IN ITERATION i: the n lowest of the values vs wait
+module _ (bs : List ℕ) (i : ℕ) (m : List Float) (k q v : ℕ) (vs : List Float) (n : ℕ) (ready : (k ≡ 1 → ⊥) → Ready bs i (length m) (itemOf k q v) n) where
+  abbrev After : List Float → Step → Type 0
+  After = Stepped bs i m k q v vs n
 
   module _ (kind : k ≡ 0) where
-    pub read-asks : (d < 8) × Element bs i (length m) q v
+    pub read-asks : (n < 8) × Element bs i (length m) q v
     unfolding Ready
-    read-asks = rw (item-read k q v kind) at ready
+    read-asks = rw (item-read k q v kind) at (ready (λ e. omega arith))
 
-    pub read-works : (x : Float) (vs : List Float) (e : ℕ) → x ≡ getD m (getD bs q 0 + (i + v - 255)) nan → Holds vs e (x ∷ w) (d + 1) → Worked vs e
+    pub read-works : (x : Float) (after : List Float) (e : ℕ) → x ≡ getD m (getD bs q 0 + (i + v - 255)) nan
+        → Holds after e (x ∷ tops vs n) (n + 1) → After after (step.Item e)
     unfolding next worked
-    read-works x vs e f g = rw (item-read k q v kind) ((g .0, g .2), λ ns b. rw (g .1, f, b q (omega (arith, read-asks .1 .0))))
+    read-works x after e f g =
+        rw (item-read k q v kind) (λ h. omega arith, g .0, g .2, λ ns b. rw (g .1, f, b q (omega (arith, read-asks .1 .0))))
 
   module _ (kind : k ≡ 2) where
-    pub constant-asks : d < 8
+    pub constant-asks : n < 8
     unfolding Ready
-    constant-asks = rw (item-constant k q v kind) at ready
+    constant-asks = rw (item-constant k q v kind) at (ready (λ e. omega arith))
 
-    pub constant-works : (x : Float) (vs : List Float) (e : ℕ) → x ≡ ofInt binary64 (pos v) → Holds vs e (x ∷ w) (d + 1) → Worked vs e
+    pub constant-works : (x : Float) (after : List Float) (e : ℕ) → x ≡ ofInt binary64 (pos v) → Holds after e (x ∷ tops vs n) (n + 1)
+        → After after (step.Item e)
     unfolding next worked
-    constant-works x vs e f g = rw (item-constant k q v kind) ((g .0, g .2), λ ns b. rw (g .1, f))
+    constant-works x after e f g = rw (item-constant k q v kind) (λ h. omega arith, g .0, g .2, λ ns b. rw (g .1, f))
 
-  module _ (not-read : k ≡ 0 → ⊥) (not-constant : k ≡ 2 → ⊥) where
-    pub operation-asks : (operands v ≤ d) × (d ≤ 8)
+  module _ (kind : 2 < k) where
+    is : itemOf k q v ≡ operation v
+    is = item-operation k q v (λ e. omega arith) (λ e. omega arith)
+
+    pub operation-asks : (operands v ≤ n) × (n ≤ 8)
     unfolding Ready
-    operation-asks = let z = rw (item-operation k q v not-read not-constant) at ready in (z .2, z .3)
+    operation-asks = let z = rw is at (ready (λ e. omega arith)) in (z .2, z .3)
 
-    pub operation-works : (vs : List Float) (e : ℕ) → Holds vs e (applied v w) (d - operands v + 1) → Worked vs e
+    pub operation-works : (after : List Float) (e : ℕ) → Holds after e (applied v (tops vs n)) (n - operands v + 1) → After after (step.Item e)
     unfolding next worked
-    operation-works vs e g = rw (item-operation k q v not-read not-constant) ((g .0, g .2), λ ns b. g .1)
+    operation-works after e g = rw is (λ h. omega arith, g .0, g .2, λ ns b. g .1)

@@ -2,5 +2,5 @@
 pub mod Stack
 -- what the code asks of items before it works them
 pub mod Workable
--- where the items of a statement end
+-- what a row does, and where the items of a statement end
 pub mod Stopped

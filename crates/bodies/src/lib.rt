@@ -7,12 +7,12 @@ ghost use lib.ListN.{length, getD};
 ghost use lib.IntN.{pos};
 ghost use lib.Ieee.{nan, binary64, ofInt};
 ghost use Rattle.records.specs.History.{operands};
-ghost use Rattle.model.specs.Bodies.{binary, negated, combined, applied, worked, workedAll, value};
+ghost use Rattle.model.specs.Bodies.{binary, negated, combined, applied, workedAll, value};
 ghost use Rattle.reader.specs.Store.{itemOf, leadFrom};
 ghost use Rattle.grounds.specs.Accepted.{Works};
 ghost use Rattle.bodies.specs.Stack.{tops, waiting, Holds};
-ghost use Rattle.bodies.specs.Workable.{Based, Element, ReadsWithin, Ready, next};
-ghost use Rattle.bodies.specs.Stopped.{Stopped};
+ghost use Rattle.bodies.specs.Workable.{Based, Element, ReadsWithin, Ready};
+ghost use Rattle.bodies.specs.Stopped.{Stepped, Stopped};
 
 // The values waiting in a body, with their count.
 pub struct Waiting {
@@ -30,6 +30,12 @@ pub struct Worked {
 pub struct Valued {
     pub value: f64,
     pub row: usize,
+}
+
+// What working a row did: an item leaves so many values waiting, and a destination nothing.
+enum Step {
+    Item(usize),
+    Destination,
 }
 
 // 1 add, 2 subtract, 3 multiply, 4 divide.
@@ -104,8 +110,8 @@ fn apply(vs: &mut [f64; 8], n: usize, op: u32) -> usize
     combine(vs, n, op)
 }
 
-// Works one item, of its row's kind, in iteration i.
-fn work_item(
+// Works a row of its kind, in iteration i. Reads and operations are told apart first, since bodies have more of them than of constants.
+fn work_row(
     vs: &mut [f64; 8],
     n: usize,
     kind: u32,
@@ -114,19 +120,21 @@ fn work_item(
     bases: &[u32; 17],
     i: usize,
     memory: &[f64],
-) -> usize
+) -> Step
     requires { ⌜ (i < 2 ^ 32) × (length (now vs) ≡ 8) ⌝ }
-    requires { ⌜ Ready (now bases) i (length (now memory)) (itemOf kind array value) n ⌝ }
-    ensures { λ r. ⌜ (length (now (vs .exit)) ≡ 8) × (r ≡ next (itemOf kind array value) n) ⌝ }
-    ensures { λ r. ⌜ ((ns : List ℕ) → Based (now (bases .entry)) ns → tops (now (vs .exit)) r ≡ worked ns i (now (memory .entry)) (itemOf kind array value) (tops (now (vs .entry)) n)) ⌝ }
+    requires { ⌜ ((kind ≡ 1 → ⊥) → Ready (now bases) i (length (now memory)) (itemOf kind array value) n) ⌝ }
+    ensures { λ r. ⌜ Stepped (now (bases .entry)) i (now (memory .entry)) kind array value (now (vs .entry)) n (now (vs .exit)) r ⌝ }
 {
     if kind == reader::READ {
-        return push(vs, n, element(array, value, bases, i, memory));
+        return Step::Item(push(vs, n, element(array, value, bases, i, memory)));
+    }
+    if reader::CONSTANT < kind {
+        return Step::Item(apply(vs, n, value));
     }
     if kind == reader::CONSTANT {
-        return push(vs, n, constant(value));
+        return Step::Item(push(vs, n, constant(value)));
     }
-    apply(vs, n, value)
+    Step::Destination
 }
 
 impl Waiting {
@@ -155,21 +163,27 @@ impl Waiting {
         ensures { λ r. ⌜ (r .waiting .count ≡ 1) × Stopped (now (store .entry)) from past (r .row) ⌝ }
         ensures { λ r. ⌜ ((ns : List ℕ) → Based (now (bases .entry)) ns → waiting (r .waiting) ≡ workedAll ns i (now (memory .entry)) (leadFrom (now (store .entry)) from (past - from) []) (waiting self)) ⌝ }
     {
-        let mut w = self;
+        let mut values = self.values;
+        let mut n = self.count;
         let mut row = from;
         while row < past {
-            let n = w.count;
             let kind = reader::kind_at(store, row);
-            if kind == reader::DESTINATION {
-                return Worked { waiting: w, row };
-            }
             let array = reader::array_at(store, row);
             let value = reader::value_at(store, row);
-            let next = work_item(&mut w.values, n, kind, array, value, bases, i, memory);
-            w.count = next;
-            row += 1;
+            let step = work_row(&mut values, n, kind, array, value, bases, i, memory);
+            match step {
+                Step::Item(next) => {
+                    n = next;
+                    row += 1;
+                }
+                Step::Destination => {
+                    let waiting = Waiting { values, count: n };
+                    return Worked { waiting, row };
+                }
+            }
         }
-        Worked { waiting: w, row }
+        let waiting = Waiting { values, count: n };
+        Worked { waiting, row }
     }
 }
 

@@ -124,3 +124,17 @@ module _ (cs bs : List ℕ) (from past i : ℕ) (m₀ : List Float) where
 
     pub rows-end : past ≤ row → (ns : List ℕ) → Based bs ns → m ≡ runAll (performed ns i) (left from) m₀
     rows-end h ns b = rw (none h) at (l .rest ns b)
+
+  -- the first of them
+  module _ (o : Opens cs from past) (a : Runnable bs i (length m₀) (left from)) (h : from < past) where
+    pub first-able : Performable bs i (length m₀) (statementAt cs from (past - suc from) [])
+    first-able = rows-able from m₀ (rows-start o a) h
+
+    pub first-next : (next : ℕ) → Stopped cs (suc from) past next → (n : List Float) → length n ≡ length m₀
+        → ((ns : List ℕ) → Based bs ns → n ≡ performed ns i (statementAt cs from (past - suc from) []) m₀) → RowsLeft next n
+    first-next = rows-next from m₀ (rows-start o a) h
+
+-- what is left is a start
+pub rows-again : (cs bs : List ℕ) (from past i : ℕ) (m₀ : List Float) (row : ℕ) (m : List Float) → RowsLeft cs bs from past i m₀ row m
+    → RowsLeft cs bs row past i m row m
+rows-again cs bs from past i m₀ row m l = rows-start cs bs row past i m (l .opens) (rw (l .long) (l .able))

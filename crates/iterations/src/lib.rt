@@ -96,7 +96,8 @@ fn run_statement(
     x.row
 }
 
-// Iteration i of the statements in the rows from `from` up to `past`, each stored before the next begins.
+// Iteration i of the statements in the rows from `from` up to `past`, each stored before the next begins. The first stands before the loop: what
+// it asks of its row is then asked once for all iterations of a loop, and most loops have no other.
 pub fn run_rows(
     store: &Store,
     bases: &[u32; 17],
@@ -109,7 +110,10 @@ pub fn run_rows(
     requires { ⌜ Runnable (now bases) i (length (now memory)) (statementsFrom (now store) from (past - from)) ⌝ }
     ensures { λ _. ⌜ ((ns : List ℕ) → Based (now (bases .entry)) ns → now (memory .exit) ≡ runAll (performed ns i) (statementsFrom (now (store .entry)) from (past - from)) (now (memory .entry))) ⌝ }
 {
-    let mut row = from;
+    if past <= from {
+        return;
+    }
+    let mut row = run_statement(store, bases, from, past, i, memory);
     while row < past {
         row = run_statement(store, bases, row, past, i, memory);
     }
