@@ -1,9 +1,8 @@
 use denote.Ref.{now}
 use native.Mathlib.Omega.{arith}
 use mathlib.Core.Path.{refl}
-use Prim.Native.Nat.{_-_}
-use Rattle.reader.specs.Held.{count-held}
-use Rattle.reader.specs.RowLaws.{last-few}
+use Prim.Native.Nat.{suc, _-_}
+use Rattle.reader.specs.Held.{count-held, few-rows}
 use Rattle.legality.proofs.Laws.{count-few, LastsTo, lasts-next}
 use Rattle.legality.proofs.last_destinations.Statement.{statement}
 use Rattle.legality.proofs.last_destinations.Tie as tie
@@ -25,8 +24,8 @@ last-destination-requires c κs =
 narrow-requires : tie.Need-narrow-requires Inv-loop μ-loop
 narrow-requires c κs =
     let p = c .before .before .before .before .pre in
-    let few = last-few p (c .before .before .loop .k) (omega (arith, c .before .loop-test .taken, c .before .before .before .loops-in .ensures, count-held p)) _ (c .last-destination .ensures) in
-    omega (arith, few)
+    let few = few-rows p (suc (c .before .before .loop .k)) (omega (arith, c .before .loop-test .taken, c .before .before .before .loops-in .ensures, count-held p)) in
+    omega (arith, few, c .last-destination .ensures .before)
 
 -- a loop's number is one of sixteen
 mul-lasts : tie.Need-mul-lasts Inv-loop μ-loop
