@@ -13,8 +13,8 @@ import os
 import re
 import sys
 
-# One part of a name between dashes.
-PART = re.compile(r"[A-Za-z_][A-Za-z0-9_']*")
+# One part of a name between dashes; numerals are passed over whole.
+PART = re.compile(r"(?<![A-Za-z0-9_'])[A-Za-z_][A-Za-z0-9_']*")
 CAMEL = re.compile(r"^[a-z][A-Za-z0-9_']*[a-z0-9][A-Z]")
 # Lemmas and fields, in .antt files alone, that would otherwise fall together with the word that they speak of.
 APART = {w: w + "_lem" for w in ("goes_on", "left_by", "no_loop", "none_done", "some_of", "too_long", "zero_by_zero")}

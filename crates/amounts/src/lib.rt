@@ -23,14 +23,14 @@ use model::Reference;
 use records::Store;
 
 // The amounts of shifting and peeling, for each loop a shift and a peel; 0 past the last loop.
-#[derive(Drop)]
+#[derive(Clone, Copy)]
 pub struct Amounts {
     pub shifts: [u32; 16],
     pub peels: [u32; 16],
 }
 
 // What a walk leaves: the amounts, and how many steps it has made.
-#[derive(Drop)]
+#[derive(Clone, Copy)]
 struct Totals {
     shifts: [u32; 16],
     peels: [u32; 16],

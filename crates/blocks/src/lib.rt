@@ -7,21 +7,21 @@ ghost use Rattle.blocks.specs.Code.{part_of};
 use arithmetic::{greater, lesser, minus};
 
 // The indices from `from` up to `past`, `past` not among them.
-#[derive(Drop)]
+#[derive(Clone, Copy)]
 pub struct Range {
     pub from: u32,
     pub past: u32,
 }
 
 // `count` indices from `first` on.
-#[derive(Drop)]
+#[derive(Clone, Copy)]
 pub struct Span {
     pub first: u32,
     pub count: u32,
 }
 
 // A plan along one index: the `count` indices from `first` on, in lines of `line`, are cut into `blocks` blocks, and each loop has a shift and a peel.
-#[derive(Drop)]
+#[derive(Clone, Copy)]
 pub struct Axis {
     pub first: u32,
     pub count: u32,
@@ -130,7 +130,7 @@ pub fn peeled_part(own: Range, blk: Range, blocks: u32, b: u32, shift: u32, peel
 }
 
 // Which part of a loop is meant.
-#[derive(Drop)]
+#[derive(Clone, Copy)]
 pub enum Part {
     Fused,
     Peeled,

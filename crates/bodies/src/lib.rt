@@ -13,28 +13,28 @@ ghost use Rattle.bodies.specs.Stopped.{Stepped, Stopped};
 use records::Store;
 
 // The values waiting in a body, with their count.
-#[derive(Drop)]
+#[derive(Clone, Copy)]
 pub struct Waiting {
     pub values: [f64; 8],
     pub count: usize,
 }
 
 // What then waits, and the row at which the items ended.
-#[derive(Drop)]
+#[derive(Clone, Copy)]
 pub struct Worked {
     pub waiting: Waiting,
     pub row: usize,
 }
 
 // The value of a body, and the row at which its items ended.
-#[derive(Drop)]
+#[derive(Clone, Copy)]
 pub struct Valued {
     pub value: f64,
     pub row: usize,
 }
 
 // What working a row did: an item leaves so many values waiting, and a destination nothing.
-#[derive(Drop)]
+#[derive(Clone, Copy)]
 enum Step {
     Item(usize),
     Destination,

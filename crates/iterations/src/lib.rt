@@ -13,7 +13,7 @@ ghost use Rattle.iterations.specs.Runnable.{Performable, Runnable};
 use records::Store;
 
 // Where each array begins in the memory; past the last one, where the memory ends.
-#[derive(Drop)]
+#[derive(Clone, Copy)]
 pub struct Bases {
     pub firsts: [u32; 17],
 }

@@ -51,7 +51,7 @@ pub record Known : Type 0 where
   pub single-eleven : refusal_of (planned single (settings 11)) ≡ met 11 0
   -- 0 divided by 0 stores 7FF8000000000000
   pub zero_by_zero_lem : plain_memory zero_by_zero (whole 1 ∷ []) ≡ nan ∷ []
-  pub nan-bits : to_bits binary64 nan ≡ 0x7_fF8000000000000
+  pub nan-bits : to_bits binary64 nan ≡ 0x7FF8000000000000
 
 pub known : Known
 unfolding refusal_for element bits

@@ -26,7 +26,7 @@ const MOST: u32 = 10000;
 const NO_PAIR: usize = 256;
 
 // A plan by hand: what is refused; and where nothing is, its numbers.
-#[derive(Drop)]
+#[derive(Clone, Copy)]
 pub struct Hand {
     pub refusal: Refusal,
     pub amounts: Amounts,

@@ -57,4 +57,4 @@ module _ (t : Table) (c : Fusion) (before after : ℕ) where
 
 -- a refusal is the single line `refused`, number, place
 unfoldable pub refusal_line : ℕ → ℕ → List ℕ
-refusal_line ground place = line (ascii "refused") (ground ∷ place ∷ [])
+refusal_line number place = line (ascii "refused") (number ∷ place ∷ [])

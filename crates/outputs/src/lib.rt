@@ -6,7 +6,7 @@ ghost use Rattle.outputs.specs.Gives.{refusing, writing};
 use refusals::{BUFFER, Refusal};
 
 // The refusal, and how many bytes are written.
-#[derive(Drop)]
+#[derive(Clone, Copy)]
 pub struct Outcome {
     pub refusal: Refusal,
     pub written: usize,

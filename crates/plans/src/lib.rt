@@ -26,7 +26,7 @@ const LONGEST_LINE: u32 = 64;
 // What settles the lists beside the table: the count of processors, how many indices a line has, and a plan by hand, if one is given: how many
 // bytes it has, and the bytes. The exported functions take it as it stands.
 #[repr(C)]
-#[derive(Drop)]
+#[derive(Clone, Copy)]
 pub struct Settings {
     pub processors: u32,
     pub line: u32,
@@ -36,7 +36,7 @@ pub struct Settings {
 }
 
 // The plan: what is refused; and where nothing is, the plan along the index, for the table in the store.
-#[derive(Drop)]
+#[derive(Clone, Copy)]
 pub struct Plan {
     pub refusal: Refusal,
     pub axis: Axis,
@@ -203,7 +203,7 @@ pub fn plan_for(s: &[u8], w: Settings, processor: u32, store: &mut Store) -> Pla
 }
 
 // What asking for a plan tells: what it is refused with, and where nothing is, the plan's threshold.
-#[derive(Drop)]
+#[derive(Clone, Copy)]
 pub struct Asked {
     pub refusal: Refusal,
     pub threshold: u64,

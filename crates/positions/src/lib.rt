@@ -13,14 +13,14 @@ use arithmetic::{larger, length_of, smaller, wide};
 use model::Iteration;
 
 // A sum, and how many iterations of that sum come before the one that is sought.
-#[derive(Drop)]
+#[derive(Clone, Copy)]
 pub struct Position {
     pub sum: usize,
     pub before: usize,
 }
 
 // A search: the sums from low up to high have the n-th iteration, `under` have a sum below low.
-#[derive(Drop)]
+#[derive(Clone, Copy)]
 pub struct Search {
     pub low: usize,
     pub high: usize,
@@ -30,7 +30,7 @@ pub struct Search {
 
 // From the sum `from` up to `past`, past not among them, every loop that has iterations is at work. So the count is a straight line
 // there: slope * t - offset iterations have a sum below t.
-#[derive(Drop)]
+#[derive(Clone, Copy)]
 pub struct Line {
     pub from: usize,
     pub past: usize,

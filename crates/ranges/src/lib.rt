@@ -23,7 +23,7 @@ pub const PHASE: usize = 48;
 pub const PHASES: u32 = 2;
 
 // How many iterations a processor's two lists have.
-#[derive(Drop)]
+#[derive(Clone, Copy)]
 pub struct Lengths {
     pub fused: u32,
     pub peeled: u32,

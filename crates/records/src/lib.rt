@@ -18,7 +18,7 @@ pub const STORE: usize = ROWS_AT + ROW * MOST_ROWS + 2;
 
 pub type Store = [u32; STORE];
 
-#[derive(Drop)]
+#[derive(Clone, Copy)]
 pub enum Kind {
     Unknown,
     Array,
@@ -31,7 +31,7 @@ pub enum Kind {
 }
 
 // A record with its fields. An offset o is kept as o + 255.
-#[derive(Drop)]
+#[derive(Clone, Copy)]
 pub enum Record {
     Unknown,
     Array(u32),
@@ -56,7 +56,7 @@ pub enum Record {
 
 // What the tests look at in the records before: counts of arrays, of elements in all and of loops; of the latest loop its first and
 // last, how many statements and items it has, and how many numbers wait in its latest statement.
-#[derive(Drop)]
+#[derive(Clone, Copy)]
 pub struct Summary {
     pub arrays: u32,
     pub elements: u32,
@@ -69,7 +69,7 @@ pub struct Summary {
 }
 
 // What the tests of the record at a place find: a refusal there, or the record and the place after it, or that it is the end record.
-#[derive(Drop)]
+#[derive(Clone, Copy)]
 pub enum Tested {
     Refused(Refusal),
     Passed(Record, usize),

@@ -5,11 +5,11 @@ use Rattle.refusals.specs.declared.Refusal.{Refusal}
 
 -- two numbers are named
 abbrev pub naming : ℕ → ℕ → ℕ → ℕ → Refusal
-naming ground place first second = record { ground = ground; place = place; first = first; second = second }
+naming number place first second = record { ground = number; place = place; first = first; second = second }
 
 -- nothing is named
 abbrev pub met : ℕ → ℕ → Refusal
-met ground place = naming ground place 0 0
+met number place = naming number place 0 0
 
 -- what is told where nothing is refused
 abbrev pub none : Refusal

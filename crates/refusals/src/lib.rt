@@ -41,7 +41,7 @@ pub const UNMET: u32 = 20;
 
 // The ground's number, 0 where nothing is refused; the place; and what is named, two numbers: of 9 the read, and 0; of 20, whose
 // place is the earlier loop, the later loop, and 0; else 0 and 0.
-#[derive(Drop)]
+#[derive(Clone, Copy)]
 pub struct Refusal {
     pub ground: u32,
     pub place: usize,

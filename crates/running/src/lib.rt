@@ -25,14 +25,14 @@ use stepping::Report;
 use steps::Counts;
 
 // What a run answers: what is refused, and how many calls were idle.
-#[derive(Drop)]
+#[derive(Clone, Copy)]
 pub struct Ran {
     pub refusal: Refusal,
     pub idle: usize,
 }
 
 // What the calls of an order leave: the counts, and how many of them were idle.
-#[derive(Drop)]
+#[derive(Clone, Copy)]
 struct Taken {
     counts: Counts,
     idle: usize,

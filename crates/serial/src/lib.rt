@@ -19,7 +19,7 @@ use refusals::{Refusal, SERIAL};
 
 // Whether two references of a loop meet in two different iterations, one of them storing; and which: their numbers among the loop's references,
 // which are counted from 0 in byte order, the lower one first.
-#[derive(Drop)]
+#[derive(Clone, Copy)]
 pub enum Collision {
     Nothing,
     Pair(usize, usize),

@@ -2,7 +2,7 @@
 use refusals::Refusal;
 
 // What a call reports: its refusal, the loop and the iteration that it performed, that its processor waits, or that it is finished.
-#[derive(Drop)]
+#[derive(Clone, Copy)]
 pub enum Report {
     Refused(Refusal),
     Performed { number: usize, index: usize },

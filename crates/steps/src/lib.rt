@@ -25,13 +25,13 @@ use refusals::{MEMORY, PROCESSORS, Refusal, STATE};
 use stepping::Report;
 
 // How many iterations each processor has done.
-#[derive(Drop)]
+#[derive(Clone, Copy)]
 pub struct Counts {
     pub done: [u32; 64],
 }
 
 // The counts after a step, and what it reports.
-#[derive(Drop)]
+#[derive(Clone, Copy)]
 pub struct Stepped {
     pub counts: Counts,
     pub report: Report,

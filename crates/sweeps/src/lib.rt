@@ -11,14 +11,14 @@ use arithmetic::wide;
 use records::Store;
 
 // Before: the sizes of both sets summed over all loops. After: the sizes of the two unions.
-#[derive(Drop)]
+#[derive(Clone, Copy)]
 pub struct Sweeps {
     pub before: u32,
     pub after: u32,
 }
 
 // What the loops so far give: the sizes of their sets summed, and the unions of their sets.
-#[derive(Drop)]
+#[derive(Clone, Copy)]
 struct Totals {
     before: u32,
     touched: u16,
@@ -26,7 +26,7 @@ struct Totals {
 }
 
 // The arrays that some rows touch, and those that they write.
-#[derive(Drop)]
+#[derive(Clone, Copy)]
 struct Sets {
     touched: u16,
     written: u16,

@@ -8,15 +8,11 @@ use lib.Dec.{lit<}
 use Rattle.marks.specs.Marks.{marked}
 use Rattle.marks.proofs.Laws.{marked-or, marked-one}
 use borrow.Author.Rules.{rules}
-use Rattle.marks.proofs.with_mark.Statement.{statement}
-use Rattle.marks.proofs.with_mark.Tie as tie
+use Rattle.marks.proofs.with_mark.Goals as goal
 
-returns : tie.Need-returns
+pub returns : goal.returns
 returns c p =
     let m = c.args.m in
     let q = c.args.q in
     let shifted : 1 * 2 ^ q % 65536 ≡ 2 ^ q = shl_exact 1 q 16 (lit< tt) (omega arith) ∙ one-mul (2 ^ q) in
     marked-or m (1 * 2 ^ q % 65536) p ∙ ap (λ (b : Bool). marked m p || b) (ap (λ (n : ℕ). marked n p) shifted ∙ marked-one q p)
-
-pub with-mark-spec : {M : Type 1} → statement M
-with-mark-spec = tie.close (tie.spec (λ c. search rules) (λ c. search rules) returns)

@@ -1,0 +1,262 @@
+#!/usr/bin/env python3
+"""Turns the walked proofs of a crate, proofs/F/Proof.antt, into Invariants.antt and Answers.antt, once, after port.py.
+
+usage: tools/answers.py CRATE NAMES     NAMES: the names.json that `rt check --generated FOLDER --old-names` writes in the crate
+
+A goal gets today's name, a step of the code too, and the chain .before.before falls away. What it can't place is marked LOST_.
+"""
+
+import json
+import os
+import re
+import sys
+
+IDENT = r"[^\s(){}\[\].,;:]+"
+ROOTS = {"args", "requires", "ranges", "type_inv", "utf8", "well_formed"}
+
+
+def norm(s):
+    return s.replace("_", "-").lower()
+
+
+def need_key(s):
+    s = norm(s)
+    return s[len("overflow-"):] if s.startswith("overflow-") else s
+
+
+def blocks(text):
+    """The use lines, and the declarations: each with its comments, its name, its signature and its body."""
+    uses, items, comment, lines = [], [], [], text.split("\n")
+    k = 0
+    while k < len(lines):
+        l = lines[k]
+        if l.startswith("use ") or l.startswith("pub use "):
+            uses.append(l)
+            k += 1
+        elif not l.strip():
+            k += 1
+        elif l.startswith("--"):
+            comment.append(l)
+            k += 1
+        else:
+            m = re.match(r"^((?:abbrev |unfoldable )?(?:pub )?)(" + IDENT + r") :(?: |$)", l)
+            if not m:
+                items.append([comment, None, [l]])
+                comment = []
+                k += 1
+                while k < len(lines) and (lines[k].startswith(" ") or lines[k] == ""):
+                    if lines[k]:
+                        items[-1][2].append(lines[k])
+                    k += 1
+                continue
+            name, own = m.group(2), [l]
+            k += 1
+            while k < len(lines) and (lines[k] == "" or lines[k].startswith((" ", "unfolding", ")")) or re.match(re.escape(name) + r"(\s|$)", lines[k])):
+                if lines[k] == "":
+                    # A blank line ends the declaration, unless its own text goes on.
+                    nxt = next((x for x in lines[k + 1:] if x), "")
+                    if not nxt.startswith(" ") and not re.match(re.escape(name) + r"(\s|$)", nxt):
+                        break
+                else:
+                    own.append(lines[k])
+                k += 1
+            items.append([comment, name, own])
+            comment = []
+    return uses, items
+
+
+class Steps:
+    def __init__(self, d):
+        self.before = {p[0]: p[1] for p in d["places"]}
+        self.field = {p[0]: p[2] for p in d["places"]}
+        self.new_arm = {}
+        for arm in d["arms"]:
+            if arm:
+                for f, old, path in arm[2]:
+                    self.new_arm.setdefault(norm(old), []).append((arm[0], f, path))
+        self.d = d
+
+    def back(self, place, n):
+        for _ in range(n):
+            place = self.before.get(place) or place
+        return place
+
+    def chain(self, place):
+        while place:
+            yield place
+            place = self.before.get(place)
+
+    def turn(self, place, rest):
+        """c.REST at the place, as today's path; None where no step has that name."""
+        first = rest[0]
+        if first in ROOTS:
+            return ["c"] + rest
+        for p in self.chain(place):
+            old, new = self.field[p]
+            if old and norm(old) == norm(first):
+                for arm, f, path in self.new_arm.get(norm(old), []):
+                    if rest[1:1 + len(path)] == path:
+                        return ["c", arm, f] + rest[1 + len(path):]
+                return ["c", new] + rest[1:]
+        return None
+
+
+PATH = re.compile(r"(?<![\w'.\-₀-₉])(" + r"[A-Za-z_][\w'₀-₉-]*" + r")((?:\.[\w'₀-₉λκ-]+)+)")
+
+
+def paths(body, steps, place):
+    """The body with each path from c, or from a name bound to a chain of c's, in today's form."""
+    alias = {"c": place}
+    lost = 0
+
+    def bind(m):
+        nonlocal lost
+        name, who, tail = m.group(1), m.group(2), [x for x in m.group(3).split(".") if x]
+        if who in alias and all(x == "before" for x in tail):
+            alias[name] = steps.back(alias[who], len(tail))
+            return ""
+        return m.group(0)
+
+    out, pos = [], 0
+    # Bindings come before their uses, so one pass over the text serves.
+    token = re.compile(r"let (\w+) = (\w+)((?:\.before)*) in ?|" + PATH.pattern)
+    for m in token.finditer(body):
+        out.append(body[pos:m.start()])
+        pos = m.end()
+        if m.group(1):
+            if m.group(2) in alias:
+                alias[m.group(1)] = steps.back(alias[m.group(2)], m.group(3).count(".before"))
+                if m.group(1) == "c":
+                    out.append(m.group(0))
+            else:
+                out.append(m.group(0))
+            continue
+        who, tail = m.group(4), m.group(5).split(".")[1:]
+        if who not in alias:
+            out.append(m.group(0))
+            continue
+        p = alias[who]
+        n = 0
+        while n < len(tail) and tail[n] == "before":
+            n += 1
+        if n == len(tail):
+            out.append("LOST_" + m.group(0))
+            lost += 1
+            continue
+        t = steps.turn(steps.back(p, n), tail[n:])
+        if t is None:
+            out.append("LOST_" + m.group(0))
+            lost += 1
+        else:
+            out.append(".".join(t))
+    out.append(body[pos:])
+    text = "".join(out)
+    text = re.sub(r"\n[ \t]+\n", "\n", "\n" + text)[1:]
+    # A bare name of a record that is gone.
+    for a in alias:
+        if a != "c" and re.search(r"(?<![\w.'-])" + a + r"(?![\w'-])", text):
+            text = re.sub(r"(?<![\w.'-])" + a + r"(?![\w'.-])", "c", text)
+    return text, lost
+
+
+def loop_of(d, name):
+    for k, ((old, new), variables) in enumerate(d["loops"]):
+        if norm(old) == norm(name):
+            return new, variables, d["changed"][k]
+    return None
+
+
+def invariant(kind, name, own, d):
+    """One invariant or measure, over l."""
+    new, variables, changed = loop_of(d, name)
+    text = "\n".join(own[1:])
+    m = re.match(r"\s*" + re.escape(kind + "-" + name) + r"((?:\s+" + IDENT + r")*)\s*=(.*)", text, re.S)
+    unf = "".join(l + "\n" for l in own[1:] if l.startswith("unfolding"))
+    if unf:
+        text = "\n".join(l for l in own[1:] if not l.startswith("unfolding"))
+        m = re.match(r"\s*" + re.escape(kind + "-" + name) + r"((?:\s+" + IDENT + r")*)\s*=(.*)", text, re.S)
+    params, body = m.group(1).split(), m.group(2)
+    want = [("l.initial." if c else "l.") + v for v, c in zip(variables, changed)] + ["l." + v for v, c in zip(variables, changed) if c]
+    note = "" if len(params) == len(want) else f"-- LOST_parameters {params} {want}\n"
+    for p, w in sorted(zip(params, want), key=lambda x: -len(x[0])):
+        if p != "_":
+            body = re.sub(r"(?<![\w.'₀-₉-])" + re.escape(p) + r"(?![\w'₀-₉-])", w.replace("\\", ""), body)
+    body = re.sub(r"(l\.[\w.]+)\.now\b", r"\1", body)
+    return note + f"abbrev pub {kind}-{new} : goal.{kind}-{new}\n" + unf + f"{kind}-{new} l ={body}"
+
+
+def turn(crate, folder, d):
+    path = os.path.join(folder, "Proof.antt")
+    with open(path, encoding="utf-8") as f:
+        uses, items = blocks(f.read())
+    steps = Steps(d)
+    asked = {need_key(o): (n, a[0]) for (o, n), a in zip(d["needs"], d["asked_at"])}
+    inv, ans, lost, helpers = [], [], 0, []
+    for comment, name, own in items:
+        sig = own[0]
+        head = "".join(c + "\n" for c in comment)
+        m = re.search(r": tie\.(invariant|decreases)-([\w-]+)", sig)
+        if m:
+            inv.append(head + invariant(m.group(1), m.group(2), own, d))
+            continue
+        m = re.search(r": tie\.Need-([\w-]+)", sig)
+        if m:
+            key = need_key(m.group(1))
+            if key not in asked:
+                ans.append(head + "-- LOST_GOAL " + m.group(1) + "\n" + "\n".join("-- " + l for l in own))
+                lost += 1
+                continue
+            new, place = asked[key]
+            unf = [l for l in own[1:] if l.startswith("unfolding") or (l.startswith("    ") and own[own.index(l) - 1].startswith("unfolding"))]
+            body = "\n".join(l for l in own[1:] if l not in unf)
+            m2 = re.match(re.escape(name) + r"\s+(\S+)((?:\s+" + IDENT + r")*?)\s*=(.*)", body, re.S)
+            if not m2:
+                ans.append(head + "-- LOST_GOAL " + m.group(1) + "\n" + "\n".join("-- " + l for l in own))
+                lost += 1
+                continue
+            extra = m2.group(2).replace("κs", "").strip()
+            rest = m2.group(3)
+            if not unf and re.fullmatch(r"\s*search rules\s*|\s*omega arith\s*", rest):
+                continue
+            rest, n = paths(rest, steps, place)
+            lost += n
+            c = m2.group(1)
+            ans.append(head + f"pub {new} : goal.{new}\n" + "".join(l + "\n" for l in unf) + f"{new} {c}{' ' + extra if extra else ''} ={rest}")
+            continue
+        if re.search(r"M : Type 1\} → statement M", sig):
+            continue
+        text = "\n".join(own)
+        if "tie." in text:
+            lost += 1
+            text = "-- LOST_HELPER\n" + text
+        helpers.append(head + text)
+    mine = os.path.relpath(folder, os.path.join("crates", crate, "proofs")).replace("/", ".")
+    kept = [u for u in uses if not re.search(r"\.Statement\.\{statement\}|\.Tie as tie$", u)]
+    goal = f"use Rattle.{crate}.proofs.{mine}."
+    if inv:
+        with open(os.path.join(folder, "Invariants.antt"), "w", encoding="utf-8") as f:
+            f.write("\n".join(kept + [goal + "Given as goal"]) + "\n\n" + "\n\n".join(inv) + "\n")
+    if ans or helpers:
+        with open(os.path.join(folder, "Answers.antt"), "w", encoding="utf-8") as f:
+            f.write("\n".join(kept + [goal + "Goals as goal"]) + "\n\n" + "\n\n".join(helpers + ans) + "\n")
+    os.remove(path)
+    return lost
+
+
+def main(argv):
+    crate, names = argv
+    with open(names, encoding="utf-8") as f:
+        d = json.load(f)
+    for folder, dirs, fs in os.walk(os.path.join("crates", crate, "proofs")):
+        if "Proof.antt" not in fs:
+            continue
+        mine = os.path.relpath(folder, os.path.join("crates", crate, "proofs")).replace("/", ".")
+        key = f"Rattle-{crate}-proofs.{mine}.Lts"
+        if key not in d:
+            print("answers: no names for", mine)
+            continue
+        lost = turn(crate, folder, d[key])
+        print("answers:", mine, "lost", lost) if lost else None
+
+
+main(sys.argv[1:])
