@@ -93,7 +93,7 @@ class Steps:
             return ["c"] + rest
         for p in self.chain(place):
             old, new = self.field[p]
-            if old and norm(old) == norm(first):
+            if old and norm(old) in (norm(first), norm(re.sub("_lem$", "", first))):
                 for arm, f, path in self.new_arm.get(norm(old), []):
                     if rest[1:1 + len(path)] == path:
                         return ["c", arm, f] + rest[1 + len(path):]

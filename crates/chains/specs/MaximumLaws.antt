@@ -37,7 +37,7 @@ maximum-same f g [] e = refl
 maximum-same f g (x ∷ xs) e = rw (e x (mhere refl), maximum-same f g xs (λ y m. e y (mthere m)))
 
 -- none is larger
-pub maximum-upper : {A : Type 0} (f : A → ℕ) {xs : List A} {x : A} → Mem x xs → f x ≤ maximum f xs
+pub maximum-upper : {A : Type 0} (f : A → ℕ) {x : A} {xs : List A} → Mem x xs → f x ≤ maximum f xs
 unfolding maximum
 maximum-upper f (mhere {x = z} {xs = l} e) = rw e (le-max_left (f z) (maximum f l))
 maximum-upper f (mthere {x = z} {xs = l} m) = le_trans (maximum-upper f m) (le-max_right (f z) (maximum f l))

@@ -36,6 +36,7 @@ module _ {R : Type 0} where
   placed-from i (z ∷ xs) x m = ⊎_elim (λ e. rw e (omega arith)) (λ n. omega (arith, placed-from (suc i) xs x n)) (cases_cons m)
 
   pub placed-rise : (i : ℕ) (xs : List R) (x y : Placed R) → Before x y (placed_from i xs) → x.position < y.position
+  placed-rise i [] x y x3 = elim x3 [ ]
   placed-rise i (z ∷ xs) x y (bhere e m) = rw e (placed-from (suc i) xs y m)
   placed-rise i (z ∷ xs) x y (bthere b) = placed-rise (suc i) xs x y b
 
@@ -85,11 +86,13 @@ module _ {R : Type 0} where
 
   -- which pair stands before which
   before-pairs_to : (y : Placed R) (xs : List (Placed R)) {p q : Pair R} → Before p q (pairs_to y xs) → Before p.earlier q.earlier xs
+  before-pairs_to y [] {p = p} {q = q} x' = elim x' [ ]
   before-pairs_to y (x ∷ xs) {p} {q} (bhere e m) = bhere (ap (λ (r : Pair R). r.earlier) e) ((pairs_to-mem y xs q).0 m).0
   before-pairs_to y (x ∷ xs) (bthere b) = bthere (before-pairs_to y xs b)
 
   before-pairs : (xs ys : List (Placed R)) (p q : Pair R) → Before p q (pairs xs ys)
       → (Before p.earlier q.earlier xs × (p.later ≡ q.later)) ⊎ Before p.later q.later ys
+  before-pairs xs [] p q b = elim b [ ]
   before-pairs xs (y ∷ ys) p q b =
       ⊎_elim
       (λ h. inl (before-pairs_to y xs h, ((pairs_to-mem y xs p).0 (before-left h)).1 ∙ sym ((pairs_to-mem y xs q).0 (before-right h)).1))
@@ -106,6 +109,7 @@ module _ {R : Type 0} where
       ⊎_elim (λ e. mhere (ap (λ (q : Placed R). q.reference) e)) (λ n. mthere (placed-reference (suc i) xs x n)) (cases_cons m)
 
   before-reference : (i : ℕ) (xs : List R) (x y : Placed R) → Before x y (placed_from i xs) → Before x.reference y.reference xs
+  before-reference i [] x y x3 = elim x3 [ ]
   before-reference i (z ∷ xs) x y (bhere e m) = bhere (ap (λ (q : Placed R). q.reference) e) (placed-reference (suc i) xs y m)
   before-reference i (z ∷ xs) x y (bthere b) = bthere (before-reference (suc i) xs x y b)
 

@@ -27,6 +27,7 @@ actions-mem x ss (mthere {x = waits} {xs = l} m) = actions-mem x l m
 actions-mem x ss (mthere {x = ends} {xs = l} m) = actions-mem x l m
 
 pub mem-actions : {A : Type 0} (x : A) (ss : List (Said A)) → Mem x (actions_of ss) → Mem (performs x) ss
+mem-actions {A = A} x mathlib.Core.List.[] m = elim m [ ]
 mem-actions x (refuses r ∷ ss) m = mthere (mem-actions x ss m)
 mem-actions x (performs y ∷ ss) m =
     ⊎_elim (λ (e : x ≡ y). mhere (ap performs e)) (λ h. mthere (mem-actions x ss h)) (Memᴰ.cases_cons m)

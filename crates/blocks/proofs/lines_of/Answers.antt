@@ -1,0 +1,7 @@
+use Rattle.blocks.specs.LineLaws.{lines_at}
+use borrow.Author.Rules.{rules}
+use Rattle.blocks.proofs.lines_of.Goals as goal
+
+-- `blocks::lines_of` meets its contract. Assumes nothing.
+pub returns : goal.returns
+returns c = lines_at c.args.count c.args.line

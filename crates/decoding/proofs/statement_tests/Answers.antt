@@ -1,0 +1,18 @@
+use Rattle.records.specs.Grounds.{fields}
+use borrow.Author.Tests.{lt-ltb, le-ltb, le-leb, lt-leb}
+use borrow.Author.Rules.{rules}
+use Rattle.decoding.proofs.statement_tests.Goals as goal
+
+pub returns-then-t-q : goal.returns-then-t-q
+unfolding fields
+returns-then-t-q c = simp (le-leb _ _ c.if-t-q.true)
+
+pub returns-then-o-gt-MOST_OFFSET : goal.returns-then-o-gt-MOST_OFFSET
+unfolding fields
+returns-then-o-gt-MOST_OFFSET c = simp (lt-leb _ _ c.if-t-q.false, lt-ltb _ _ c.if-o-gt-MOST_OFFSET.true)
+
+pub returns : goal.returns
+unfolding fields
+returns c =
+    simp (lt-leb _ _ c.if-t-q.false, le-ltb _ _ c.if-o-gt-MOST_OFFSET.false, ← c.wide-at.ensures.0)
+    c.edge_ground.ensures

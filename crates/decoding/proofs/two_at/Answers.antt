@@ -1,0 +1,8 @@
+use Rattle.records.specs.Bytes.{two}
+use native.Mathlib.Omega.{arith}
+use borrow.Author.Rules.{rules}
+use Rattle.decoding.proofs.two_at.Goals as goal
+
+pub returns : goal.returns
+unfolding two
+returns c = omega arith

@@ -1,0 +1,46 @@
+use native.Mathlib.Omega.{arith}
+use mathlib.Core.Path.{sym, ap, ◌∙◌}
+use native.Mathlib.Numerals.{add-one}
+use Rattle.reader.specs.Store.{start_at}
+use Rattle.reader.specs.Held.{count_held, few-loops, rows-rise}
+use Rattle.reader.specs.Rows.{NoneBehind}
+use Rattle.reader.specs.RowLaws.{behind-last, behind-few, behind-before, last_found, first_found}
+use Rattle.reader.proofs.last_destination.Goals as goal
+
+pub start_at-start-requires : goal.start_at-start-requires
+start_at-start-requires c = omega (arith, count_held c.requires.0, few-loops c.requires.0, c.requires.1)
+
+pub overflow_add-k : goal.overflow_add-k
+overflow_add-k c = let p = c.requires in omega (arith, count_held p.0, few-loops p.0, p.1)
+
+pub start_at-r-requires : goal.start_at-r-requires
+start_at-r-requires c = let p = c.requires in omega (arith, count_held p.0, few-loops p.0, p.1)
+
+pub overflow_sub-r : goal.overflow_sub-r
+overflow_sub-r c =
+    omega (arith, rows-rise c.requires.0 c.args.k c.requires.1, c.start_at-r.ensures, ap (start_at c.args.store.now) (add-one c.args.k))
+
+pub loop-r-init : goal.loop-r-init
+loop-r-init c =
+    behind-last c.requires.0 c.args.k c.requires.1 c.start_at-r.result c.start_at-r.ensures
+
+pub kind_at-requires : goal.kind_at-requires
+kind_at-requires c =
+    let l = c.loop-r in
+    behind-few c.requires.0 c.args.k c.requires.1 l.r l.invariant
+
+pub loop-r-preserved : goal.loop-r-preserved
+loop-r-preserved c =
+    let l = c.loop-r in
+    behind-before c.args.store.now c.args.k l.r l.invariant
+    (omega (arith, c.start_at-start.ensures, c.loop-r-test.true)) (λ e. c.if-kind_at-eq-DESTINATION.false (c.kind_at.ensures ∙ e))
+
+pub returns-then-kind_at-eq-DESTINATION : goal.returns-then-kind_at-eq-DESTINATION
+returns-then-kind_at-eq-DESTINATION c =
+    let l = c.loop-r in
+    last_found c.args.store.now c.args.k l.r l.invariant (sym c.kind_at.ensures ∙ c.if-kind_at-eq-DESTINATION.true)
+
+pub returns : goal.returns
+returns c =
+    let l = c.loop-r in
+    first_found c.requires.0 c.args.k c.requires.1 _ l.r c.start_at-start.ensures l.invariant (omega (arith, c.loop-r-test.false))

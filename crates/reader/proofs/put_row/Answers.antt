@@ -1,0 +1,8 @@
+use mathlib.Core.Path.{refl}
+use Rattle.reader.specs.Store.{with_row}
+use borrow.Author.Rules.{rules}
+use Rattle.reader.proofs.put_row.Goals as goal
+
+pub returns : goal.returns
+unfolding with_row
+returns c = rw c.narrow.ensures (refl, refl)

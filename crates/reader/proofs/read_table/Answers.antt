@@ -1,0 +1,79 @@
+use native.Mathlib.Omega.{arith}
+use lib.ListN.{length, set, length-set}
+use lib.Seq.{get_or-set_same}
+use Prim.Native.Nat.{◌-◌}
+use Rattle.reader.proofs.Turns.{Inv, start, places, turn-refused, turn-tail, turn-ended, passed-room, further, passed-places, turn-passed}
+use borrow.Author.Rules.{rules}
+use Rattle.reader.proofs.read_table.Goals as goal
+
+pub loop-r-init : goal.loop-r-init
+loop-r-init c =
+    let a = c.args in
+    start a.s.now (set a.store.now 48 0) c.blank-t.result c.blank-t.ensures (simp length-set c.requires)
+    (get_or-set_same a.store.now 48 0 0 (omega (arith, c.requires)))
+
+pub read_record-found-requires : goal.read_record-found-requires
+read_record-found-requires c = let l = LOST_c.before.loop in
+    let s = c.args.s.now in
+    (places s l.store l.t l.at l.rows l.invariant).arrays
+
+pub returns-in-Refused : goal.returns-in-Refused
+returns-in-Refused c =
+    let l = LOST_b.before.before.loop in
+    let s = c.args.s.now in
+    turn-refused s l.store l.t l.at l.rows l.invariant c.read_record-found.result c.read_record-found.ensures
+    c.in-Refused.r c.in-Refused.is
+
+pub keep-rows-requires : goal.keep-rows-requires
+keep-rows-requires c =
+    
+    let l = LOST_d.before.before.loop in
+    let s = c.args.s.now in (
+      passed-room s l.store l.t l.at l.rows l.invariant c.read_record-found.result c.read_record-found.ensures c.in-Passed.x
+          c.in-Passed.n c.in-Passed.is,
+      passed-places s l.store l.t l.at l.rows l.invariant c.read_record-found.result c.read_record-found.ensures
+          c.in-Passed.x c.in-Passed.n c.in-Passed.is,
+    )
+
+pub advance-t-requires : goal.advance-t-requires
+advance-t-requires c =
+    
+    let l = LOST_d.before.before.loop in
+    let s = c.args.s.now in
+    passed-room s l.store l.t l.at l.rows l.invariant c.read_record-found.result c.read_record-found.ensures c.in-Passed.x
+    c.in-Passed.n c.in-Passed.is
+
+pub loop-r-smaller : goal.loop-r-smaller
+loop-r-smaller c =
+    
+    let l = LOST_d.before.before.loop in
+    let s = c.args.s.now in
+    omega (arith, further s l.store l.t l.at l.rows l.invariant c.read_record-found.result c.read_record-found.ensures c.in-Passed.x c.in-Passed.n c.in-Passed.is)
+
+pub loop-r-preserved : goal.loop-r-preserved
+loop-r-preserved c =
+    
+    let l = LOST_d.before.before.loop in
+    let s = c.args.s.now in
+    turn-passed s l.store l.t l.at l.rows l.invariant c.read_record-found.result c.read_record-found.ensures c.in-Passed.x
+    c.in-Passed.n c.in-Passed.is _ _ _ c.keep-rows.ensures.1 c.advance-t.ensures
+    c.keep-rows.ensures.0
+
+pub returns-then-n-s : goal.returns-then-n-s
+returns-then-n-s c =
+    
+    let l = LOST_d.before.before.loop in
+    let s = c.args.s.now in
+    rw c.met.ensures
+    (turn-tail s l.store l.t l.at l.rows l.invariant c.read_record-found.result c.read_record-found.ensures c.in-Ended.n
+    c.in-Ended.is c.if-n-s.true)
+
+pub returns-in-Ended : goal.returns-in-Ended
+returns-in-Ended c =
+    
+    let l = LOST_b.before.before.before.before.loop in
+    let s = c.args.s.now in
+    let x = c.read_record-found in
+    rw c.none.ensures
+    (turn-ended s l.store l.t l.at l.rows l.invariant x.result x.ensures c.in-Ended.n _ c.in-Ended.is
+    c.if-n-s.false c.put_counts.ensures)

@@ -1,0 +1,5 @@
+use borrow.Author.Rules.{rules}
+use Rattle.reader.proofs.reference_at.Goals as goal
+
+pub returns : goal.returns
+returns c = cc

@@ -1,0 +1,16 @@
+use Rattle.std.proofs.Common.{arith}
+use Rattle.text.proofs.Laws.{digit-alone, digit-after, front-few}
+use Rattle.text.proofs.+put_decimal.Goals as goal
+
+pub returns-then-x-lt10 : goal.returns-then-x-lt10
+returns-then-x-lt10 t c = digit-alone c.args.out.now c.args.at c.args.x _ _ c.if-x-lt10.true c.put_byte.ensures
+
+pub put_byte-requires-2 : goal.put_byte-requires-2
+put_byte-requires-2 t c =
+    let few = front-few c.args.out.now c.args.at c.args.x _ _ c.ranges.x.fits c.put_decimal-next.ensures in
+    omega (arith, c.requires, few)
+
+pub returns : goal.returns
+returns t c =
+    digit-after c.args.out.now c.args.at c.args.x _ _ c.ranges.x.fits c.put_decimal-next.ensures _ _ c.if-x-lt10.false
+    c.put_byte-2.ensures
