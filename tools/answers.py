@@ -12,7 +12,83 @@ import re
 import sys
 
 IDENT = r"[^\s(){}\[\].,;:]+"
+OWN = "own"
+# By function, the names of its clauses.
+CLAUSES = {}
 ROOTS = {"args", "requires", "ranges", "type_inv", "utf8", "well_formed"}
+
+
+def read_clauses():
+    for folder, _, files in os.walk("crates"):
+        for f in files:
+            if not f.endswith(".rt"):
+                continue
+            crate = folder.split(os.sep)[1]
+            inside, function = "", None
+            with open(os.path.join(folder, f), encoding="utf-8") as it:
+                for l in it:
+                    m = re.match(r"impl (\w+)", l)
+                    if m:
+                        inside = m.group(1) + "::"
+                    elif l.startswith("}"):
+                        inside = "" if inside else inside
+                    m = re.match(r'\s*(?:pub )?(?:extern "C" )?fn (\w+)', l)
+                    if m:
+                        function = f"{crate}::{inside}{m.group(1)}"
+                        CLAUSES[function] = {"requires": [], "ensures": []}
+                    m = re.match(r"\s*(requires|ensures) (?:(\w+) )?\{", l)
+                    if m and function:
+                        CLAUSES[function][m.group(1)].append(m.group(2))
+
+
+def top_tuple(text):
+    """The text before a tuple that ends it, and the tuple's parts."""
+    s = text.rstrip()
+    if not s.endswith(")"):
+        return None
+    depth, k = 0, len(s) - 1
+    while k >= 0:
+        depth += (s[k] == ")") - (s[k] == "(")
+        if depth == 0:
+            break
+        k -= 1
+    inner, parts, depth, last = s[k + 1:-1], [], 0, 0
+    for i, ch in enumerate(inner):
+        depth += (ch in "([{") - (ch in ")]}")
+        if ch == "," and depth == 0:
+            parts.append(inner[last:i].strip())
+            last = i + 1
+    if inner[last:].strip():
+        parts.append(inner[last:].strip())
+    return (s[:k], parts) if len(parts) > 1 else None
+
+
+def as_record(body, names, steps):
+    """An answer that was a tuple, nested to the right, as a record of the clauses."""
+    fields, rest = [], body
+    got = top_tuple(body)
+    if got and re.search(r"(=|in|refl|\)|\w)\s*$", got[0] or "="):
+        head, parts = got
+        values = []
+        while len(values) < len(names) - 1:
+            values.append(parts[0])
+            more = parts[1:]
+            if len(values) == len(names) - 1:
+                values.append(more[0] if len(more) == 1 else "(" + ", ".join(more) + ")")
+                break
+            nested = top_tuple(more[0]) if len(more) == 1 else None
+            if not nested or nested[0].strip():
+                return body + "\n    -- LOST_record " + " ".join(names)
+            parts = nested[1]
+        return head + "record { " + "; ".join(f"{n} = {v}" for n, v in zip(names, values)) + " }"
+    m = re.fullmatch(r"(.*[\s=])(c\.([^\s.]+)\.ensures)\s*", body, re.S)
+    if m:
+        theirs = next((CLAUSES[f]["ensures"] for f in steps.callee.values() if f in CLAUSES and any(steps.field[p][1] == m.group(3) and steps.callee[p] == f for p in steps.field)), [])
+        if len(theirs) == len(names):
+            return m.group(1) + "record { " + "; ".join(f"{n} = {m.group(2)}.{u}" for n, u in zip(names, theirs)) + " }"
+    if len(names) == 2:
+        return "\n    let both =" + body.rstrip() + f" in\n    record {{ {names[0]} = both.0; {names[1]} = both.1 }}"
+    return body + "\n    -- LOST_record " + " ".join(names)
 
 
 def norm(s):
@@ -69,6 +145,7 @@ class Steps:
     def __init__(self, d):
         self.before = {p[0]: p[1] for p in d["places"]}
         self.field = {p[0]: p[2] for p in d["places"]}
+        self.callee = {p[0]: p[3] for p in d["places"]}
         self.new_arm = {}
         for arm in d["arms"]:
             if arm:
@@ -86,18 +163,41 @@ class Steps:
             yield place
             place = self.before.get(place)
 
-    def turn(self, place, rest):
-        """c.REST at the place, as today's path; None where no step has that name."""
+    def turn(self, place, rest, asked):
+        """c.REST at the place, as today's path; None where no step has that name. Older chains have more steps, so those after the place are
+        looked at last."""
         first = rest[0]
         if first in ROOTS:
-            return ["c"] + rest
-        for p in self.chain(place):
+            return ["c"] + self.clause(rest, "requires", OWN)
+        for p in list(self.chain(place)) + list(self.chain(asked)):
             old, new = self.field[p]
             if old and norm(old) in (norm(first), norm(re.sub("_lem$", "", first))):
                 for arm, f, path in self.new_arm.get(norm(old), []):
-                    if rest[1:1 + len(path)] == path:
+                    if path and rest[1:1 + len(path)] == path:
                         return ["c", arm, f] + rest[1 + len(path):]
-                return ["c", new] + rest[1:]
+                return ["c", new] + self.clause(rest[1:], "ensures", self.callee.get(p))
+        return None
+
+    @staticmethod
+    def clause(rest, kind, function):
+        """A clause by its name, where there are two or more: an older Rattle numbered them, nested to the right."""
+        names = CLAUSES.get(function or "", {}).get(kind, [])
+        if len(rest) < 2 or rest[0] != kind or len(names) < 2:
+            return rest
+        k, tail = 0, rest[1:]
+        while tail and tail[0] in ("0", "1"):
+            if tail[0] == "0" or k == len(names) - 2:
+                return [kind, names[k + int(tail[0])]] + tail[1:]
+            k, tail = k + 1, tail[1:]
+        return rest
+
+    def callee_of(self, goal):
+        """The function whose requires an older goal, as keep-requires-2, is."""
+        m = re.fullmatch(r"(.*)-requires(?:-(\d+))?", goal)
+        if m:
+            for p, (old, _) in self.field.items():
+                if norm(old) == norm(m.group(1) + (m.group(2) or "")):
+                    return self.callee[p]
         return None
 
 
@@ -120,6 +220,8 @@ def paths(body, steps, place):
     out, pos = [], 0
     # Bindings come before their uses, so one pass over the text serves.
     token = re.compile(r"let (\w+) = (\w+)((?:\.before)*) in ?|" + PATH.pattern)
+    # Names bound to the requires, or to a step.
+    parts = {}
     for m in token.finditer(body):
         out.append(body[pos:m.start()])
         pos = m.end()
@@ -133,7 +235,14 @@ def paths(body, steps, place):
             continue
         who, tail = m.group(4), m.group(5).split(".")[1:]
         if who not in alias:
-            out.append(m.group(0))
+            if who in parts:
+                kind, function = parts[who]
+                if kind == "requires":
+                    out.append(".".join([who] + steps.clause(["requires"] + tail, "requires", function)[1:]))
+                else:
+                    out.append(".".join([who] + steps.clause(tail, "ensures", function)))
+            else:
+                out.append(m.group(0))
             continue
         p = alias[who]
         n = 0
@@ -143,12 +252,20 @@ def paths(body, steps, place):
             out.append("LOST_" + m.group(0))
             lost += 1
             continue
-        t = steps.turn(steps.back(p, n), tail[n:])
+        t = steps.turn(steps.back(p, n), tail[n:], place)
         if t is None:
             out.append("LOST_" + m.group(0))
             lost += 1
         else:
             out.append(".".join(t))
+            b = re.search(r"let (\w+) = $", "".join(out[-2:-1]))
+            if b and body[pos:pos + 3] == " in":
+                if t == ["c", "requires"]:
+                    parts[b.group(1)] = ("requires", OWN)
+                elif len(t) == 2:
+                    function = next((steps.callee[q] for q in steps.field if steps.field[q][1] == t[1] and steps.callee[q]), None)
+                    if function:
+                        parts[b.group(1)] = ("ensures", function)
     out.append(body[pos:])
     text = "".join(out)
     text = re.sub(r"\n[ \t]+\n", "\n", "\n" + text)[1:]
@@ -219,8 +336,12 @@ def turn(crate, folder, d):
             if not unf and re.fullmatch(r"\s*search rules\s*|\s*omega arith\s*", rest):
                 continue
             rest, n = paths(rest, steps, place)
+            rest = re.sub(r"^\s*\n[ \t]*\n", "\n", rest)
             lost += n
             c = m2.group(1)
+            names = CLAUSES.get(OWN, {}).get("ensures", []) if new.startswith("returns") else CLAUSES.get(steps.callee_of(m.group(1)) or "", {}).get("requires", [])
+            if len(names) > 1:
+                rest = as_record(rest, names, steps)
             ans.append(head + f"pub {new} : goal.{new}\n" + "".join(l + "\n" for l in unf) + f"{new} {c}{' ' + extra if extra else ''} ={rest}")
             continue
         if re.search(r"M : Type 1\} → statement M", sig):
@@ -245,6 +366,7 @@ def turn(crate, folder, d):
 
 def main(argv):
     crate, names = argv
+    read_clauses()
     with open(names, encoding="utf-8") as f:
         d = json.load(f)
     for folder, dirs, fs in os.walk(os.path.join("crates", crate, "proofs")):
@@ -255,6 +377,7 @@ def main(argv):
         if key not in d:
             print("answers: no names for", mine)
             continue
+        CLAUSES[OWN] = CLAUSES.get(crate + "::" + mine.replace(".", "::"), {})
         lost = turn(crate, folder, d[key])
         print("answers:", mine, "lost", lost) if lost else None
 

@@ -5,4 +5,4 @@ use Rattle.reader.proofs.put_row.Goals as goal
 
 pub returns : goal.returns
 unfolding with_row
-returns c = rw c.narrow.ensures (refl, refl)
+returns c = rw c.narrow.ensures record { value = refl; store_after = refl }

@@ -13,13 +13,13 @@ loop-r-init c =
     (get_or-set_same a.store.now 48 0 0 (omega (arith, c.requires)))
 
 pub read_record-found-requires : goal.read_record-found-requires
-read_record-found-requires c = let l = LOST_c.before.loop in
+read_record-found-requires c = let l = c.loop-r in
     let s = c.args.s.now in
     (places s l.store l.t l.at l.rows l.invariant).arrays
 
 pub returns-in-Refused : goal.returns-in-Refused
 returns-in-Refused c =
-    let l = LOST_b.before.before.loop in
+    let l = c.loop-r in
     let s = c.args.s.now in
     turn-refused s l.store l.t l.at l.rows l.invariant c.read_record-found.result c.read_record-found.ensures
     c.in-Refused.r c.in-Refused.is
@@ -27,18 +27,15 @@ returns-in-Refused c =
 pub keep-rows-requires : goal.keep-rows-requires
 keep-rows-requires c =
     
-    let l = LOST_d.before.before.loop in
-    let s = c.args.s.now in (
-      passed-room s l.store l.t l.at l.rows l.invariant c.read_record-found.result c.read_record-found.ensures c.in-Passed.x
-          c.in-Passed.n c.in-Passed.is,
-      passed-places s l.store l.t l.at l.rows l.invariant c.read_record-found.result c.read_record-found.ensures
-          c.in-Passed.x c.in-Passed.n c.in-Passed.is,
-    )
+    let l = c.loop-r in
+    let s = c.args.s.now in record { room = passed-room s l.store l.t l.at l.rows l.invariant c.read_record-found.result c.read_record-found.ensures c.in-Passed.x
+          c.in-Passed.n c.in-Passed.is; places = passed-places s l.store l.t l.at l.rows l.invariant c.read_record-found.result c.read_record-found.ensures
+          c.in-Passed.x c.in-Passed.n c.in-Passed.is }
 
 pub advance-t-requires : goal.advance-t-requires
 advance-t-requires c =
     
-    let l = LOST_d.before.before.loop in
+    let l = c.loop-r in
     let s = c.args.s.now in
     passed-room s l.store l.t l.at l.rows l.invariant c.read_record-found.result c.read_record-found.ensures c.in-Passed.x
     c.in-Passed.n c.in-Passed.is
@@ -46,23 +43,23 @@ advance-t-requires c =
 pub loop-r-smaller : goal.loop-r-smaller
 loop-r-smaller c =
     
-    let l = LOST_d.before.before.loop in
+    let l = c.loop-r in
     let s = c.args.s.now in
     omega (arith, further s l.store l.t l.at l.rows l.invariant c.read_record-found.result c.read_record-found.ensures c.in-Passed.x c.in-Passed.n c.in-Passed.is)
 
 pub loop-r-preserved : goal.loop-r-preserved
 loop-r-preserved c =
     
-    let l = LOST_d.before.before.loop in
+    let l = c.loop-r in
     let s = c.args.s.now in
     turn-passed s l.store l.t l.at l.rows l.invariant c.read_record-found.result c.read_record-found.ensures c.in-Passed.x
-    c.in-Passed.n c.in-Passed.is _ _ _ c.keep-rows.ensures.1 c.advance-t.ensures
-    c.keep-rows.ensures.0
+    c.in-Passed.n c.in-Passed.is _ _ _ c.keep-rows.ensures.store_after c.advance-t.ensures
+    c.keep-rows.ensures.value
 
 pub returns-then-n-s : goal.returns-then-n-s
 returns-then-n-s c =
     
-    let l = LOST_d.before.before.loop in
+    let l = c.loop-r in
     let s = c.args.s.now in
     rw c.met.ensures
     (turn-tail s l.store l.t l.at l.rows l.invariant c.read_record-found.result c.read_record-found.ensures c.in-Ended.n
@@ -71,7 +68,7 @@ returns-then-n-s c =
 pub returns-in-Ended : goal.returns-in-Ended
 returns-in-Ended c =
     
-    let l = LOST_b.before.before.before.before.loop in
+    let l = c.loop-r in
     let s = c.args.s.now in
     let x = c.read_record-found in
     rw c.none.ensures
