@@ -277,6 +277,7 @@ module _ (t : Table) (k : ℕ) where
 
   -- a reference of the loop has a number
   at_place : {x : Reference} (rs : List Reference) → Mem x rs → (n : ℕ) × (n < length rs) × (get_or rs n none ≡ x)
+  at_place [] x'' = elim x'' [ ]
   at_place (y ∷ rs) (mhere e) = (0, omega arith, sym e)
   at_place (y ∷ rs) (mthere h) = let (n, l, e) = at_place rs h in (suc n, omega arith, e)
 

@@ -6,8 +6,7 @@ use lib.Dec.{eqb, ltb}
 use borrow.Author.Tests.{ne_eqb}
 use Rattle.marks.specs.Marks.{marked}
 use borrow.Author.Rules.{rules}
-use Rattle.sweeps.proofs.with_row.Statement.{statement}
-use Rattle.sweeps.proofs.with_row.Tie as tie
+use Rattle.sweeps.proofs.with_row.Goals as goal
 
 -- a destination's row is a reference
 stored : (kind : ℕ) (b : Bool) → (eqb kind 1 && b) ≡ (ltb kind 2 && (b && eqb kind 1))
@@ -17,13 +16,7 @@ stored kind b = go (ℕ_discrete kind 1)
     go (yes e) = rw (e, and-true b)
     go (no n) = rw (ne_eqb kind 1 n, and-false b, and-false (ltb kind 2))
 
-returns : tie.Need-returns
+pub returns : goal.returns
 returns c =
-    let a = c.before.before.before.args in
-    let q = c.before.before.wide.ensures.0 in (
-      λ p. rw (← q) (c.before.with-mark-if.ensures p),
-      λ p. rw (← q) (c.with-mark-if2.ensures p ∙ ap (λ (b : Bool). marked a.s.written p || b) (stored a.kind (eqb p _))),
-    )
-
-pub with-row-spec : {M : Type 1} → statement M
-with-row-spec = tie.close (tie.spec (λ c κs. search rules) (λ c κs. search rules) (λ c κs. search rules) returns)
+    let a = c.args in
+    let q = c.wide-q.ensures.0 in record { by_index = λ p. rw (← q) (c.with_mark_if.ensures p); by_index_2 = λ p. rw (← q) (c.with_mark_if-2.ensures p ∙ ap (λ (b : Bool). marked a.s.written p || b) (stored a.kind (eqb p _))) }

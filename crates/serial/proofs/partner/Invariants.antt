@@ -1,0 +1,13 @@
+use native.Mathlib.Omega.{arith}
+use mathlib.Core.Path.{sym, ap, ◌∙◌}
+use Prim.Native.Nat.{◌+◌, ◌-◌}
+use Rattle.model.specs.declared.Reference.{Reference}
+use Rattle.serial.proofs.Walks.{Passed, passed_start, passed-next, partner-other, partner-none, partner-found}
+use Rattle.serial.proofs.partner.Given as goal
+
+-- `partner` meets its contract. The invariant: no row before `other` collides with the first one.
+abbrev pub invariant-loop-other : goal.invariant-loop-other
+invariant-loop-other l = Passed l.store l.first l.last l.x (l.row + 1) l.past l.other
+
+abbrev pub decreases-loop-other : goal.decreases-loop-other
+decreases-loop-other l = l.past - l.other

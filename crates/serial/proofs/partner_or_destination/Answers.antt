@@ -1,0 +1,48 @@
+use native.Mathlib.Omega.{arith}
+use mathlib.Core.Path.{sym, ap, ◌∙◌}
+use Prim.Native.Nat.{◌-◌}
+use Rattle.model.specs.declared.Reference.{Reference}
+use Rattle.serial.proofs.Walks.{Alone, alone-start, alone-next, alone-destination, alone-found, alone-end}
+use Rattle.serial.proofs.partner_or_destination.Goals as goal
+
+pub loop-other-init : goal.loop-other-init
+loop-other-init c =
+    let a = c.args in
+    alone-start a.store.now a.first a.last c.reference_at-x.result a.row a.past c.requires.0
+
+pub returns-then-kind_at-eq-DESTINATION : goal.returns-then-kind_at-eq-DESTINATION
+returns-then-kind_at-eq-DESTINATION c =
+    let a = c.args in
+    let l = c.loop-other in
+    alone-destination a.store.now a.first a.last _ a.row a.past c.reference_at-x.ensures c.requires.0 c.requires.3 l.other l.invariant
+    c.loop-other-test.true (sym c.kind_at.ensures ∙ c.if-kind_at-eq-DESTINATION.true)
+
+pub row_collides-requires : goal.row_collides-requires
+row_collides-requires c =
+    let p = c.requires in
+    let l = c.loop-other in
+    let small = (p.2 c.args.row p.0).offset (omega (arith, p.3)) in (
+      omega (arith, p.1, c.loop-other-test.true),
+      p.2 l.other c.loop-other-test.true,
+      omega (arith, small, ap (λ (x : Reference). x.offset) c.reference_at-x.ensures),
+    )
+
+pub returns-then-row_collides : goal.returns-then-row_collides
+returns-then-row_collides c =
+    let a = c.args in
+    let l = c.loop-other in
+    alone-found a.store.now a.first a.last _ a.row a.past c.reference_at-x.ensures c.requires.0 c.requires.3 l.other l.invariant
+    c.loop-other-test.true (sym c.if-row_collides.true ∙ c.row_collides.ensures)
+
+pub loop-other-preserved : goal.loop-other-preserved
+loop-other-preserved c =
+    let a = c.args in
+    let l = c.loop-other in
+    alone-next a.store.now a.first a.last c.reference_at-x.result a.row a.past l.other l.invariant
+    c.loop-other-test.true (λ e. c.if-kind_at-eq-DESTINATION.false (c.kind_at.ensures ∙ e)) (sym c.if-row_collides.false ∙ c.row_collides.ensures)
+
+pub returns : goal.returns
+returns c =
+    let a = c.args in
+    let l = c.loop-other in
+    alone-end a.store.now a.first a.last _ a.row a.past c.reference_at-x.ensures c.requires.0 c.requires.3 l.other l.invariant c.loop-other-test.false

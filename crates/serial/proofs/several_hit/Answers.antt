@@ -1,0 +1,35 @@
+use Prim.Native.Nat.{◌+◌, ◌≤◌, ◌<◌}
+use native.Mathlib.Omega.{arith}
+use mathlib.Core.Path.{refl, sym, ◌∙◌}
+use borrow.Author.Rules.{rules}
+use Rattle.reader.specs.Store.{first_at, last_at, start_at}
+use Rattle.serial.proofs.Walks.{rows-known, row-known, loop-apart}
+use Rattle.serial.proofs.Offsets.{none-collide}
+use Rattle.serial.proofs.several_hit.Goals as goal
+
+-- the loop's rows, known from the start
+-- LOST_HELPER
+rows : (c : tie.Start)
+    → (c.args.k < 16) × (start_at c.args.store.now c.args.k < start_at c.args.store.now (c.args.k + 1)) × (start_at c.args.store.now (c.args.k + 1) ≤ 576)
+rows c = rows-known c.args.store.now c.requires.0 c.args.k c.requires.1
+
+pub stored_offsets-offsets-requires : goal.stored_offsets-offsets-requires
+stored_offsets-offsets-requires c =
+    let s = c.start_at-from.ensures in
+    let e = c.start_at-past.ensures in (
+      omega (arith, s, e, (rows c).1),
+      omega (arith, e, (rows c).2),
+      rw e (row-known c.args.store.now c.requires.0 c.args.k c.requires.1),
+    )
+
+pub some_differs-requires : goal.some_differs-requires
+some_differs-requires c =
+    let e = c.start_at-past.ensures in
+    (omega (arith, c.start_at-from.ensures, e, (rows c).1), omega (arith, e, (rows c).2))
+
+pub returns : goal.returns
+returns c =
+    let s = c.args.store.now in
+    let k = c.args.k in
+    loop-apart s c.requires.0 k c.requires.1 (first_at s k) (last_at s k) _ _ refl refl c.start_at-from.ensures c.start_at-past.ensures
+    (none-collide s (first_at s k) (last_at s k) _ _ _ c.stored_offsets-offsets.ensures (sym c.if-some_differs.false ∙ c.some_differs.ensures))
