@@ -167,7 +167,8 @@ class Steps:
     def turn(self, place, rest, asked):
         """c.REST at the place, as today's path; None where no step has that name. Older chains have more steps, so those after the place are
         looked at last."""
-        first = rest[0]
+        # port.py takes a step that is called size-of for the library's.
+        first = re.sub("^type_size", "size-of", rest[0])
         if first in ROOTS:
             return ["c"] + self.clause(rest, "requires", OWN)
         for p in list(self.chain(place)) + list(self.chain(asked)):
@@ -311,9 +312,9 @@ def invariant(kind, name, own, d):
     params, body = m.group(1).split(), m.group(2)
     want = [("l.initial." if c else "l.") + v for v, c in zip(variables, changed)] + ["l." + v for v, c in zip(variables, changed) if c]
     note = "" if len(params) == len(want) else f"-- LOST_parameters {params} {want}\n"
-    for p, w in sorted(zip(params, want), key=lambda x: -len(x[0])):
-        if p != "_":
-            body = re.sub(r"(?<![\w.'₀-₉-])" + re.escape(p) + r"(?![\w'₀-₉-])", w.replace("\\", ""), body)
+    by = {p: w for p, w in zip(params, want) if p != "_"}
+    if by:
+        body = re.sub(r"(?<![\w.'₀-₉-])(" + "|".join(map(re.escape, sorted(by, key=len, reverse=True))) + r")(?![\w'₀-₉-])", lambda m: by[m.group(1)], body)
     body = re.sub(r"(l\.[\w.]+)\.now\b", r"\1", body)
     return note + f"abbrev pub {kind}-{new} : goal.{kind}-{new}\n" + unf + f"{kind}-{new} l ={body}"
 

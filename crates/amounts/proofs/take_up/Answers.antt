@@ -16,7 +16,7 @@ pub returns-then-touches : goal.returns-then-touches
 returns-then-touches c =
     let a = c.args in
     rw (← c.reference_in-e.ensures)
-    (taken-touching (table_in a.store.now) _ a.y a.shifts.now a.peels.now _ _ a.made.now c.raise.ensures)
+    (taken-touching (table_in a.store.now) _ a.y a.shifts.now a.peels.now _ _ a.made.now (c.raise.ensures.shifts_after, c.raise.ensures.peels_after))
 
 pub returns-else-touches : goal.returns-else-touches
 returns-else-touches c =

@@ -16,7 +16,7 @@ loop-k-init c = (omega arith, refl)
 
 pub overflow_add-a : goal.overflow_add-a
 overflow_add-a c =
-    let a = c.args.t1 in
+    let a = c.args.a in
     let k = c.loop-k.k in
     let s : Fits w32 (get_or a.shifts k 0) = search rules in
     let p : Fits w32 (get_or a.peels k 0) = search rules in

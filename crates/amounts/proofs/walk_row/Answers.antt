@@ -33,8 +33,9 @@ returns-then-kind_at-lt-CONSTANT c =
     let a = c.args in
     let p = c.requires in
     let q : kind_at a.store.now a.r < 2 = omega (arith, c.kind_at.ensures, c.if-kind_at-lt-CONSTANT.true) in
-    let given = rw c.reference_at-y.ensures at c.take_later.ensures in
-    reference-next p.held.0 a.k p.held.1 a.n a.columns.now (numbers_in a.shifts.now a.peels.now a.made.now) a.from p.held.2 a.r p.k_bound.0 p.k_bound.1 p.walked q _ _ given.0 given.1.0 given.1.1
+    let columns_after = rw c.reference_at-y.ensures at c.take_later.ensures.columns_after in
+    let taken = rw c.reference_at-y.ensures at c.take_later.ensures.taken in
+    reference-next p.held.0 a.k p.held.1 a.n a.columns.now (numbers_in a.shifts.now a.peels.now a.made.now) a.from p.held.2 a.r p.k_bound.0 p.k_bound.1 p.walked q _ _ columns_after taken c.take_later.ensures.bounded_2
 
 pub returns : goal.returns
 returns c =

@@ -1,5 +1,6 @@
 use Prim.Native.Nat.{◌<◌}
 use native.Mathlib.Omega.{arith}
+use mathlib.Core.Bool.{not}
 use mathlib.Core.Path.{◌≡◌, refl, sym, ap, ◌∙◌}
 use borrow.Author.Rules.{rules}
 use Rattle.barriers.specs.Code.{open_by, last_open_by}
@@ -16,7 +17,7 @@ returns-then-not-is_closed c =
     let shut = c.is_closed in
     let here =
     open-here a.processors a.ends.now a.counts.now shut.result l.n c.loop-n-test.true
-    shut.ensures c.if-not-is_closed.true in
+    shut.ensures (ap not c.if-not-is_closed.true) in
     (sym (l.invariant.0 ∙ here), l.invariant.1)
 
 pub loop-n-preserved : goal.loop-n-preserved
@@ -26,7 +27,7 @@ loop-n-preserved c =
     let shut = c.is_closed in
     let down =
     open-down a.processors a.ends.now a.counts.now shut.result l.n c.loop-n-test.true
-    shut.ensures c.if-not-is_closed.false in
+    shut.ensures (ap not c.if-not-is_closed.false) in
     (l.invariant.0 ∙ down, omega arith)
 
 pub returns : goal.returns

@@ -22,9 +22,7 @@ loop-s-init c =
 
 pub narrow-s-requires : goal.narrow-s-requires
 narrow-s-requires c =
-    let both =
-    (c.requires.sized, (c.loop-s.invariant.0, c.loop-s-test.true)) in
-    record { sized = both.0; bracket = both.1 }
+    record { sized = c.requires.sized; bracket = (c.loop-s.invariant.0, c.loop-s-test.true) }
 
 pub loop-s-smaller : goal.loop-s-smaller
 loop-s-smaller c = c.narrow-s.ensures.1

@@ -10,7 +10,7 @@ use Rattle.positions.proofs.line_of.Given as goal
 
 -- `positions::line_of` meets its contract: the line counts the first k loops. Assumes nothing.
 abbrev pub invariant-loop-k : goal.invariant-loop-k
-invariant-loop-k l = (l.k ≤ length l.l.froms) × (l.l.slope ≤ l.k * 65536) × (l.l.offset ≤ l.k * 2 ^ 49) × ((t : ℕ) → Counted l.l t (total l.k (weighted (ranges l.l.froms l.l.pasts) (column l.l.shifts) (column l.l.weights) t)))
+invariant-loop-k l = (l.k ≤ length l.froms) × (l.l.slope ≤ l.k * 65536) × (l.l.offset ≤ l.k * 2 ^ 49) × ((t : ℕ) → Counted l.l t (total l.k (weighted (ranges l.froms l.pasts) (column l.shifts) (column l.weights) t)))
 
 abbrev pub decreases-loop-k : goal.decreases-loop-k
-decreases-loop-k l = length l.l.froms - l.k
+decreases-loop-k l = length l.froms - l.k
