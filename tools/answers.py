@@ -15,6 +15,8 @@ IDENT = r"[^\s(){}\[\].,;:]+"
 OWN = "own"
 # By function, the names of its clauses.
 CLAUSES = {}
+# By function, its parameters.
+PARAMS = {}
 ROOTS = {"args", "requires", "ranges", "type_inv", "utf8", "well_formed"}
 
 
@@ -36,6 +38,11 @@ def read_clauses():
                     if m:
                         function = f"{crate}::{inside}{m.group(1)}"
                         CLAUSES[function] = {"requires": [], "ensures": []}
+                        PARAMS[function], heading = [], True
+                    if function and heading:
+                        inner = l.split("(", 1)[-1] if m else l
+                        PARAMS[function] += re.findall(r"(?:mut )?\b(\w+): |\b(self)\b", inner.split(" -> ")[0])
+                        heading = ")" not in inner.split(" -> ")[0] or (inner.rstrip().endswith(",") and "->" not in inner)
                     m = re.match(r"\s*(requires|ensures) (?:(\w+) )?\{", l)
                     if m and function:
                         CLAUSES[function][m.group(1)].append(m.group(2))
@@ -170,6 +177,9 @@ class Steps:
         # port.py takes a step that is called size-of for the library's.
         first = re.sub("^type_size", "size-of", rest[0])
         if first in ROOTS:
+            m = re.fullmatch(r"t(\d+)", rest[1]) if first == "args" and len(rest) > 1 else None
+            if m and int(m.group(1)) <= len(PARAMS.get(OWN, [])):
+                rest = [first, PARAMS[OWN][int(m.group(1)) - 1]] + rest[2:]
             return ["c"] + self.clause(rest, "requires", OWN)
         for p in list(self.chain(place)) + list(self.chain(asked)):
             old, new = self.field[p]
@@ -258,7 +268,7 @@ def paths(body, steps, place, goal):
                 if kind == "requires":
                     out.append(".".join([who] + steps.clause(["requires"] + tail, "requires", function)[1:]))
                 else:
-                    out.append(".".join([who] + steps.clause(tail, "ensures", function)))
+                    out.append(".".join([who] + steps.lent(steps.clause(tail, "ensures", function), function)))
             else:
                 out.append(m.group(0))
             continue
@@ -405,6 +415,7 @@ def main(argv):
         if key not in d:
             print("answers: no names for", mine)
             continue
+        PARAMS[OWN] = [a or b for a, b in PARAMS.get(crate + "::" + mine.replace(".", "::"), [])]
         CLAUSES[OWN] = CLAUSES.get(crate + "::" + mine.replace(".", "::"), {})
         lost = turn(crate, folder, d[key])
         print("answers:", mine, "lost", lost) if lost else None
