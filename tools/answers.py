@@ -265,8 +265,9 @@ def paths(body, steps, place, goal):
         if who not in alias:
             if who in parts:
                 kind, function = parts[who]
-                if kind == "requires":
-                    out.append(".".join([who] + steps.clause(["requires"] + tail, "requires", function)[1:]))
+                if kind in ("requires", "its"):
+                    word = "requires" if kind == "requires" else "ensures"
+                    out.append(".".join([who] + steps.clause([word] + tail, word, function)[1:]))
                 else:
                     out.append(".".join([who] + steps.lent(steps.clause(tail, "ensures", function), function)))
             else:
@@ -289,10 +290,10 @@ def paths(body, steps, place, goal):
             if b and body[pos:pos + 3] == " in":
                 if t == ["c", "requires"]:
                     parts[b.group(1)] = ("requires", OWN)
-                elif len(t) == 2:
+                elif len(t) == 2 or len(t) == 3 and t[2] == "ensures":
                     function = next((steps.callee[q] for q in steps.field if steps.field[q][1] == t[1] and steps.callee[q]), None)
                     if function:
-                        parts[b.group(1)] = ("ensures", function)
+                        parts[b.group(1)] = ("ensures" if len(t) == 2 else "its", function)
     out.append(body[pos:])
     text = "".join(out)
     text = re.sub(r"\n[ \t]+\n", "\n", "\n" + text)[1:]
