@@ -176,6 +176,8 @@ class Steps:
         looked at last."""
         # port.py takes a step that is called size-of for the library's.
         first = re.sub("^type_size", "size-of", rest[0])
+        if first == "pre":
+            first, rest = "requires", ["requires"] + rest[1:]
         if first in ROOTS:
             m = re.fullmatch(r"t(\d+)", rest[1]) if first == "args" and len(rest) > 1 else None
             if m and int(m.group(1)) <= len(PARAMS.get(OWN, [])):
@@ -187,6 +189,8 @@ class Steps:
                 for arm, f, path in self.new_arm.get(norm(old), []):
                     if path and rest[1:1 + len(path)] == path:
                         return ["c", arm, f] + rest[1 + len(path):]
+                if rest[1:] in (["taken"], ["left"]):
+                    rest = [rest[0], "true" if rest[1] == "taken" else "false"]
                 return ["c", new] + self.lent(self.clause(rest[1:], "ensures", self.callee.get(p)), self.callee.get(p))
         return None
 
