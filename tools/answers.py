@@ -145,6 +145,7 @@ class Steps:
     def __init__(self, d):
         self.before = {p[0]: p[1] for p in d["places"]}
         self.field = {p[0]: p[2] for p in d["places"]}
+        self.new_place = {p[0]: n for p, n in zip([p for p in d["places"] if p[0] != "Untold"], [n for n in d["places_by_name"] if n != "Untold"])}
         self.callee = {p[0]: p[3] for p in d["places"]}
         self.new_arm = {}
         for arm in d["arms"]:
@@ -166,7 +167,8 @@ class Steps:
     def turn(self, place, rest, asked):
         """c.REST at the place, as today's path; None where no step has that name. Older chains have more steps, so those after the place are
         looked at last."""
-        first = rest[0]
+        # port.py takes a step that is called size-of for the library's.
+        first = re.sub("^type_size", "size-of", rest[0])
         if first in ROOTS:
             return ["c"] + self.clause(rest, "requires", OWN)
         for p in list(self.chain(place)) + list(self.chain(asked)):
@@ -175,8 +177,18 @@ class Steps:
                 for arm, f, path in self.new_arm.get(norm(old), []):
                     if path and rest[1:1 + len(path)] == path:
                         return ["c", arm, f] + rest[1 + len(path):]
-                return ["c", new] + self.clause(rest[1:], "ensures", self.callee.get(p))
+                return ["c", new] + self.lent(self.clause(rest[1:], "ensures", self.callee.get(p)), self.callee.get(p))
         return None
+
+    def lent(self, rest, function):
+        """What a lent argument holds after a call, by the parameter's name and no longer by its place."""
+        if len(rest) > 1 and rest[0] in ("new", "auto") and function in self.d["params"]:
+            k, n = 1, 0
+            while k < len(rest) and rest[k] == "1":
+                k, n = k + 1, n + 1
+            if k < len(rest) and rest[k] == "0" and n < len(self.d["params"][function]):
+                return [rest[0], self.d["params"][function][n]] + rest[k + 1:]
+        return rest
 
     @staticmethod
     def clause(rest, kind, function):
@@ -191,6 +203,12 @@ class Steps:
             k, tail = k + 1, tail[1:]
         return rest
 
+    def record(self, goal, place, asked):
+        """The record of what is known at a place, at a goal."""
+        if place == asked:
+            return "c"
+        return f"(goal.at.{goal} c).{self.new_place.get(place, place)}" if goal else f"LOST_{place}"
+
     def callee_of(self, goal):
         """The function whose requires an older goal, as keep-requires-2, is."""
         m = re.fullmatch(r"(.*)-requires(?:-(\d+))?", goal)
@@ -204,7 +222,7 @@ class Steps:
 PATH = re.compile(r"(?<![\w'.\-₀-₉])(" + r"[A-Za-z_][\w'₀-₉-]*" + r")((?:\.[\w'₀-₉λκ-]+)+)")
 
 
-def paths(body, steps, place):
+def paths(body, steps, place, goal):
     """The body with each path from c, or from a name bound to a chain of c's, in today's form."""
     alias = {"c": place}
     lost = 0
@@ -249,8 +267,7 @@ def paths(body, steps, place):
         while n < len(tail) and tail[n] == "before":
             n += 1
         if n == len(tail):
-            out.append("LOST_" + m.group(0))
-            lost += 1
+            out.append(steps.record(goal, steps.back(p, n), place))
             continue
         t = steps.turn(steps.back(p, n), tail[n:], place)
         if t is None:
@@ -272,7 +289,7 @@ def paths(body, steps, place):
     # A bare name of a record that is gone.
     for a in alias:
         if a != "c" and re.search(r"(?<![\w.'-])" + a + r"(?![\w'-])", text):
-            text = re.sub(r"(?<![\w.'-])" + a + r"(?![\w'.-])", "c", text)
+            text = re.sub(r"(?<![\w.'-])" + a + r"(?![\w'.-])", lambda m: steps.record(goal, alias[a], place), text)
     return text, lost
 
 
@@ -295,9 +312,9 @@ def invariant(kind, name, own, d):
     params, body = m.group(1).split(), m.group(2)
     want = [("l.initial." if c else "l.") + v for v, c in zip(variables, changed)] + ["l." + v for v, c in zip(variables, changed) if c]
     note = "" if len(params) == len(want) else f"-- LOST_parameters {params} {want}\n"
-    for p, w in sorted(zip(params, want), key=lambda x: -len(x[0])):
-        if p != "_":
-            body = re.sub(r"(?<![\w.'₀-₉-])" + re.escape(p) + r"(?![\w'₀-₉-])", w.replace("\\", ""), body)
+    by = {p: w for p, w in zip(params, want) if p != "_"}
+    if by:
+        body = re.sub(r"(?<![\w.'₀-₉-])(" + "|".join(map(re.escape, sorted(by, key=len, reverse=True))) + r")(?![\w'₀-₉-])", lambda m: by[m.group(1)], body)
     body = re.sub(r"(l\.[\w.]+)\.now\b", r"\1", body)
     return note + f"abbrev pub {kind}-{new} : goal.{kind}-{new}\n" + unf + f"{kind}-{new} l ={body}"
 
@@ -308,7 +325,7 @@ def turn(crate, folder, d):
         uses, items = blocks(f.read())
     steps = Steps(d)
     asked = {need_key(o): (n, a[0]) for (o, n), a in zip(d["needs"], d["asked_at"])}
-    inv, ans, lost, helpers = [], [], 0, []
+    inv, ans, lost, helpers, records = [], [], 0, [], set()
     for comment, name, own in items:
         sig = own[0]
         head = "".join(c + "\n" for c in comment)
@@ -335,7 +352,7 @@ def turn(crate, folder, d):
             rest = m2.group(3)
             if not unf and re.fullmatch(r"\s*search rules\s*|\s*omega arith\s*", rest):
                 continue
-            rest, n = paths(rest, steps, place)
+            rest, n = paths(rest, steps, place, new)
             rest = re.sub(r"^\s*\n[ \t]*\n", "\n", rest)
             lost += n
             c = m2.group(1)
@@ -347,6 +364,16 @@ def turn(crate, folder, d):
         if re.search(r"M : Type 1\} → statement M", sig):
             continue
         text = "\n".join(own)
+        m = re.search(r"\(c : tie\.([\w-]+)[^)]*\)", text)
+        if m:
+            # A lemma over what is known at one place.
+            place = next((p for p in steps.field if norm(p) == norm(m.group(1))), None)
+            records.add(steps.new_place.get(place, m.group(1)))
+            k = next((i for i, l in enumerate(own) if i and re.match(re.escape(name) + r"(\s|$)", l)), 1)
+            said, n1 = paths("\n".join(own[:k]).replace(m.group(0), f"(c : {steps.new_place.get(place, m.group(1))})"), steps, place, None)
+            did, n2 = paths("\n".join(own[k:]), steps, place, None)
+            text = said + "\n" + did
+            lost += n1 + n2
         if "tie." in text:
             lost += 1
             text = "-- LOST_HELPER\n" + text
@@ -359,7 +386,8 @@ def turn(crate, folder, d):
             f.write("\n".join(kept + [goal + "Given as goal"]) + "\n\n" + "\n\n".join(inv) + "\n")
     if ans or helpers:
         with open(os.path.join(folder, "Answers.antt"), "w", encoding="utf-8") as f:
-            f.write("\n".join(kept + [goal + "Goals as goal"]) + "\n\n" + "\n\n".join(helpers + ans) + "\n")
+            also = [goal + "Goals.{" + ", ".join(sorted(records)) + "}"] if records else []
+            f.write("\n".join(kept + [goal + "Goals as goal"] + also) + "\n\n" + "\n\n".join(helpers + ans) + "\n")
     os.remove(path)
     return lost
 

@@ -28,10 +28,9 @@ loop-k-preserved c =
 pub returns-in-Pair : goal.returns-in-Pair
 returns-in-Pair c =
     let l = c.loop-k in
-    let g = c.hit-1.given in
     rw c.naming.ensures
     (loop-collides c.args.store.now c.requires _ l.k l.invariant c.loop-k-test.true c.loop_hit-hit.result
-    c.loop_hit-hit.ensures g.0.0 g.0.1.0 g.1)
+    c.loop_hit-hit.ensures c.in-Pair.m c.in-Pair.n c.in-Pair.is)
 
 pub returns : goal.returns
 returns c =

@@ -5,20 +5,28 @@ use mathlib.Core.Path.{ap}
 use Rattle.reader.specs.Store.{start_at}
 use Rattle.serial.proofs.Walks.{rows-known, row-known, loop-found, loop-nothing, Lower, lower-start, lower-next}
 use Rattle.serial.proofs.first_pair.Goals as goal
+use Rattle.serial.proofs.first_pair.Goals.{After-last_destination-end}
 
--- the loop's rows, known from the start
--- LOST_HELPER
-rows : (c : tie.Start invariant-loop decreases-loop)
-    → (c.args.k < 16) × (start_at c.args.store.now c.args.k < start_at c.args.store.now (c.args.k + 1)) × (start_at c.args.store.now (c.args.k + 1) ≤ 576)
-rows c = rows-known c.args.store.now c.requires.0 c.args.k c.requires.1
+pub start_at-from-requires : goal.start_at-from-requires
+start_at-from-requires c = omega (arith, rows-known c.args.store.now c.requires.0 c.args.k c.requires.1)
+
+pub overflow_add-k : goal.overflow_add-k
+overflow_add-k c = omega (arith, rows-known c.args.store.now c.requires.0 c.args.k c.requires.1)
+
+pub start_at-past-requires : goal.start_at-past-requires
+start_at-past-requires c = omega (arith, rows-known c.args.store.now c.requires.0 c.args.k c.requires.1)
+
+pub first_at-first-requires : goal.first_at-first-requires
+first_at-first-requires c = (rows-known c.args.store.now c.requires.0 c.args.k c.requires.1).0
+
+pub last_at-last-requires : goal.last_at-last-requires
+last_at-last-requires c = (rows-known c.args.store.now c.requires.0 c.args.k c.requires.1).0
 
 -- where they end, and the last destination before that
--- LOST_HELPER
-ends : (c : tie.After-last-destination invariant-loop decreases-loop) → (c.before.before.before.start-at2.result ≤ 576) × (c.last-destination.result < c.before.before.before.start-at2.result)
+ends : (c : After-last_destination-end) → (c.start_at-past.result ≤ 576) × (c.last_destination-end.result < c.start_at-past.result)
 ends c =
-    let b = c.before.before.before.before.before in
-    let e = c.before.before.before.start-at2.ensures in
-    (omega (arith, e, (rows b).2), omega (arith, e, c.last-destination.ensures.before, ap (start_at b.args.store.now) (add-one b.args.k)))
+    let e = c.start_at-past.ensures in
+    (omega (arith, e, (rows-known c.args.store.now c.requires.0 c.args.k c.requires.1).2), omega (arith, e, c.last_destination-end.ensures.before, ap (start_at c.args.store.now) (add-one c.args.k)))
 
 pub loop-row-init : goal.loop-row-init
 loop-row-init c =
@@ -26,17 +34,17 @@ loop-row-init c =
 
 pub partner-other-requires : goal.partner-other-requires
 partner-other-requires c =
-    let d = ends LOST_c.before.before in (
+    let d = ends (goal.at.partner-other-requires c).After-last_destination-end in (
       omega (arith, c.loop-row-test.true, d.1),
       d.0,
       rw c.start_at-past.ensures (row-known c.args.store.now c.requires.0 c.args.k c.requires.1),
     )
 
 pub references_in-lower-requires : goal.references_in-lower-requires
-references_in-lower-requires c = let d = ends LOST_c.before.before.before.before in omega (arith, c.loop-row-test.true, d.0, d.1)
+references_in-lower-requires c = let d = ends (goal.at.references_in-lower-requires c).After-last_destination-end in omega (arith, c.loop-row-test.true, d.0, d.1)
 
 pub references_in-higher-requires : goal.references_in-higher-requires
-references_in-higher-requires c = let d = ends LOST_c.before.before.before.before.before in omega (arith, c.if-other-past.true, d.0)
+references_in-higher-requires c = let d = ends (goal.at.references_in-higher-requires c).After-last_destination-end in omega (arith, c.if-other-past.true, d.0)
 
 pub returns-then-other-past : goal.returns-then-other-past
 returns-then-other-past c =
@@ -46,7 +54,7 @@ returns-then-other-past c =
     c.references_in-lower.ensures c.references_in-higher.ensures
 
 pub overflow_add-row : goal.overflow_add-row
-overflow_add-row c = let d = ends LOST_c.before.before.before.before in omega (arith, c.loop-row-test.true, d.0, d.1)
+overflow_add-row c = let d = ends (goal.at.overflow_add-row c).After-last_destination-end in omega (arith, c.loop-row-test.true, d.0, d.1)
 
 pub loop-row-preserved : goal.loop-row-preserved
 loop-row-preserved c =

@@ -6,18 +6,27 @@ use Rattle.reader.specs.Held.{opening-held}
 use Rattle.serial.proofs.Walks.{rows-known, row-known, loop-alone, loop-first}
 use Rattle.serial.proofs.loop_hit.Goals as goal
 
--- the loop's rows, known from the start
--- LOST_HELPER
-rows : (c : tie.Start)
-    → (c.args.k < 16) × (start_at c.args.store.now c.args.k < start_at c.args.store.now (c.args.k + 1)) × (start_at c.args.store.now (c.args.k + 1) ≤ 576)
-rows c = rows-known c.args.store.now c.requires.0 c.args.k c.requires.1
+pub start_at-from-requires : goal.start_at-from-requires
+start_at-from-requires c = omega (arith, rows-known c.args.store.now c.requires.0 c.args.k c.requires.1)
+
+pub overflow_add-k : goal.overflow_add-k
+overflow_add-k c = omega (arith, rows-known c.args.store.now c.requires.0 c.args.k c.requires.1)
+
+pub start_at-past-requires : goal.start_at-past-requires
+start_at-past-requires c = omega (arith, rows-known c.args.store.now c.requires.0 c.args.k c.requires.1)
+
+pub first_at-first-requires : goal.first_at-first-requires
+first_at-first-requires c = (rows-known c.args.store.now c.requires.0 c.args.k c.requires.1).0
+
+pub last_at-last-requires : goal.last_at-last-requires
+last_at-last-requires c = (rows-known c.args.store.now c.requires.0 c.args.k c.requires.1).0
 
 pub partner_or_destination-other-requires : goal.partner_or_destination-other-requires
 partner_or_destination-other-requires c =
     let s = c.start_at-from.ensures in
     let e = c.start_at-past.ensures in (
-      omega (arith, s, e, (rows c).1),
-      omega (arith, e, (rows c).2),
+      omega (arith, s, e, (rows-known c.args.store.now c.requires.0 c.args.k c.requires.1).1),
+      omega (arith, e, (rows-known c.args.store.now c.requires.0 c.args.k c.requires.1).2),
       rw e (row-known c.args.store.now c.requires.0 c.args.k c.requires.1),
       rw s (opening-held c.requires.0 c.args.k c.requires.1),
     )
@@ -28,10 +37,10 @@ returns-then-past-other c =
     c.start_at-from.ensures c.start_at-past.ensures _ c.partner_or_destination-other.ensures c.if-past-other.true
 
 pub kind_at-requires : goal.kind_at-requires
-kind_at-requires c = omega (arith, c.if-past-other.false, c.start_at-past.ensures, (rows LOST_c.before.before.before.before.before.before).2)
+kind_at-requires c = omega (arith, c.if-past-other.false, c.start_at-past.ensures, (rows-known c.args.store.now c.requires.0 c.args.k c.requires.1).2)
 
 pub references_in-requires : goal.references_in-requires
-references_in-requires c = omega (arith, c.if-past-other.false, c.start_at-past.ensures, (rows LOST_c.before.before.before.before.before.before.before.before).2)
+references_in-requires c = omega (arith, c.if-past-other.false, c.start_at-past.ensures, (rows-known c.args.store.now c.requires.0 c.args.k c.requires.1).2)
 
 pub returns : goal.returns
 returns c =

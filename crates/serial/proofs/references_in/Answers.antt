@@ -1,8 +1,8 @@
 use native.Mathlib.Omega.{arith}
-use mathlib.Core.Logic.{⊎_elim}
 use Prim.Native.Nat.{◌-◌}
 use Rattle.serial.proofs.Walks.{Counted, counted_start, counted-reference, counted-other, counted-end}
 use Rattle.serial.proofs.references_in.Goals as goal
+use Rattle.serial.proofs.references_in.Goals.{then-kind_at-lt-CONSTANT, else-kind_at-lt-CONSTANT}
 
 pub loop-row-init : goal.loop-row-init
 loop-row-init c = let a = c.args in counted_start a.store.now a.from a.past
@@ -21,10 +21,12 @@ loop-row-preserved c =
     let a = c.args in
     let l = c.loop-row in
     let k = c.kind_at.ensures in
-    ⊎_elim
-    (λ w. rw w.1 (counted-reference a.store.now a.from a.past l.row l.n l.invariant c.loop-row-test.true (omega (arith, k, w.0.taken))))
-    (λ w. rw w.1 (counted-other a.store.now a.from a.past l.row l.n l.invariant c.loop-row-test.true (omega (arith, k, w.0.left))))
-    c.if-kind_at-lt-CONSTANT.branch
+    elim c.if-kind_at-lt-CONSTANT.branch [
+      then-kind_at-lt-CONSTANT w ↦
+        rw w.n-is (counted-reference a.store.now a.from a.past l.row l.n l.invariant c.loop-row-test.true (omega (arith, k, w.if-kind_at-lt-CONSTANT.true)))
+    | else-kind_at-lt-CONSTANT w ↦
+        rw w.n-is (counted-other a.store.now a.from a.past l.row l.n l.invariant c.loop-row-test.true (omega (arith, k, w.if-kind_at-lt-CONSTANT.false)))
+    ]
 
 pub returns : goal.returns
 returns c =

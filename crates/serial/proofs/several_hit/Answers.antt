@@ -7,25 +7,28 @@ use Rattle.serial.proofs.Walks.{rows-known, row-known, loop-apart}
 use Rattle.serial.proofs.Offsets.{none-collide}
 use Rattle.serial.proofs.several_hit.Goals as goal
 
--- the loop's rows, known from the start
--- LOST_HELPER
-rows : (c : tie.Start)
-    → (c.args.k < 16) × (start_at c.args.store.now c.args.k < start_at c.args.store.now (c.args.k + 1)) × (start_at c.args.store.now (c.args.k + 1) ≤ 576)
-rows c = rows-known c.args.store.now c.requires.0 c.args.k c.requires.1
+pub start_at-from-requires : goal.start_at-from-requires
+start_at-from-requires c = omega (arith, rows-known c.args.store.now c.requires.0 c.args.k c.requires.1)
+
+pub overflow_add-k : goal.overflow_add-k
+overflow_add-k c = omega (arith, rows-known c.args.store.now c.requires.0 c.args.k c.requires.1)
+
+pub start_at-past-requires : goal.start_at-past-requires
+start_at-past-requires c = omega (arith, rows-known c.args.store.now c.requires.0 c.args.k c.requires.1)
 
 pub stored_offsets-offsets-requires : goal.stored_offsets-offsets-requires
 stored_offsets-offsets-requires c =
     let s = c.start_at-from.ensures in
     let e = c.start_at-past.ensures in (
-      omega (arith, s, e, (rows c).1),
-      omega (arith, e, (rows c).2),
+      omega (arith, s, e, (rows-known c.args.store.now c.requires.0 c.args.k c.requires.1).1),
+      omega (arith, e, (rows-known c.args.store.now c.requires.0 c.args.k c.requires.1).2),
       rw e (row-known c.args.store.now c.requires.0 c.args.k c.requires.1),
     )
 
 pub some_differs-requires : goal.some_differs-requires
 some_differs-requires c =
     let e = c.start_at-past.ensures in
-    (omega (arith, c.start_at-from.ensures, e, (rows c).1), omega (arith, e, (rows c).2))
+    (omega (arith, c.start_at-from.ensures, e, (rows-known c.args.store.now c.requires.0 c.args.k c.requires.1).1), omega (arith, e, (rows-known c.args.store.now c.requires.0 c.args.k c.requires.1).2))
 
 pub returns : goal.returns
 returns c =

@@ -37,10 +37,11 @@ loop-row-smaller c = omega (arith, c.loop-row-test.true)
 pub loop-row-preserved : goal.loop-row-preserved
 loop-row-preserved c =
     let l = c.loop-row in
-    let e = rw (c.array_at.ensures, c.kind_at.ensures) at c.with_row-s.ensures in
+    let e = rw (c.array_at.ensures, c.kind_at.ensures) at c.with_row-s.ensures.by_index in
+    let f = rw (c.array_at.ensures, c.kind_at.ensures) at c.with_row-s.ensures.by_index_2 in
     sets-next c.args.store.now c.args.k l.row l.s l.invariant
     (omega (arith, (rows-past c.requires.0 c.args.k c.requires.1 c.start_at-past.result c.start_at-past.ensures).1, c.loop-row-test.true))
-    c.with_row-s.result e.0 e.1
+    c.with_row-s.result e f
 
 pub returns : goal.returns
 returns c =

@@ -21,11 +21,11 @@ loop-k-preserved c =
     c.with_loop-s.result c.with_loop-s.ensures
 
 pub overflow_add-after : goal.overflow_add-after
-overflow_add-after c = omega (arith, LOST_c.before.type_size.ensures.1, c.size_of-2.ensures.1)
+overflow_add-after c = omega (arith, c.size_of.ensures.1, c.size_of-2.ensures.1)
 
 pub returns : goal.returns
 returns c =
     let l = c.loop-k in
     let n = c.loops_in-loops in
     loops-done c.args.store.now c.requires n.result n.ensures l.k l.s l.invariant c.loop-k-test.false
-    LOST_c.before.type_size.result c.size_of-2.result LOST_c.before.type_size.ensures.0 c.size_of-2.ensures.0
+    c.size_of.result c.size_of-2.result c.size_of.ensures.0 c.size_of-2.ensures.0

@@ -7,7 +7,7 @@ pub returns : goal.returns
 returns c =
     let a = c.args in
     let z = c.sets_of-sets in
-    let x = LOST_c.before.before.before.before.type_size in
+    let x = c.size_of in
     let y = c.size_of-2 in
     added a.s (table_in a.store.now) a.k z.result z.ensures x.result y.result c.union.result
     c.union-2.result x.ensures.0 y.ensures.0 c.union.ensures c.union-2.ensures

@@ -1,0 +1,20 @@
+use Prim.Native.Nat.{ℕ, ◌-◌, ◌≤◌}
+use mathlib.Core.Path.{◌≡◌, subst}
+use native.Mathlib.Omega.{arith}
+use borrow.Author.Rules.{rules}
+use Rattle.order.specs.Sequences.{joined}
+use Rattle.model.specs.Table.{count}
+use Rattle.model.specs.References.{refs}
+use Rattle.reader.specs.Store.{table_in}
+use Rattle.reader.specs.Held.{count_held}
+use Rattle.amounts.specs.Walked.{Walked, numbers_in}
+use Rattle.amounts.proofs.Laws.{count-few, walked_start, walked_all}
+use Rattle.amounts.proofs.walk.Given as goal
+
+-- `walk` meets its contract. The invariant: the walk has come past the references of the loops below k.
+abbrev pub invariant-loop-k : goal.invariant-loop-k
+invariant-loop-k l =
+    (l.k ≤ l.count) × Walked (table_in l.store) (joined l.k (refs (table_in l.store))) l.n l.columns (numbers_in l.ss l.ps l.made)
+
+abbrev pub decreases-loop-k : goal.decreases-loop-k
+decreases-loop-k l = l.count - l.k

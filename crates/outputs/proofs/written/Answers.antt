@@ -1,0 +1,5 @@
+use borrow.Author.Rules.{rules}
+use Rattle.outputs.proofs.written.Goals as goal
+
+pub returns : goal.returns
+returns c = rw c.none-r.ensures
