@@ -11,14 +11,13 @@ with both lines, for the hand, and left as they are.
 """
 
 import difflib
-import glob
 import os
 import re
 import subprocess
 import sys
 
 sys.path.insert(0, os.path.dirname(os.path.realpath(__file__)))
-from respell import CAMEL, PART, snake  # noqa: E402
+from respell import PART, snake  # noqa: E402
 
 # Words of the libraries of before, and today's.
 WORDS = {"getD": "get_or", "decLt": "dec_lt", "decLe": "dec_le", "ℕ-discrete": "ℕ_discrete", "⊎-elim": "⊎_elim"}
