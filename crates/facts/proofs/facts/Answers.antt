@@ -1,5 +1,5 @@
 use Rattle.serial.specs.Serial.{table}
-use Rattle.tables.specs.Nine.{valid}
+use Rattle.tables.proofs.Nine.{valid}
 use Rattle.facts.specs.Facts.{facts_of, facts_given}
 use Rattle.numbers.specs.AskedLaws.{entry-refused, entry-given}
 use borrow.Author.Rules.{rules}

@@ -3,7 +3,7 @@ use native.Mathlib.Omega.{arith}
 use mathlib.Core.Path.{◌≡◌, sym}
 use Prim.Native.Nat.{◌+◌, ◌-◌, ◌*◌, ◌≤◌}
 use Rattle.legality.specs.Written.{number_at, filled}
-use Rattle.legality.specs.WrittenLaws.{filled_none}
+use Rattle.legality.proofs.WrittenLaws.{filled_none}
 use Rattle.legality.proofs.read_amounts.Given as goal
 
 abbrev pub invariant-loop-k : goal.invariant-loop-k

@@ -3,7 +3,7 @@ use native.Mathlib.Omega.{arith}
 use mathlib.Core.Path.{◌≡◌, refl, ap, ◌∙◌}
 use Rattle.reader.specs.Store.{loops_in}
 use Rattle.blocks.specs.declared.Axis.{Axis}
-use Rattle.lists.specs.BelowLaws.{indices_in}
+use Rattle.lists.proofs.BelowLaws.{indices_in}
 use Rattle.plans.specs.Code.{Laid}
 use Rattle.ranges.specs.Code.{range_of, Along}
 use Rattle.ranges.specs.Listed.{few-loops, lengths-in}

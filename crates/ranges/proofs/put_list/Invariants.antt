@@ -4,7 +4,7 @@ use mathlib.Core.Path.{◌≡◌, refl, ap, ◌∙◌}
 use Rattle.reader.specs.Store.{loops_in}
 use Rattle.blocks.specs.declared.Range.{Range}
 use Rattle.blocks.specs.Sums.{column}
-use Rattle.lists.specs.BelowLaws.{indices_in}
+use Rattle.lists.proofs.BelowLaws.{indices_in}
 use Rattle.ranges.specs.Code.{range_of}
 use Rattle.ranges.specs.Listed.{few-loops, block-asks, range_small, lengths-in}
 use Rattle.ranges.proofs.Laws.{Filled, filled_none, filled_next}
