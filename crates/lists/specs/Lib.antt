@@ -8,7 +8,7 @@ pub mod ListsExample
 pub mod Below
 -- the lists of all processors
 pub mod Fusion
--- each iteration of a table in one of them
+-- blocks that are wide enough for the shifts and peels
 pub mod FusionLaws
 -- each iteration in one list, once: what that says
 pub mod EachOnce
