@@ -7,7 +7,7 @@ use Rattle.order.specs.Sequences.{Before, NoDup}
 use Rattle.order.specs.Lists.{before-left, before-right}
 use Rattle.order.specs.Rows.{Rows}
 use Rattle.model.specs.declared.Iteration.{Iteration}
-use Rattle.model.specs.Table.{Table, count, last, Inside}
+use Rattle.model.specs.Table.{Table, count, first, last, Inside}
 use Rattle.blocks.specs.Sums.{largest, column}
 use Rattle.blocks.specs.SumLaws.{largest-bound}
 use Rattle.blocks.specs.Span.{table_span}
@@ -20,13 +20,16 @@ use Rattle.lists.specs.Lists.{ranges, fused_columns, peeled_columns}
 use Rattle.lists.proofs.Order.{less-key, by-sums-mem, by-sums-before, by-sums-same, by-loops-mem, by-loops-before, by-loops-same}
 use Rattle.lists.specs.Fusion.{Fusion, own, fused_range, peeled_range, fused_list, peeled_list, phases, work}
 use Rattle.lists.specs.Fusion.{fusion_of}
-use Rattle.lists.specs.FusionLaws.{Wide}
+use Rattle.lists.specs.Wide.{Wide as WideOf}
 
 module _ (t : Table) (c : Fusion) where
   open c use {shift, peel, processors, edge}
 
-  -- the middle blocks are no smaller than any loop's shift and peel together if they are no smaller than the threshold
-  pub wide_by : (threshold : ℕ) → ((k : ℕ) → k < count t → shift k + peel k ≤ threshold) → Gaps processors edge threshold → Wide t c
+  abbrev Wide : Type 0
+  Wide = WideOf t c
+
+  -- so it is if they are no smaller than the threshold
+  pub wide_by : (threshold : ℕ) → ((k : ℕ) → k < count t → shift k + peel k ≤ threshold) → Gaps processors edge threshold → Wide
   wide_by threshold h g = record { some = g.some; gaps = λ k l. gaps-less processors edge (shift k + peel k) threshold (h k l) g }
 
   -- the processor of an iteration, and its phase: 0 if it is fused, 1 if it is peeled
@@ -91,7 +94,7 @@ module _ (t : Table) (c : Fusion) where
   pub index_below : (x : Iteration) → Inside t x → x.index < past_all
   index_below x i = omega (arith, i.2, largest-bound (count t) x.number (λ k. suc (last t k)) i.0)
 
-  module _ (wide : Wide t c) where
+  module _ (wide : Wide) where
     open wide use {some, gaps}
 
     pub fused-known : (b : ℕ) (x : Iteration) → b < processors → Mem x (fused_list t c b) → (owner x ≡ b) × (phase x ≡ 0)

@@ -8,7 +8,7 @@ pub mod ListsExample
 pub mod Below
 -- the lists of all processors
 pub mod Fusion
--- blocks that are wide enough for the shifts and peels
-pub mod FusionLaws
+-- block ends that leave each shift and peel room
+pub mod Wide
 -- each iteration in one list, once: what that says
 pub mod EachOnce

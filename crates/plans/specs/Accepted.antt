@@ -11,7 +11,7 @@ use Rattle.chains.specs.Graph.{Dependence}
 use Rattle.chains.specs.TableGraph.{graph}
 use Rattle.chains.specs.Legal.{LegalPlan}
 use Rattle.lists.specs.Fusion.{Fusion}
-use Rattle.lists.specs.FusionLaws.{Wide}
+use Rattle.lists.specs.Wide.{Wide}
 use Rattle.rows.specs.Legal.{Legal}
 use Rattle.amounts.specs.declared.Amounts.{Amounts}
 use Rattle.legality.specs.Code.{Within}

@@ -47,12 +47,12 @@ put_line_of_two-requires c =
 pub shape_of-out : goal.shape_of-out
 shape_of-out c =
     let p =
-    c.put_loops-a.kept.0 in
+    c.put_loops-a.auto.out in
     let q =
-    c.put_blocks-b.kept.0 in
-    let r = c.put_parts-c.kept.0 in
-    let s = c.put_parts-d.kept.0 in
-    c.put_line_of_two.kept.0 ∙ s ∙ r ∙ q ∙ p
+    c.put_blocks-b.auto.out in
+    let r = c.put_parts-c.auto.out in
+    let s = c.put_parts-d.auto.out in
+    c.put_line_of_two.auto.out ∙ s ∙ r ∙ q ∙ p
 
 pub returns : goal.returns
 returns c =

@@ -1,4 +1,4 @@
--- When blocks are wide enough for the shifts and peels of a table's loops.
+-- Block ends that leave each loop's shift and peel room.
 use Rattle.std.specs.Prelude.{ℕ, ◌+◌, ◌<◌}
 use Rattle.model.specs.Table.{Table, count}
 use Rattle.blocks.specs.Index.{Gaps}
