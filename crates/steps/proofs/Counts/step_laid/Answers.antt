@@ -1,7 +1,6 @@
 use Prim.Native.Nat.{ℕ, ◌<◌}
 use native.Mathlib.Omega.{arith}
 use mathlib.Core.Path.{◌≡◌, refl, sym, ap, ◌∙◌}
-use mathlib.Core.Logic.{⊎_elim}
 use lib.ListN.{length, get_or}
 use Rattle.reader.specs.Store.{table_in}
 use Rattle.stepping.specs.declared.Report.TheVariants.{Performed}
@@ -12,7 +11,7 @@ use Rattle.steps.proofs.Counts.step_laid.Goals.{Start}
 
 -- searched for where nothing else is in reach
 counts-long : (c : Start) → length c.args.self.done ≡ 64
-counts-long c = search (rules, LOST_c.well-formed)
+counts-long c = search (rules, c.well_formed)
 
 pub returns-then-processors-b : goal.returns-then-processors-b
 returns-then-processors-b c =
@@ -34,11 +33,10 @@ iterate-requires c =
     let w = p.0.0 in
     let h = p.0.1 in
     let l : a.b < a.processors = omega (arith, c.if-processors-b.false) in
-    let x = c.next_of-report in
-    let g = c.report-1.given in (
+    let x = c.next_of-report in (
       table_in a.store.now,
       h.loaded,
-      (performed-inside h l a.self.done x.result (x.ensures w h.phased (h.listed l)) g.0.0 g.0.1.0 g.1).0,
+      (performed-inside h l a.self.done x.result (x.ensures w h.phased (h.listed l)) c.in-Performed.number c.in-Performed.index c.in-Performed.is).0,
       p.1,
     )
 
@@ -50,9 +48,8 @@ overflow_add-self c =
     let tested = c.if-processors-b in
     let l : a.b < a.processors = omega (arith, tested.false) in
     let x = c.next_of-report in
-    let g = c.report-1.given in
     let e = ap (λ (k : ℕ). get_or a.self.done k 0) c.wide.ensures.0 in
-    let i = performed-inside h l a.self.done x.result (x.ensures p.0.0 h.phased (h.listed l)) g.0.0 g.0.1.0 g.1 in
+    let i = performed-inside h l a.self.done x.result (x.ensures p.0.0 h.phased (h.listed l)) c.in-Performed.number c.in-Performed.index c.in-Performed.is in
     omega (arith, e, i.1)
 
 pub returns-in-Performed : goal.returns-in-Performed
@@ -61,13 +58,12 @@ returns-in-Performed c =
     let tested = c.if-processors-b in
     let l : a.b < a.processors = omega (arith, tested.false) in
     let x = c.next_of-report in
-    let g = c.report-1.given in
     let own = c.wide in
     let y = c.iterate in
     λ w h. let told = x.ensures w h.phased (h.listed l) in
-    leaves-performed h l a.self.done (Performed g.0.0 g.0.1.0) (sym g.1 ∙ told) a.memory.now g.0.0 g.0.1.0 refl
+    leaves-performed h l a.self.done (Performed c.in-Performed.number c.in-Performed.index) (sym c.in-Performed.is ∙ told) a.memory.now c.in-Performed.number c.in-Performed.index refl
     own.result own.ensures.0 _
-    (y.ensures (table_in a.store.now) h.loaded (performed-inside h l a.self.done x.result told g.0.0 g.0.1.0 g.1).0)
+    (y.ensures (table_in a.store.now) h.loaded (performed-inside h l a.self.done x.result told c.in-Performed.number c.in-Performed.index c.in-Performed.is).0)
 
 pub returns-in_default : goal.returns-in_default
 returns-in_default c =
@@ -75,4 +71,4 @@ returns-in_default c =
     let l : a.b < a.processors = omega (arith, c.if-processors-b.false) in
     let x = c.next_of-report in
     λ w h. leaves-other h l a.self.done x.result (x.ensures w h.phased (h.listed l)) a.memory.now
-    (λ k i q. ⊎_elim (λ z. omega (arith, z)) (⊎_elim (λ z. omega (arith, z)) (λ z. omega (arith, z))) (rw q at c.in_default.keys2))
+    (λ k i q. c.in_default.not-Performed k i q)
