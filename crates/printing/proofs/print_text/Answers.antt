@@ -8,8 +8,7 @@ returns-then-r-ne0 c =
     let a = c.args in
     let told = c.plan_table-p.ensures in
     let number = c.wide.ensures.0 in
-    let (given, few) = c.print_refusal.ensures in
-    refused-printed a.s.now a.w _ _ a.out.now _ _ told c.if-r-ne0.true _ number given few
+    refused-printed a.s.now a.w _ _ a.out.now _ _ told c.if-r-ne0.true _ number c.print_refusal.ensures.gives c.print_refusal.ensures.place_len_bound
 
 pub print_lines-requires : goal.print_lines-requires
 print_lines-requires c =
