@@ -15,6 +15,8 @@ IDENT = r"[^\s(){}\[\].,;:]+"
 OWN = "own"
 # By function, the names of its clauses.
 CLAUSES = {}
+# By function, its parameters.
+PARAMS = {}
 ROOTS = {"args", "requires", "ranges", "type_inv", "utf8", "well_formed"}
 
 
@@ -36,6 +38,11 @@ def read_clauses():
                     if m:
                         function = f"{crate}::{inside}{m.group(1)}"
                         CLAUSES[function] = {"requires": [], "ensures": []}
+                        PARAMS[function], heading = [], True
+                    if function and heading:
+                        inner = l.split("(", 1)[-1] if m else l
+                        PARAMS[function] += re.findall(r"(?:mut )?\b(\w+): |\b(self)\b", inner.split(" -> ")[0])
+                        heading = ")" not in inner.split(" -> ")[0] or (inner.rstrip().endswith(",") and "->" not in inner)
                     m = re.match(r"\s*(requires|ensures) (?:(\w+) )?\{", l)
                     if m and function:
                         CLAUSES[function][m.group(1)].append(m.group(2))
@@ -169,7 +176,12 @@ class Steps:
         looked at last."""
         # port.py takes a step that is called size-of for the library's.
         first = re.sub("^type_size", "size-of", rest[0])
+        if first == "pre":
+            first, rest = "requires", ["requires"] + rest[1:]
         if first in ROOTS:
+            m = re.fullmatch(r"t(\d+)", rest[1]) if first == "args" and len(rest) > 1 else None
+            if m and int(m.group(1)) <= len(PARAMS.get(OWN, [])):
+                rest = [first, PARAMS[OWN][int(m.group(1)) - 1]] + rest[2:]
             return ["c"] + self.clause(rest, "requires", OWN)
         for p in list(self.chain(place)) + list(self.chain(asked)):
             old, new = self.field[p]
@@ -177,6 +189,8 @@ class Steps:
                 for arm, f, path in self.new_arm.get(norm(old), []):
                     if path and rest[1:1 + len(path)] == path:
                         return ["c", arm, f] + rest[1 + len(path):]
+                if rest[1:] in (["taken"], ["left"]):
+                    rest = [rest[0], "true" if rest[1] == "taken" else "false"]
                 return ["c", new] + self.lent(self.clause(rest[1:], "ensures", self.callee.get(p)), self.callee.get(p))
         return None
 
@@ -255,10 +269,11 @@ def paths(body, steps, place, goal):
         if who not in alias:
             if who in parts:
                 kind, function = parts[who]
-                if kind == "requires":
-                    out.append(".".join([who] + steps.clause(["requires"] + tail, "requires", function)[1:]))
+                if kind in ("requires", "its"):
+                    word = "requires" if kind == "requires" else "ensures"
+                    out.append(".".join([who] + steps.clause([word] + tail, word, function)[1:]))
                 else:
-                    out.append(".".join([who] + steps.clause(tail, "ensures", function)))
+                    out.append(".".join([who] + steps.lent(steps.clause(tail, "ensures", function), function)))
             else:
                 out.append(m.group(0))
             continue
@@ -279,10 +294,10 @@ def paths(body, steps, place, goal):
             if b and body[pos:pos + 3] == " in":
                 if t == ["c", "requires"]:
                     parts[b.group(1)] = ("requires", OWN)
-                elif len(t) == 2:
+                elif len(t) == 2 or len(t) == 3 and t[2] == "ensures":
                     function = next((steps.callee[q] for q in steps.field if steps.field[q][1] == t[1] and steps.callee[q]), None)
                     if function:
-                        parts[b.group(1)] = ("ensures", function)
+                        parts[b.group(1)] = ("ensures" if len(t) == 2 else "its", function)
     out.append(body[pos:])
     text = "".join(out)
     text = re.sub(r"\n[ \t]+\n", "\n", "\n" + text)[1:]
@@ -405,6 +420,7 @@ def main(argv):
         if key not in d:
             print("answers: no names for", mine)
             continue
+        PARAMS[OWN] = [a or b for a, b in PARAMS.get(crate + "::" + mine.replace(".", "::"), [])]
         CLAUSES[OWN] = CLAUSES.get(crate + "::" + mine.replace(".", "::"), {})
         lost = turn(crate, folder, d[key])
         print("answers:", mine, "lost", lost) if lost else None

@@ -20,17 +20,18 @@ use Rattle.reader.specs.Held.{Held, first-held, last-held, count_held, few-loops
 use Rattle.reader.specs.Rows.{ref_in, refs_in}
 use Rattle.reader.specs.RowLaws.{row-reference, row-none, refs-next as rows_next}
 use Rattle.overlap.specs.Overlap.{overlap}
-use Rattle.overlap.specs.OverlapLaws.{overlap-meeting}
+use Rattle.overlap.proofs.OverlapLaws.{overlap-meeting}
 use Rattle.chains.specs.Dependence.{meet_in, backward, forward}
-use Rattle.chains.specs.DependenceLaws.{dependence-bounds, none-untouched}
+use Rattle.chains.proofs.DependenceLaws.{dependence-bounds, none-untouched}
 use Rattle.chains.specs.Graph.{Graph}
 use Rattle.chains.specs.TableGraph.{graph}
 use Rattle.chains.specs.Walk.{shifts, peels}
-use Rattle.chains.specs.WalkLaws.{zeros}
+use Rattle.chains.proofs.WalkLaws.{zeros}
 use Rattle.chains.specs.Steps.{Placed, Pair, at, pair_of, placed_from, pairs_to, steps_to, steps, raised_by, Following, Numbers, take_up, step, no_numbers, walked}
-use Rattle.chains.specs.StepLaws.{following-first, following-next, made-steps, placed-append, steps_to-append, steps_to-one, raised_by-length, raised_by-met, raised_by-none, walked-numbers}
-use Rattle.chains.specs.Bounds.{Small, raised_by-small}
-use Rattle.chains.specs.Tables.{refs-number, refs-all_refs, all_refs-below}
+use Rattle.chains.proofs.StepLaws.{following-first, following-next, made-steps, placed-append, steps_to-append, steps_to-one, raised_by-length, raised_by-met, raised_by-none, walked-numbers}
+use Rattle.chains.specs.Bounds.{Small}
+use Rattle.chains.proofs.Bounds.{raised_by-small}
+use Rattle.chains.proofs.Tables.{refs-number, refs-all_refs, all_refs-below}
 use Rattle.amounts.specs.Rows.{past_row, past-ahead, past-few, row_in, past_next, joined-few, past-few-references, in-range}
 use Rattle.columns.specs.Columns.{ref_at, refs_from, Marked, with_reference}
 use Rattle.columns.specs.ColumnLaws.{with-sized, other-marked, here-marked, refs-with, refs-length, refs-mem, refs-first, refs-next, refs_end}

@@ -11,28 +11,28 @@ use Rattle.std.proofs.Math.Dec.{eqb}
 use borrow.Author.Tests.{eq-eqb, ne_eqb}
 use Rattle.refusals.specs.Refusals.{met}
 use Rattle.refusals.specs.Answers.{accepted, refused}
-use Rattle.refusals.specs.AnswerLaws.{if-accepted, after-accepted}
+use Rattle.refusals.proofs.AnswerLaws.{if-accepted, after-accepted}
 use Rattle.model.specs.Table.{Table, count}
 use Rattle.serial.specs.Serial.{table}
 use Rattle.reader.specs.Reading.{Answer}
 use Rattle.grounds.specs.Accepted.{Valid}
-use Rattle.tables.specs.Nine.{valid}
+use Rattle.tables.proofs.Nine.{valid}
 use Rattle.records.specs.Bytes.{two, four}
 use Rattle.numbers.specs.Numbers.{four as written, encoded}
 use Rattle.numbers.specs.NumberLaws.{encoded-length}
 use Rattle.outputs.specs.Given.{fitted}
 use Rattle.chains.specs.Walk.{shifts, peels}
-use Rattle.chains.specs.WalkLaws.{numbers-length}
+use Rattle.chains.proofs.WalkLaws.{numbers-length}
 use Rattle.chains.specs.Dependence.{backward, forward}
 use Rattle.chains.specs.TableGraph.{graph}
 use Rattle.amounts.specs.declared.Amounts.{Amounts}
 use Rattle.legality.specs.Written.{number_at, amounts_in}
-use Rattle.legality.specs.WrittenLaws.{filled-same, row-filled}
+use Rattle.legality.proofs.WrittenLaws.{filled-same, row-filled}
 use Rattle.legality.specs.ByHand.{judged, by_hand}
-use Rattle.legality.specs.ByHandLaws.{legal-judged, within-fine}
+use Rattle.legality.proofs.ByHandLaws.{legal-judged, within-fine}
 use Rattle.plans.specs.Plans.{Settings, shift_of, peel_of, own, bad_processors, bad_number, without_plan, amounts_for, fitting, planned, planned_for}
 use Rattle.plans.specs.Accepted.{own-chosen, shift_small, peel-small}
-use Rattle.plans.specs.FromBytes.{past_shift, past-peel}
+use Rattle.plans.proofs.FromBytes.{past_shift, past-peel}
 use Rattle.entries.specs.Entries.{amounts_of, amounts}
 use Rattle.entries.specs.Places.{amounts-count, amount-told}
 

@@ -13,7 +13,7 @@ use Rattle.turns.specs.Turn.{Said, refuses, performs, waits, ends, After, next, 
 use Rattle.turns.specs.Row.{performing}
 use Rattle.plans.specs.Plans.{Settings}
 use Rattle.stepping.specs.Step.{work_of, step}
-use Rattle.stepping.specs.Meaning.{step_is}
+use Rattle.stepping.proofs.Meaning.{step_is}
 use Rattle.stepping.specs.Run.{run_answer, memory_of, idle_of, run_memory, run_idle}
 
 -- whatever is given in lent bytes: joined tables, numbers, a listing

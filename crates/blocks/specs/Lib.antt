@@ -8,10 +8,6 @@ pub mod Span
 pub mod SpanLaws
 -- the blocks that they are split into, and when these are too short
 pub mod Blocks
--- how many lines blocks have, and that they have all
-pub mod BlockLaws
--- blocks on whole lines: they follow on each other and cover all; ground 11; and lines of one index
-pub mod LineLaws
 -- ten indices on whole lines, by computation
 pub mod LineKnown
 -- the parts of one index: each iteration in one of them, and what a dependence keeps

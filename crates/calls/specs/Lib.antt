@@ -2,13 +2,5 @@
 pub mod Rows
 -- the calls of an accepted plan are calls as turns has them
 pub mod Calls
--- demand 3, and what holds of every row
-pub mod AnyRow
--- the run in a caller's order
-pub mod CallersOrder
 -- an order of all iterations
 pub mod Orders
--- demand 3 of orders: every order is some row's
-pub mod EveryOrder
--- all are finished after a complete row
-pub mod Finished

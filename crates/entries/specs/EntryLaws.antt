@@ -8,7 +8,7 @@ use Rattle.model.specs.declared.Iteration.{Iteration}
 use Rattle.model.specs.Table.{count}
 use Rattle.blocks.specs.declared.Range.{Range}
 use Rattle.lists.specs.Fusion.{work}
-use Rattle.lists.specs.Order.{Within, by-sums-mem, by-loops-mem}
+use Rattle.lists.proofs.Order.{Within, by-sums-mem, by-loops-mem}
 use Rattle.plans.specs.Plans.{Settings, Planned, planned}
 use Rattle.plans.specs.Accepted.{planned-accepts}
 use Rattle.entries.specs.Entries.{loop_range, empty_as_zero}

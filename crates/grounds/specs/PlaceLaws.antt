@@ -7,7 +7,7 @@ use Rattle.records.specs.declared.Record.{Record}
 use Rattle.records.specs.declared.Record.TheVariants.{Unknown, End}
 use Rattle.records.specs.Bytes.{byte, kind_of, body_length, record_of, record_at}
 use Rattle.records.specs.Clear.{span_of}
-use Rattle.records.specs.ClearLaws.{span-kind}
+use Rattle.records.proofs.ClearLaws.{span-kind}
 use Rattle.grounds.specs.Places.{Records, start, next}
 
 pub records-within : (s : List ℕ) (p : ℕ) (rs : List Record) → Records s p rs → p ≤ length s

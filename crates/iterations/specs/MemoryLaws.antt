@@ -12,7 +12,7 @@ use Rattle.model.specs.Bodies.{place, value, performed, run}
 use Rattle.model.specs.PlainRun.{upward, looped}
 use Rattle.refusals.specs.Refusals.{met}
 use Rattle.refusals.specs.Answers.{AnswerOf, accepted, refused}
-use Rattle.refusals.specs.AnswerLaws.{if-accepted, after-accepted}
+use Rattle.refusals.proofs.AnswerLaws.{if-accepted, after-accepted}
 use Rattle.iterations.specs.Memory.{remembered}
 
 module _ {T : Type 0} (size : T → ℕ) where

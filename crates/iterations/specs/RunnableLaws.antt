@@ -14,7 +14,7 @@ use Rattle.reader.specs.Store.{start_at, statements_from}
 use Rattle.reader.specs.Held.{loop-held, few-rows, opening-held}
 use Rattle.grounds.specs.Statements.{sum}
 use Rattle.grounds.specs.Accepted.{Works}
-use Rattle.grounds.specs.AcceptedLaws.{valid-last}
+use Rattle.grounds.proofs.AcceptedLaws.{valid-last}
 use Rattle.bodies.specs.Workable.{Element, ReadsWithin}
 use Rattle.bodies.specs.Stopped.{Opens}
 use Rattle.iterations.specs.Memory.{element_total}

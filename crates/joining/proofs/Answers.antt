@@ -16,14 +16,15 @@ use Rattle.reader.specs.Accepting.{accepted-long}
 use Rattle.reader.specs.Store.{arrays_in, loops_in, table_in}
 use Rattle.reader.specs.Held.{Held, few-arrays, arrays-held, count_held}
 use Rattle.serial.specs.Serial.{table}
-use Rattle.serial.specs.Parallel.{accepted-parallel}
+use Rattle.serial.proofs.Parallel.{accepted-parallel}
 use Rattle.outputs.specs.declared.Outcome.{Outcome}
 use Rattle.outputs.specs.Given.{Given, fitted}
 use Rattle.outputs.specs.Gives.{refusing, writing, Gives}
-use Rattle.outputs.specs.GivesLaws.{gives-refused, after-refuses, after-gives, gives-short, gives-written}
+use Rattle.outputs.proofs.GivesLaws.{gives-refused, after-refuses, after-gives, gives-short, gives-written}
 use Rattle.joins.specs.Joining.{alike, joined_records, joining}
-use Rattle.joins.specs.Written.{alike_same}
-use Rattle.joins.specs.Copied.{bytes, bytes-length, bytes-joined}
+use Rattle.joins.proofs.Written.{alike_same}
+use Rattle.joins.specs.Copied.{bytes}
+use Rattle.joins.proofs.Copied.{bytes-length, bytes-joined}
 use Rattle.joining.proofs.Walks.{copied-both}
 
 -- an accepted table is longer than its arrays' records

@@ -12,7 +12,7 @@ use borrow.Author.Tests.{eq-eqb, ne_eqb}
 use Rattle.reader.specs.Store.{Sized, arrays_in, table_in}
 use Rattle.reader.specs.Held.{Held, few-arrays}
 use Rattle.joins.specs.Joining.{alike}
-use Rattle.joins.specs.Written.{alike_same}
+use Rattle.joins.proofs.Written.{alike_same}
 
 -- LENGTHS: the first n of xs and of ys; those from k on give what all give
 pub record Inv (xs ys : List ℕ) (n k : ℕ) : Type 0 where

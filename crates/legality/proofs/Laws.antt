@@ -22,11 +22,12 @@ use Rattle.reader.specs.Held.{Held, count_held, few-loops}
 use Rattle.reader.specs.Rows.{ref_in, row_refs, refers_to, refs_from, refs_in, LastDestination}
 use Rattle.reader.specs.RowLaws.{is-refers, row-reference, row-none, refs-next}
 use Rattle.chains.specs.Dependence.{meet_in, dependence}
-use Rattle.chains.specs.DependenceLaws.{touch_is, dependence-meets, dependence-bounds, none-untouched, earlier}
+use Rattle.chains.proofs.DependenceLaws.{touch_is, dependence-meets, dependence-bounds, none-untouched}
+use Rattle.chains.specs.TableGraph.{earlier}
 use Rattle.chains.specs.TableGraph.{graph}
-use Rattle.chains.specs.Tables.{refs-number, refs-all_refs, all_refs-refs, all_refs-below}
+use Rattle.chains.proofs.Tables.{refs-number, refs-all_refs, all_refs-refs, all_refs-below}
 use Rattle.chains.specs.Unmet.{some_of, least_from, missed, Unmet}
-use Rattle.chains.specs.UnmetLaws.{some_of_lem, of_some, some-append, least-found, least-none, least-is, least-most, below-least, unmet-is, unmet-later, unmet-first, unmet-none}
+use Rattle.chains.proofs.UnmetLaws.{some_of_lem, of_some, some-append, least-found, least-none, least-is, least-most, below-least, unmet-is, unmet-later, unmet-first, unmet-none}
 use Rattle.amounts.specs.Rows.{refs-in, row_in}
 use Rattle.amounts.specs.Walked.{ReferenceFits}
 use Rattle.amounts.specs.declared.Amounts.{Amounts}
@@ -35,7 +36,7 @@ use Rattle.refusals.specs.declared.Refusal.{Refusal}
 use Rattle.refusals.specs.Refusals.{none, met, naming}
 use Rattle.refusals.specs.Answers.{accepted, refused, refusal_of}
 use Rattle.legality.specs.Written.{number_at, filled, amounts_in}
-use Rattle.legality.specs.WrittenLaws.{filled_next}
+use Rattle.legality.proofs.WrittenLaws.{filled_next}
 use Rattle.legality.specs.ByHand.{large_at, too_large, first_unmet, judged, by_hand}
 use Rattle.legality.specs.Code.{missing, lacking, between, with_row, with_loop, stored_with, destination_row, destinations, unmet_in, least_unmet_in, numberless, Tells}
 

@@ -19,7 +19,7 @@ use Rattle.plans.specs.Code.{Laid}
 use Rattle.ranges.specs.Code.{range_of}
 use Rattle.ranges.specs.Listed.{loops-are, range-in, range_in}
 use Rattle.listing.specs.Listing.{loop_line, block_line, range_line, sweeps_line, each, range_lines, phase_name, listing}
-use Rattle.listing.specs.Same.{ranges-same}
+use Rattle.listing.proofs.Same.{ranges-same}
 
 -- A RANGE, empty or not
 pub peeled-name : (phase : ℕ) → (phase ≡ 0 → ⊥) → phase_name phase ≡ phase_name 1

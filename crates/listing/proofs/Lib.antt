@@ -1,2 +1,4 @@
 -- lines one after the other
 pub mod Laws
+-- lines that agree make one text
+pub mod Same

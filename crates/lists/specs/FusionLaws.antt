@@ -12,11 +12,12 @@ use Rattle.blocks.specs.Sums.{largest, column}
 use Rattle.blocks.specs.SumLaws.{largest-bound}
 use Rattle.blocks.specs.Span.{table_span}
 use Rattle.blocks.specs.Blocks.{is_short}
-use Rattle.blocks.specs.PartLaws.{In, in-fused, in-peeled, not-short-gaps}
+use Rattle.blocks.specs.PartLaws.{In}
+use Rattle.blocks.proofs.PartLaws.{in-fused, in-peeled, not-short-gaps}
 use Rattle.blocks.specs.Index.{Fused, Peeled, Gaps, gaps-less, in-part, fused-one, peeled-one}
 use Rattle.blocks.specs.Index.{owner as owner_of, phase as phase_of}
 use Rattle.lists.specs.Lists.{ranges, fused_columns, peeled_columns}
-use Rattle.lists.specs.Order.{less-key, by-sums-mem, by-sums-before, by-sums-same, by-loops-mem, by-loops-before, by-loops-same}
+use Rattle.lists.proofs.Order.{less-key, by-sums-mem, by-sums-before, by-sums-same, by-loops-mem, by-loops-before, by-loops-same}
 use Rattle.lists.specs.Fusion.{Fusion, own, fused_range, peeled_range, fused_list, peeled_list, phases, work}
 use Rattle.lists.specs.Fusion.{fusion_of}
 

@@ -10,7 +10,5 @@ pub mod PlainRun
 pub mod PlainRunLaws
 -- what holds of a table that is not refused
 pub mod Sound
--- which iterations commute
-pub mod Commute
 -- an iteration of several statements, by computation
 pub mod RunKnown

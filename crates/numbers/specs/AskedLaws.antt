@@ -4,13 +4,13 @@ use Rattle.std.proofs.Common.{arith, sym, ap, subst, ◌∙◌, append-nil}
 use Rattle.refusals.specs.declared.Refusal.{Refusal}
 use Rattle.refusals.specs.Refusals.{met}
 use Rattle.refusals.specs.Answers.{AnswerOf, accepted, after, refusal_of}
-use Rattle.refusals.specs.AnswerLaws.{told-refused}
+use Rattle.refusals.proofs.AnswerLaws.{told-refused}
 use Rattle.text.specs.Lent.{Put}
 use Rattle.text.specs.Written.{written-front}
 use Rattle.outputs.specs.declared.Outcome.{Outcome}
 use Rattle.outputs.specs.Given.{Given, fitted}
 use Rattle.outputs.specs.Gives.{refusing, writing, Gives}
-use Rattle.outputs.specs.GivesLaws.{after-refuses, after-gives, gives-short, gives-written}
+use Rattle.outputs.proofs.GivesLaws.{after-refuses, after-gives, gives-short, gives-written}
 use Rattle.numbers.specs.Numbers.{four, encoded}
 use Rattle.numbers.specs.NumberLaws.{encoded-length}
 use Rattle.numbers.specs.Asked.{numbers}

@@ -6,15 +6,9 @@ pub mod Lists
 pub mod Reorder
 -- plans and schedules: what any schedule does, and in what order
 pub mod Machine
--- what a row of turns reports, of any plan
-pub mod Reported
 -- every complete schedule leaves what the plain order leaves; and there is one
 pub mod Plain
-pub mod Exists
--- every order is some schedule's
-pub mod EveryOrder
 -- the same where a turn is one step of an action
 pub mod Steps
-pub mod Fine
 -- plans told by numbers: phases, processors, keys
 pub mod Rows

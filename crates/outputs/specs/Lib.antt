@@ -2,5 +2,3 @@
 pub mod Given
 -- bytes that fit or not: what code tells and leaves
 pub mod Gives
--- laws of it
-pub mod GivesLaws

@@ -2,7 +2,5 @@
 pub mod Overlap
 -- tests made of two
 pub mod Booleans
--- the test decides it
-pub mod OverlapLaws
 -- known results
 pub mod Example

@@ -20,7 +20,7 @@ use Rattle.reader.specs.ReadInto.{ReadInto}
 use Rattle.reader.specs.ReadIntoLaws.{into-told}
 use Rattle.serial.specs.Serial.{table}
 use Rattle.grounds.specs.Accepted.{Valid}
-use Rattle.tables.specs.Nine.{valid}
+use Rattle.tables.proofs.Nine.{valid}
 use Rattle.bodies.specs.Workable.{Based}
 use Rattle.bodies.specs.Stopped.{Opens}
 use Rattle.iterations.specs.Memory.{element_total, remembered}

@@ -9,14 +9,14 @@ use Rattle.model.specs.Table.{Table, count, first, last}
 use Rattle.refusals.specs.declared.Refusal.{Refusal}
 use Rattle.refusals.specs.Refusals.{met, none}
 use Rattle.refusals.specs.Answers.{AnswerOf, accepted, refused, ◌if◌else◌, after, refusal_of}
-use Rattle.refusals.specs.AnswerLaws.{told-refused}
+use Rattle.refusals.proofs.AnswerLaws.{told-refused}
 use Rattle.reader.specs.Store.{first_at, last_at, loops_in, table_in}
 use Rattle.reader.specs.Held.{Held, count_held, first-held, last-held}
 use Rattle.reader.specs.ReadInto.{ReadInto}
 use Rattle.reader.specs.ReadIntoLaws.{into-told}
 use Rattle.serial.specs.Serial.{table}
 use Rattle.grounds.specs.Accepted.{Valid}
-use Rattle.grounds.specs.AcceptedLaws.{valid-last}
+use Rattle.grounds.proofs.AcceptedLaws.{valid-last}
 use Rattle.amounts.specs.declared.Amounts.{Amounts}
 use Rattle.chains.specs.TableGraph.{graph}
 use Rattle.chains.specs.Walk.{shifts, peels}
@@ -32,7 +32,7 @@ use Rattle.legality.specs.Code.{numberless, Tells}
 use Rattle.plans.specs.declared.Plan.{Plan}
 use Rattle.plans.specs.declared.Asked.{Asked}
 use Rattle.plans.specs.Plans.{Settings, Planned, plan_of, short_for, bad_line, amounts_for, fits, fitting}
-use Rattle.tables.specs.Nine.{valid}
+use Rattle.tables.proofs.Nine.{valid}
 use Rattle.plans.specs.Accepted.{Chosen, not-outside, amounts-chosen, amounts-some, chosen-threshold, span_small}
 use Rattle.plans.specs.Checking.{asked}
 use Rattle.plans.specs.Code.{Gives, Plans, refusing}

@@ -1,2 +1,6 @@
 -- what the code found is the table's plan
 pub mod Laws
+-- those of an accepted plan are
+pub mod OnLinesLaws
+-- demand 2, from a table's bytes
+pub mod FromBytes

@@ -10,31 +10,32 @@ use Rattle.model.specs.Sound.{Sound}
 use Rattle.refusals.specs.declared.Refusal.{Refusal}
 use Rattle.refusals.specs.Refusals.{met}
 use Rattle.refusals.specs.Answers.{accepted, refused, ◌if◌else◌}
-use Rattle.refusals.specs.AnswerLaws.{not-both, if-accepted, after-accepted}
+use Rattle.refusals.proofs.AnswerLaws.{not-both, if-accepted, after-accepted}
 use Rattle.reader.specs.Reading.{Answer}
 use Rattle.serial.specs.Serial.{table}
 use Rattle.grounds.specs.Accepted.{Valid}
-use Rattle.grounds.specs.AcceptedLaws.{valid-last}
-use Rattle.tables.specs.Nine.{valid, accepted-sound}
+use Rattle.grounds.proofs.AcceptedLaws.{valid-last}
+use Rattle.tables.proofs.Nine.{valid, accepted-sound}
 use Rattle.chains.specs.Graph.{Dependence}
 use Rattle.chains.specs.TableGraph.{graph}
 use Rattle.chains.specs.Dependence.{backward, forward}
 use Rattle.chains.specs.Legal.{LegalPlan}
-use Rattle.chains.specs.WalkLaws.{numbers-length}
+use Rattle.chains.proofs.WalkLaws.{numbers-length}
 use Rattle.chains.specs.Threshold.{threshold}
-use Rattle.chains.specs.Tables.{all_refs-refs, all_refs-below, refs-number, plan-legal}
-use Rattle.chains.specs.Bounds.{InRange, shifts-bound, peels-bound, plan-threshold-bound}
-use Rattle.chains.specs.ThresholdLaws.{threshold-upper, threshold-bound}
+use Rattle.chains.proofs.Tables.{all_refs-refs, all_refs-below, refs-number, plan-legal}
+use Rattle.chains.specs.Bounds.{InRange}
+use Rattle.chains.proofs.Bounds.{shifts-bound, peels-bound, plan-threshold-bound}
+use Rattle.chains.proofs.ThresholdLaws.{threshold-upper, threshold-bound}
 use Rattle.blocks.specs.Span.{table_span}
 use Rattle.blocks.specs.SpanLaws.{span-most}
 use Rattle.blocks.specs.SumLaws.{neither}
-use Rattle.blocks.specs.LineLaws.{before-most, before-rises, short-not}
+use Rattle.blocks.proofs.LineLaws.{before-most, before-rises, short-not}
 use Rattle.lists.specs.Fusion.{Fusion}
 use Rattle.lists.specs.FusionLaws.{Wide, fusion-wide}
 use Rattle.rows.specs.Legal.{Legal}
 use Rattle.amounts.specs.declared.Amounts.{Amounts}
 use Rattle.legality.specs.ByHand.{by_hand}
-use Rattle.legality.specs.ByHandLaws.{hand-accepts, hand-some}
+use Rattle.legality.proofs.ByHandLaws.{hand-accepts, hand-some}
 use Rattle.legality.specs.Code.{Within}
 use Rattle.plans.specs.Plans.{Settings, Planned, shift_of, peel_of, threshold_of, own, plan_of, short_for, bad_processors, bad_number, bad_line, outside, amounts_for, fits, fitting, planned, planned_for}
 

@@ -6,11 +6,7 @@ pub mod Checking
 pub mod Accepted
 -- blocks on whole lines
 pub mod OnLines
--- those of an accepted plan are
-pub mod OnLinesLaws
 -- what the code leaves of it
 pub mod Code
 -- 11 is nowhere given where bounds that play no part would not give it
 pub mod NeverShort
--- demand 2, from a table's bytes
-pub mod FromBytes

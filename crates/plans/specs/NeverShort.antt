@@ -6,11 +6,11 @@ use Rattle.refusals.specs.Answers.{accepted}
 use Rattle.serial.specs.Serial.{table}
 use Rattle.chains.specs.Walk.{shifts, peels}
 use Rattle.chains.specs.Threshold.{threshold}
-use Rattle.chains.specs.Fewer.{without_bounds, threshold-never-larger}
+use Rattle.chains.proofs.Fewer.{without_bounds, threshold-never-larger}
 use Rattle.blocks.specs.Span.{table_span}
 use Rattle.blocks.specs.Blocks.{is_short}
-use Rattle.blocks.specs.LineLaws.{short-given, short-not}
-use Rattle.tables.specs.Nine.{valid}
+use Rattle.blocks.proofs.LineLaws.{short-given, short-not}
+use Rattle.tables.proofs.Nine.{valid}
 use Rattle.plans.specs.Plans.{Settings, own, short_for}
 
 -- blocks that are long enough for a threshold are so for a smaller one

@@ -5,7 +5,7 @@ use Rattle.blocks.specs.declared.Range.{Range}
 use Rattle.blocks.specs.Sums.{total, column}
 use Rattle.lists.specs.Lists.{ranges}
 use Rattle.lists.specs.Below.{clip, weighted, below}
-use Rattle.lists.specs.BelowLaws.{below-first}
+use Rattle.lists.proofs.BelowLaws.{below-first}
 use Rattle.positions.specs.Search.{below_columns, Located, weight-product, below_all}
 use Rattle.positions.specs.declared.Position.{Position}
 use Rattle.positions.specs.declared.Line.{Line}

@@ -15,9 +15,9 @@ use Rattle.blocks.specs.declared.Range.{Range}
 use Rattle.blocks.specs.Sums.{total, largest, column}
 use Rattle.lists.specs.Joined.{length-ones, walk_here, walk-next, walk-out}
 use Rattle.lists.specs.Lists.{here, sum_at, sum_bound, loop_over, over, by_loops, ranges, fused_columns}
-use Rattle.lists.specs.Order.{loop-at}
+use Rattle.lists.proofs.Order.{loop-at}
 use Rattle.lists.specs.Below.{weighted, below}
-use Rattle.lists.specs.BelowLaws.{by-sums-nth, by-sums-below}
+use Rattle.lists.proofs.BelowLaws.{by-sums-nth, by-sums-below}
 use Rattle.positions.specs.declared.Position.{Position}
 use Rattle.positions.specs.declared.Search.{Search}
 

@@ -8,7 +8,7 @@ use lib.Dec.{ltb}
 use lib.ListN.{length, drop, length-append}
 use Rattle.refusals.specs.Refusals.{met}
 use Rattle.refusals.specs.Answers.{accepted, refused, ◌if◌else◌}
-use Rattle.refusals.specs.AnswerLaws.{told-refused}
+use Rattle.refusals.proofs.AnswerLaws.{told-refused}
 use Rattle.reader.specs.Store.{table_in}
 use Rattle.lists.specs.Fusion.{fusion_in}
 use Rattle.blocks.specs.declared.Axis.{Axis}
@@ -20,13 +20,13 @@ use Rattle.sweeps.specs.Sweeps.{sweeps}
 use Rattle.outputs.specs.declared.Outcome.{Outcome}
 use Rattle.outputs.specs.Given.{Given, fitted, final, count_of}
 use Rattle.outputs.specs.Gives.{refusing, writing, Gives}
-use Rattle.outputs.specs.GivesLaws.{gives-refused, gives-short, gives-written}
+use Rattle.outputs.proofs.GivesLaws.{gives-refused, gives-short, gives-written}
 use Rattle.text.specs.Lent.{Whole}
 use Rattle.text.specs.Written.{written-front, written-nowhere}
 use Rattle.listing.specs.Listing.{listing, refusal_line}
 use Rattle.printing.specs.Printing.{listing_of, listing_given, text_of, text, Prints}
-use Rattle.printing.specs.Given.{given-refused, given-accepted}
-use Rattle.printing.specs.Longest.{listing-length}
+use Rattle.printing.proofs.Given.{given-refused, given-accepted}
+use Rattle.printing.proofs.Longest.{listing-length}
 
 -- A TEXT IN LENT BYTES: the first call got no bytes and left none; `size` is the text's length
 module _ (text out none : List ℕ) (most size : ℕ) (asked : Whole [] text most none size) where

@@ -11,9 +11,9 @@ use Rattle.std.proofs.Math.ListN.{length, length-append}
 use Rattle.model.specs.Table.{Table, count}
 use Rattle.text.specs.Ascii.{ascii}
 use Rattle.text.specs.Decimal.{decimal, digits}
-use Rattle.text.specs.Digits.{length-decimal}
-use Rattle.text.specs.Lengths.{two-most, three-most, four-most}
-use Rattle.grounds.specs.AcceptedLaws.{valid-last}
+use Rattle.text.proofs.Digits.{length-decimal}
+use Rattle.text.proofs.Lengths.{two-most, three-most, four-most}
+use Rattle.grounds.proofs.AcceptedLaws.{valid-last}
 use Rattle.blocks.specs.declared.Range.{Range}
 use Rattle.blocks.specs.Sums.{total}
 use Rattle.blocks.specs.SumLaws.{total-up}

@@ -5,7 +5,7 @@ use Rattle.std.proofs.Math.Path.{ap}
 use Rattle.refusals.specs.declared.Refusal.{Refusal}
 use Rattle.refusals.specs.Refusals.{met}
 use Rattle.refusals.specs.Answers.{accepted, refused}
-use Rattle.refusals.specs.AnswerLaws.{if-accepted, after-accepted}
+use Rattle.refusals.proofs.AnswerLaws.{if-accepted, after-accepted}
 use Rattle.serial.specs.Serial.{table}
 use Rattle.outputs.specs.declared.Outcome.{Outcome}
 use Rattle.outputs.specs.Given.{fitted, final}

@@ -15,7 +15,7 @@ use Rattle.blocks.specs.Code.{part_of}
 use Rattle.reader.specs.Store.{first_at, last_at, loops_in}
 use Rattle.plans.specs.Code.{Laid}
 use Rattle.blocks.specs.SumLaws.{total-next}
-use Rattle.lists.specs.BelowLaws.{indices_in}
+use Rattle.lists.proofs.BelowLaws.{indices_in}
 use Rattle.lists.specs.Lists.{fused_columns, peeled_columns}
 use Rattle.positions.specs.Search.{Aligned}
 use Rattle.ranges.specs.Code.{part_in, range_of, Along, cut, list_of, RangesKept, Apart}

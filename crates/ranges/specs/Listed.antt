@@ -11,18 +11,18 @@ use Rattle.model.specs.declared.Iteration.{Iteration}
 use Rattle.reader.specs.Store.{first_at, last_at, loops_in, table_in}
 use Rattle.reader.specs.Held.{count_held, first-held, last-held}
 use Rattle.reader.specs.Held.{few-loops as few-held}
-use Rattle.grounds.specs.AcceptedLaws.{valid-last}
+use Rattle.grounds.proofs.AcceptedLaws.{valid-last}
 use Rattle.blocks.specs.declared.Axis.{Axis}
 use Rattle.blocks.specs.declared.Part.{Part}
 use Rattle.blocks.specs.declared.Part.TheVariants.{Fused, Peeled}
 use Rattle.blocks.specs.declared.Range.{Range}
 use Rattle.blocks.specs.Sums.{column}
 use Rattle.blocks.specs.SumLaws.{total-same}
-use Rattle.blocks.specs.LineLaws.{before_last}
+use Rattle.blocks.proofs.LineLaws.{before_last}
 use Rattle.blocks.specs.Parts.{fused_part, peeled_part}
 use Rattle.blocks.specs.Code.{part_of, block_in, Cuttable}
 use Rattle.lists.specs.Lists.{ranges}
-use Rattle.lists.specs.BelowLaws.{indices_in, by-sums-length, by-loops-length}
+use Rattle.lists.proofs.BelowLaws.{indices_in, by-sums-length, by-loops-length}
 use Rattle.lists.specs.Fusion.{fusion_in, fused_range, peeled_range, work}
 use Rattle.lists.specs.FusionLaws.{fused-list, peeled-list, fused-columns, peeled-columns}
 use Rattle.positions.specs.Search.{Aligned}

@@ -14,8 +14,8 @@ use Rattle.records.specs.declared.Tested.TheVariants as found
 use Rattle.records.specs.History.{summary, lengths, advanced, blank}
 use Rattle.records.specs.Grounds.{tested}
 use Rattle.records.specs.Clear.{Room}
-use Rattle.records.specs.ClearLaws.{clear_room}
-use Rattle.records.specs.Outcome.{Whole, refused-ground, passed-whole, tested-same}
+use Rattle.records.proofs.ClearLaws.{clear_room}
+use Rattle.records.proofs.Outcome.{Whole, refused-ground, passed-whole, tested-same}
 use Rattle.refusals.specs.declared.Refusal.{Refusal}
 use Rattle.refusals.specs.Refusals.{met, none}
 use Rattle.refusals.specs.Answers.{accepted}

@@ -7,14 +7,14 @@ use Rattle.records.specs.declared.Tested.{Tested}
 use Rattle.records.specs.declared.Tested.TheVariants as found
 use Rattle.records.specs.History.{summary, lengths, advanced, blank, with_array, with_loop, with_item, with_statement}
 use Rattle.records.specs.Grounds.{tested}
-use Rattle.records.specs.Outcome.{Whole, passed-whole, ended-whole}
-use Rattle.records.specs.Passing.{whole-passed, whole-ended}
-use Rattle.records.specs.Same.{record-length}
+use Rattle.records.proofs.Outcome.{Whole, passed-whole, ended-whole}
+use Rattle.records.proofs.Passing.{whole-passed, whole-ended}
+use Rattle.records.proofs.Same.{record-length}
 use Rattle.model.specs.Table.{Item, read, constant, operation, Table}
 use Rattle.model.specs.Table.{Statement as StatementOf}
 use Rattle.refusals.specs.Refusals.{met}
 use Rattle.refusals.specs.Answers.{accepted, refused, ◌if◌else◌}
-use Rattle.refusals.specs.AnswerLaws.{not-both}
+use Rattle.refusals.proofs.AnswerLaws.{not-both}
 use Rattle.reader.specs.Reading.{follow, read_from, reading, table_of, loops_of}
 
 -- from a place on, after the records rs: all is what has been read where the reading ends

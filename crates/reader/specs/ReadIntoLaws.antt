@@ -4,7 +4,7 @@ use Rattle.std.proofs.Common.{sym, ap}
 use Rattle.refusals.specs.declared.Refusal.{Refusal}
 use Rattle.refusals.specs.Refusals.{none}
 use Rattle.refusals.specs.Answers.{accepted, refused, refusal_of}
-use Rattle.refusals.specs.AnswerLaws.{told-refused}
+use Rattle.refusals.proofs.AnswerLaws.{told-refused}
 use Rattle.reader.specs.Reading.{Answer}
 use Rattle.reader.specs.Store.{table_in}
 use Rattle.reader.specs.Held.{Held}

@@ -2,5 +2,3 @@
 pub mod Refusals
 -- an answer: what was asked for, or a refusal
 pub mod Answers
--- what follows answers, and what they are refused with
-pub mod AnswerLaws

@@ -4,5 +4,3 @@ pub mod PlainOrder
 pub mod Legal
 -- where they meet, one reach lies inside the other
 pub mod Contained
--- demand 3
-pub mod Theorem

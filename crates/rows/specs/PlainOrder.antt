@@ -10,7 +10,7 @@ use Rattle.model.specs.Table.{Table, count, first, last, iteration, Inside}
 use Rattle.model.specs.Bodies.{run}
 use Rattle.model.specs.PlainRun.{upward, looped, plain_run}
 use Rattle.lists.specs.Lists.{loop_over, over, by_loops}
-use Rattle.lists.specs.Order.{Less, by-loops-mem, by-loops-before, by-loops-once}
+use Rattle.lists.proofs.Order.{Less, by-loops-mem, by-loops-before, by-loops-once}
 use Rattle.lists.specs.Fusion.{own}
 
 abbrev pub plain : Table → List Iteration

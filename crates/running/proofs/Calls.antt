@@ -16,13 +16,13 @@ use Rattle.iterations.specs.MemoryLaws.{run_length}
 use Rattle.turns.specs.Turn.{Work, Said, refuses, performs, waits, ends, after, next, turn}
 use Rattle.turns.specs.Row.{reports, counts_after, memory_after, performing, idle}
 use Rattle.turns.specs.Reachable.{Reachable}
-use Rattle.turns.specs.Reach.{turn-reachable}
+use Rattle.turns.proofs.Reach.{turn-reachable}
 use Rattle.stepping.specs.declared.Report.{Report}
 use Rattle.stepping.specs.declared.Report.TheVariants.{Refused, Performed, Waiting, Finished}
 use Rattle.stepping.specs.Step.{report_of}
 use Rattle.steps.specs.Lent.{Phased, Lent}
 use Rattle.steps.specs.Called.{called}
-use Rattle.steps.specs.Same.{called-below, called-past}
+use Rattle.steps.proofs.Same.{called-below, called-past}
 use Rattle.steps.specs.Leaves.{Leaves}
 use Rattle.running.specs.Code.{Step, Calling}
 use Rattle.running.specs.Idle.{idling}

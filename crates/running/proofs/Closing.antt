@@ -19,12 +19,12 @@ use Rattle.turns.specs.Row.{none_done, reports, counts_after, memory_after, perf
 use Rattle.turns.specs.Lowest.{lowest-same, lowest-holds}
 use Rattle.turns.specs.RowLaws.{memory-append, idle-append}
 use Rattle.turns.specs.Reachable.{Reachable}
-use Rattle.turns.specs.Meaning.{turn-said}
+use Rattle.turns.proofs.Meaning.{turn-said}
 use Rattle.barriers.specs.Code.{ready_by, listed_by}
-use Rattle.barriers.specs.Same.{ready-is, listed-is}
+use Rattle.barriers.proofs.Same.{ready-is, listed-is}
 use Rattle.stepping.specs.declared.Report.{Report}
 use Rattle.steps.specs.Called.{called}
-use Rattle.steps.specs.Same.{called-below}
+use Rattle.steps.proofs.Same.{called-below}
 use Rattle.steps.specs.Leaves.{Leaves}
 use Rattle.running.specs.Code.{Step, Calling, Ordered, Rowed}
 use Rattle.running.proofs.Calls.{phased, leaves-reachable, leaves-long, then-memory}

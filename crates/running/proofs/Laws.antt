@@ -8,7 +8,7 @@ use lib.Ieee.{Float}
 use Rattle.refusals.specs.declared.Refusal.{Refusal}
 use Rattle.refusals.specs.Refusals.{met, none}
 use Rattle.refusals.specs.Answers.{accepted, refused, refusal_of}
-use Rattle.refusals.specs.AnswerLaws.{told-refused}
+use Rattle.refusals.proofs.AnswerLaws.{told-refused}
 use Rattle.reader.specs.Store.{table_in}
 use Rattle.blocks.specs.declared.Axis.{Axis}
 use Rattle.iterations.specs.Memory.{element_total, remembered}
@@ -26,7 +26,7 @@ use Rattle.stepping.specs.Step.{work_of, elements, step}
 use Rattle.stepping.specs.Run.{run_answer, run_memory, run_idle}
 use Rattle.steps.specs.Laid.{lent-in}
 use Rattle.steps.specs.Called.{called}
-use Rattle.steps.specs.Same.{step-called}
+use Rattle.steps.proofs.Same.{step-called}
 use Rattle.running.specs.Code.{Step, Calling, Rowed}
 use Rattle.running.specs.Runs.{Runs}
 

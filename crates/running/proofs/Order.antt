@@ -13,7 +13,7 @@ use Rattle.iterations.specs.Memory.{element_total}
 use Rattle.turns.specs.Turn.{Work}
 use Rattle.turns.specs.Row.{none_done, reports, counts_after, memory_after, idle}
 use Rattle.turns.specs.Reachable.{Reachable}
-use Rattle.turns.specs.Reach.{none-reachable}
+use Rattle.turns.proofs.Reach.{none-reachable}
 use Rattle.stepping.specs.declared.Report.{Report}
 use Rattle.steps.specs.Called.{called}
 use Rattle.steps.specs.Leaves.{Leaves}

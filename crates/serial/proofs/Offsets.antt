@@ -14,7 +14,7 @@ use lib.Seq.{get_or-set_same, get_or-set_other}
 use borrow.Author.Tests.{lt-ltb, le-ltb, eq-eqb, ne_eqb, eqb-true}
 use Rattle.overlap.specs.Booleans.{not-true}
 use Rattle.overlap.specs.Overlap.{some_from}
-use Rattle.overlap.specs.OverlapLaws.{is_some}
+use Rattle.overlap.proofs.OverlapLaws.{is_some}
 use Rattle.model.specs.declared.Reference.{Reference}
 use Rattle.model.specs.References.{Touch}
 use Rattle.reader.specs.Store.{kind_at, array_at, value_at}

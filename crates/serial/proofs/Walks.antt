@@ -18,7 +18,7 @@ use lib.ListN.{length, length-append}
 use borrow.Author.Tests.{lt-ltb, le-ltb, eq-eqb, ne_eqb}
 use Rattle.overlap.specs.Booleans.{not-true}
 use Rattle.overlap.specs.Overlap.{overlap}
-use Rattle.chains.specs.DependenceLaws.{touch_is}
+use Rattle.chains.proofs.DependenceLaws.{touch_is}
 use Rattle.model.specs.declared.Reference.{Reference}
 use Rattle.model.specs.References.{touch, Touch}
 use Rattle.model.specs.Table.{loop, count}

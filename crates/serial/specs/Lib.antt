@@ -4,9 +4,5 @@ pub mod Serial
 pub mod PairKnown
 -- ground 9: the statement, and that the test decides it
 pub mod Meeting
--- the test decides it, and names the least pair
-pub mod MeetingLaws
--- a table is accepted where no loop collides
-pub mod Parallel
 -- what the code asks of a loop's rows
 pub mod Rows

@@ -6,5 +6,3 @@ pub mod Worded
 pub mod Run
 -- a step of an accepted plan
 pub mod Reach
--- what a step says
-pub mod Meaning

@@ -5,7 +5,7 @@ use Rattle.model.specs.Bodies.{run}
 use Rattle.refusals.specs.Refusals.{met}
 use Rattle.refusals.specs.Answers.{accepted}
 use Rattle.turns.specs.Turn.{refuses, stays, turn}
-use Rattle.turns.specs.Reach.{stepped-turn}
+use Rattle.turns.proofs.Reach.{stepped-turn}
 use Rattle.turns.specs.Reachable.{Reachable}
 use Rattle.plans.specs.Plans.{Settings, Planned, planned}
 use Rattle.plans.specs.Accepted.{named-below, named_past}

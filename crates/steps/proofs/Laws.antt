@@ -8,14 +8,14 @@ use lib.Ieee.{Float}
 use Rattle.model.specs.declared.Iteration.{Iteration}
 use Rattle.refusals.specs.Refusals.{met}
 use Rattle.refusals.specs.Answers.{accepted}
-use Rattle.refusals.specs.AnswerLaws.{told-refused}
+use Rattle.refusals.proofs.AnswerLaws.{told-refused}
 use Rattle.reader.specs.Store.{table_in}
 use Rattle.blocks.specs.declared.Axis.{Axis}
 use Rattle.iterations.specs.Memory.{element_total, remembered}
 use Rattle.iterations.specs.MemoryLaws.{remembered-as-long, remembered-unlike}
 use Rattle.turns.specs.Turn.{After, stepped, wrong_state}
 use Rattle.barriers.specs.Code.{Ended, wrong_by}
-use Rattle.barriers.specs.Same.{wrong-by-open}
+use Rattle.barriers.proofs.Same.{wrong-by-open}
 use Rattle.plans.specs.declared.Plan.{Plan}
 use Rattle.plans.specs.Plans.{Settings, planned_for}
 use Rattle.plans.specs.Code.{planned_in, Laid, Plans, named-made, made-laid}
@@ -27,7 +27,7 @@ use Rattle.stepping.specs.Step.{elements, stepped_by, step}
 use Rattle.steps.specs.declared.Counts.{Counts}
 use Rattle.steps.specs.declared.Stepped.{Stepped}
 use Rattle.steps.specs.Called.{called}
-use Rattle.steps.specs.Same.{called-below}
+use Rattle.steps.proofs.Same.{called-below}
 use Rattle.steps.specs.Leaves.{Leaves}
 
 -- A STEP OF A PLAN

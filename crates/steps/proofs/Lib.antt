@@ -4,3 +4,5 @@ pub mod Next
 pub mod Performing
 -- a step of an accepted plan
 pub mod Laws
+-- laws of it: it is the step from the table's bytes
+pub mod Same

@@ -14,7 +14,7 @@ use Rattle.reader.specs.Store.{loops_in}
 use Rattle.blocks.specs.Sums.{column}
 use Rattle.turns.specs.Turn.{Work, before, closed, phase_of, next}
 use Rattle.barriers.specs.Code.{before_by, come_by, phase_by, closed_by}
-use Rattle.barriers.specs.Same.{before-is, phase-is, closed_is}
+use Rattle.barriers.proofs.Same.{before-is, phase-is, closed_is}
 use Rattle.ranges.specs.Code.{list_of}
 use Rattle.stepping.specs.declared.Report.TheVariants.{Performed, Waiting, Finished}
 use Rattle.stepping.specs.Step.{report_of}

@@ -14,15 +14,15 @@ use Rattle.model.specs.Bodies.{run}
 use Rattle.reader.specs.Store.{table_in}
 use Rattle.blocks.specs.Sums.{column}
 use Rattle.turns.specs.Turn.{Work, Said, refuses, performs, waits, ends, before, After, next, after, turn}
-use Rattle.turns.specs.Reach.{Turn, does, halts, stops, turn_is}
-use Rattle.barriers.specs.Same.{before-is}
+use Rattle.turns.proofs.Reach.{Turn, does, halts, stops, turn_is}
+use Rattle.barriers.proofs.Same.{before-is}
 use Rattle.stepping.specs.declared.Report.{Report}
 use Rattle.stepping.specs.declared.Report.TheVariants.{Refused, Performed}
 use Rattle.stepping.specs.Step.{report_of}
-use Rattle.stepping.specs.Meaning.{said-performs}
+use Rattle.stepping.proofs.Meaning.{said-performs}
 use Rattle.steps.specs.Lent.{Phased, Lent}
 use Rattle.steps.specs.Called.{called}
-use Rattle.steps.specs.Same.{called-below, called-past}
+use Rattle.steps.proofs.Same.{called-below, called-past}
 use Rattle.steps.specs.Leaves.{Leaves}
 
 -- a number not below P

@@ -4,8 +4,6 @@ pub mod Lent
 pub mod Laid
 -- a step of a plan that is laid out, whatever number it names
 pub mod Called
--- laws of it: it is the step from the table's bytes
-pub mod Same
 -- what a step leaves
 pub mod Leaves
 -- what a refused call hands back

@@ -9,7 +9,7 @@ use lib.Seq.{take-suc, take_all}
 use Rattle.text.specs.Lent.{Put}
 use Rattle.text.specs.Written.{put_one, put-none, put_then, put-most}
 use Rattle.text.specs.Decimal.{decimal, last_digit}
-use Rattle.text.specs.Digits.{decimal-small, decimal-more, length-decimal}
+use Rattle.text.proofs.Digits.{decimal-small, decimal-more, length-decimal}
 use Rattle.text.specs.Line.{field, fields, line}
 
 -- A WORD

@@ -6,9 +6,5 @@ pub mod Lent
 pub mod Written
 -- a number in decimal
 pub mod Decimal
--- its digits, and how many there are
-pub mod Digits
 -- a line: a word and numbers
 pub mod Line
--- how long a line is
-pub mod Lengths

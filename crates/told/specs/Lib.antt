@@ -2,5 +2,3 @@
 pub mod Answers
 -- the four numbers of an answer, by an example
 pub mod Example
--- what the numbers of an answer say
-pub mod Numbers

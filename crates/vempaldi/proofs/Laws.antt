@@ -10,7 +10,7 @@ use Rattle.outputs.specs.Gives.{Gives}
 use Rattle.plans.specs.Plans.{Settings}
 use Rattle.stepping.specs.declared.Report.{Report}
 use Rattle.stepping.specs.declared.Report.TheVariants.{Refused, Performed, Waiting, Finished}
-use Rattle.stepping.specs.Meaning.{performed-small}
+use Rattle.stepping.proofs.Meaning.{performed-small}
 use Rattle.told.specs.Answers.{answered, ReportFits, report_at}
 
 pub report-small : (s : List ℕ) (w : Settings) (b : ℕ) (cs : List ℕ) (m : List Float) (r : Report) → r ≡ report_at s w b cs m → ReportFits r

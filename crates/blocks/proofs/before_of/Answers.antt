@@ -2,7 +2,7 @@ use Prim.Native.Nat.{ℕ, ◌*◌, min}
 use native.Mathlib.Omega.{arith}
 use mathlib.Core.Path.{◌≡◌, ap, ◌∙◌}
 use Rattle.blocks.specs.Blocks.{lines, start}
-use Rattle.blocks.specs.LineLaws.{before_at, before-most, lines_fit}
+use Rattle.blocks.proofs.LineLaws.{before_at, before-most, lines_fit}
 use borrow.Author.Rules.{rules}
 use Rattle.blocks.proofs.before_of.Goals as goal
 

@@ -1,4 +1,4 @@
-use Rattle.blocks.specs.LineLaws.{lines_at}
+use Rattle.blocks.proofs.LineLaws.{lines_at}
 use borrow.Author.Rules.{rules}
 use Rattle.blocks.proofs.lines_of.Goals as goal
 

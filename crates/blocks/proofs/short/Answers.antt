@@ -2,7 +2,7 @@ use Prim.Native.Nat.{ℕ, ◌-◌, ◌<◌, ◌≤◌}
 use mathlib.Core.Path.{◌≡◌, subst}
 use borrow.Author.Tests.{lt-ltb, le-ltb, le-leb, lt-leb}
 use Rattle.blocks.specs.Blocks.{lines}
-use Rattle.blocks.specs.LineLaws.{short-at}
+use Rattle.blocks.proofs.LineLaws.{short-at}
 use borrow.Author.Rules.{rules}
 use Rattle.blocks.proofs.short.Goals as goal
 

@@ -1,5 +1,5 @@
 use native.Mathlib.Omega.{arith}
-use Rattle.blocks.specs.BlockLaws.{start_fits, start-at}
+use Rattle.blocks.proofs.BlockLaws.{start_fits, start-at}
 use borrow.Author.Rules.{rules}
 use Rattle.blocks.proofs.start_of.Goals as goal
 

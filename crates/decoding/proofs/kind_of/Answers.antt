@@ -1,6 +1,6 @@
 use Rattle.records.specs.Bytes.{kind_of}
 use borrow.Author.Rules.{rules}
-use Rattle.records.specs.Ways.{no_kind}
+use Rattle.records.proofs.Ways.{no_kind}
 use Rattle.decoding.proofs.kind_of.Goals as goal
 
 pub returns-in-1 : goal.returns-in-1

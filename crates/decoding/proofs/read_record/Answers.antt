@@ -1,10 +1,10 @@
-use Rattle.records.specs.Ways.{absent, refused-early, torn, refused-fields, clear, record-found}
+use Rattle.records.proofs.Ways.{absent, refused-early, torn, refused-fields, clear, record-found}
 use Prim.Native.Nat.{◌+◌, ◌<◌, ◌≤◌}
 use lib.ListN.{length}
 use Rattle.records.specs.Bytes.{byte, kind_of, body_length, record_at}
 use Rattle.records.specs.Grounds.{early, fields}
 use Rattle.records.specs.Clear.{span_of}
-use Rattle.records.specs.ClearLaws.{span-kind, length-max}
+use Rattle.records.proofs.ClearLaws.{span-kind, length-max}
 use mathlib.Core.Path.{◌≡◌, sym, ap, ◌∙◌}
 use native.Mathlib.Omega.{arith}
 use borrow.Author.Rules.{rules}

@@ -1,7 +1,7 @@
 use Rattle.serial.specs.Serial.{table}
 use mathlib.Core.List.{[], ◌∷◌}
 use Rattle.plans.specs.Plans.{threshold_of}
-use Rattle.tables.specs.Nine.{valid}
+use Rattle.tables.proofs.Nine.{valid}
 use Rattle.entries.specs.Entries.{thresholds}
 use Rattle.numbers.specs.AskedLaws.{entry-refused, entry-given}
 use borrow.Author.Rules.{rules}

@@ -4,7 +4,7 @@ use native.Mathlib.Omega.{arith}
 use lib.ListN.{length}
 use Rattle.blocks.specs.Sums.{column}
 use Rattle.lists.specs.Lists.{ranges}
-use Rattle.lists.specs.BelowLaws.{below-zero, below-first}
+use Rattle.lists.proofs.BelowLaws.{below-zero, below-first}
 use Rattle.positions.specs.Search.{Bracket}
 use Rattle.positions.proofs.find.Goals as goal
 

@@ -1,7 +1,7 @@
 use mathlib.Core.Path.{sym, ap}
 use native.Mathlib.Omega.{arith}
 use lib.ListN.{length}
-use Rattle.lists.specs.Order.{loop-at-in, loop-at-early, loop-at-late}
+use Rattle.lists.proofs.Order.{loop-at-in, loop-at-early, loop-at-late}
 use borrow.Author.Rules.{rules}
 use Rattle.positions.proofs.held.Goals as goal
 

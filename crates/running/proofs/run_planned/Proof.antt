@@ -1,6 +1,6 @@
 use native.Mathlib.Omega.{arith}
 use mathlib.Core.Path.{refl, sym, ◌∙◌}
-use Rattle.barriers.specs.Same.{zeros-small}
+use Rattle.barriers.proofs.Same.{zeros-small}
 use Rattle.iterations.specs.LoadedLaws.{loaded-total}
 use Rattle.plans.specs.Code.{planned_in}
 use Rattle.layouts.specs.Layout.{work_in}

@@ -3,7 +3,7 @@ use native.Mathlib.Omega.{arith}
 use Rattle.records.specs.declared.Record.{Record}
 use Rattle.records.specs.Clear.{Room}
 use mathlib.Core.Path.{subst}
-use Rattle.records.specs.Ways.{operands-one}
+use Rattle.records.proofs.Ways.{operands-one}
 use borrow.Author.Rules.{rules}
 use Rattle.records.proofs.Summary.advance.Goals as goal
 

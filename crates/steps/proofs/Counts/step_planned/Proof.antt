@@ -2,7 +2,7 @@ use Prim.Native.Nat.{◌+◌, ◌≤◌}
 use native.Mathlib.Omega.{arith}
 use mathlib.Core.Path.{refl, sym, ◌∙◌}
 use lib.ListN.{length}
-use Rattle.barriers.specs.Same.{zeros-small}
+use Rattle.barriers.proofs.Same.{zeros-small}
 use Rattle.iterations.specs.LoadedLaws.{loaded-total}
 use Rattle.layouts.specs.Layout.{work_in}
 use Rattle.steps.specs.Laid.{loaded-in, lent-in}

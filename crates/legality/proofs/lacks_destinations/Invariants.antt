@@ -1,0 +1,14 @@
+use native.Mathlib.Omega.{arith}
+use mathlib.Core.Path.{◌∙◌, sym}
+use Prim.Native.Nat.{◌+◌, ◌-◌}
+use Rattle.reader.specs.Store.{table_in}
+use Rattle.amounts.specs.Rows.{past-few}
+use Rattle.legality.specs.Code.{stored_with}
+use Rattle.legality.proofs.Laws.{count-few, LeftOf, left-start, left-next, found-row, left_end, up-to-last, past-last}
+use Rattle.legality.proofs.lacks_destinations.Given as goal
+
+abbrev pub invariant-loop-r : goal.invariant-loop-r
+invariant-loop-r l = LeftOf l.store (stored_with (table_in l.store) l.shifts l.peels l.k) l.j l.r
+
+abbrev pub decreases-loop-r : goal.decreases-loop-r
+decreases-loop-r l = l.last + 1 - l.r

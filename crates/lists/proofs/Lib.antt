@@ -1,0 +1,4 @@
+-- what stands in them, once, and in which order
+pub mod Order
+-- laws of it
+pub mod BelowLaws

@@ -1,0 +1,2 @@
+-- which iterations commute
+pub mod Commute

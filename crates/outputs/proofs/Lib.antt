@@ -1,0 +1,2 @@
+-- laws of it
+pub mod GivesLaws

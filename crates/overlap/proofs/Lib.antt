@@ -1,0 +1,2 @@
+-- the test decides it
+pub mod OverlapLaws

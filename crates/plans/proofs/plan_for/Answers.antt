@@ -1,0 +1,7 @@
+use Rattle.plans.specs.Plans.{planned_for}
+use borrow.Author.Rules.{rules}
+use Rattle.plans.proofs.plan_for.Goals as goal
+
+pub returns : goal.returns
+unfolding planned_for
+returns c = rw (← c.bad_number-wrong.ensures) c.plan_unless.ensures

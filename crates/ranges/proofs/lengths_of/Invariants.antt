@@ -1,0 +1,18 @@
+use Prim.Native.Nat.{ℕ, ◌-◌, ◌≤◌, ◌<◌}
+use native.Mathlib.Omega.{arith}
+use mathlib.Core.Path.{◌≡◌, refl, ap, ◌∙◌}
+use Rattle.reader.specs.Store.{loops_in}
+use Rattle.blocks.specs.declared.Axis.{Axis}
+use Rattle.lists.proofs.BelowLaws.{indices_in}
+use Rattle.plans.specs.Code.{Laid}
+use Rattle.ranges.specs.Code.{range_of, Along}
+use Rattle.ranges.specs.Listed.{few-loops, lengths-in}
+use Rattle.ranges.proofs.Laws.{Summed, summed-next}
+use Rattle.ranges.proofs.lengths_of.Given as goal
+
+abbrev pub invariant-loop-k : goal.invariant-loop-k
+invariant-loop-k l =
+    (l.k ≤ l.loops) × ((a : Axis) → Laid a l.store → Along a l.blk l.blocks l.b l.shifts l.peels → Summed a l.store 0 l.b l.k l.fused × Summed a l.store 1 l.b l.k l.peeled)
+
+abbrev pub decreases-loop-k : goal.decreases-loop-k
+decreases-loop-k l = l.loops - l.k

@@ -1,0 +1,7 @@
+use native.Mathlib.Omega.{arith}
+use lib.ListN.{length-set}
+use borrow.Author.Rules.{rules}
+use Rattle.ranges.proofs.put_range.Goals as goal
+
+pub bounds-lists-at-2 : goal.bounds-lists-at-2
+bounds-lists-at-2 c = simp length-set (omega arith)

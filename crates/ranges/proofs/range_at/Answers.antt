@@ -1,0 +1,6 @@
+use borrow.Author.Rules.{rules}
+use Rattle.ranges.proofs.range_at.Goals as goal
+
+pub returns : goal.returns
+returns c =
+    rw (c.first_at-first.ensures, c.last_at-last.ensures) at c.part_between.ensures

@@ -1,0 +1,2 @@
+-- what follows answers, and what they are refused with
+pub mod AnswerLaws

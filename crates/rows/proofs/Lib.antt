@@ -1,0 +1,2 @@
+-- demand 3
+pub mod Theorem

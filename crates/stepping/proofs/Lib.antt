@@ -1,0 +1,2 @@
+-- what a step says
+pub mod Meaning

@@ -1,0 +1,2 @@
+-- what the numbers of an answer say
+pub mod Numbers
