@@ -39,6 +39,10 @@ fn main(rt: HostRuntime) -> io::Result<()> {
     let mut table = [0u8; TABLE];
     let n = read_full(&mut input, &mut table)?;
     let mut lines = [0u8; LINES];
-    let printed: outputs::Outcome = printing::print_plan(&table[..n], wide(processors[0]), &mut lines);
+    let printed: outputs::Outcome = printing::print_plan(
+        &table[..n],
+        wide(processors[0]),
+        &mut lines,
+    );
     rt.stdout().write_all(&lines[..printed.written])
 }
