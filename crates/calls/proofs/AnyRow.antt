@@ -14,7 +14,7 @@ use Rattle.chains.specs.Graph.{Dependence}
 use Rattle.chains.specs.TableGraph.{graph}
 use Rattle.chains.proofs.Tables.{meet-dependence}
 use Rattle.blocks.specs.Sums.{column}
-use Rattle.lists.specs.FusionLaws.{Once, once as in-one-list, owner, phase}
+use Rattle.lists.proofs.FusionLaws.{Once, once as in-one-list, owner, phase}
 use Rattle.rows.proofs.Theorem.{any-schedule}
 use Rattle.turns.specs.Turn.{Said, performs}
 use Rattle.turns.specs.Row as rows

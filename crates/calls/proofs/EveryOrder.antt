@@ -7,7 +7,7 @@ use Rattle.order.specs.Sequences.{Before, run_all}
 use Rattle.model.specs.declared.Iteration.{Iteration}
 use Rattle.model.specs.Bodies.{run}
 use Rattle.refusals.specs.Answers.{accepted}
-use Rattle.lists.specs.FusionLaws.{owner, phase}
+use Rattle.lists.proofs.FusionLaws.{owner, phase}
 use Rattle.turns.specs.Orders as turns
 use Rattle.turns.proofs.EveryOrder.{row_for, order-performed, order-complete-row, order-memory, row-order}
 use Rattle.plans.specs.Plans.{Settings, Planned, planned}

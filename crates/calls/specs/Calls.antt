@@ -6,7 +6,7 @@ use Rattle.model.specs.declared.Iteration.{Iteration}
 use Rattle.model.specs.Table.{iteration}
 use Rattle.model.specs.Bodies.{run}
 use Rattle.refusals.specs.Answers.{accepted}
-use Rattle.lists.specs.FusionLaws.{rows}
+use Rattle.lists.proofs.FusionLaws.{rows}
 use Rattle.turns.specs.Calls.{Calls}
 use Rattle.plans.specs.Plans.{Settings, Planned, planned}
 use Rattle.plans.specs.Accepted.{Fit, planned-accepts}

@@ -8,7 +8,7 @@ use Rattle.reader.specs.Store.{loops_in, table_in}
 use Rattle.blocks.specs.declared.Axis.{Axis}
 use Rattle.blocks.specs.Sums.{column}
 use Rattle.lists.specs.Fusion.{fusion_in, phases, work}
-use Rattle.lists.specs.FusionLaws.{fused-list, peeled-list}
+use Rattle.lists.proofs.FusionLaws.{fused-list, peeled-list}
 use Rattle.turns.specs.Turn.{Work, before}
 use Rattle.plans.specs.Code.{Laid}
 use Rattle.ranges.specs.Code.{range_of, list_of, RangesKept, Apart}

@@ -2,3 +2,5 @@
 pub mod Order
 -- laws of it
 pub mod BelowLaws
+-- each iteration of a table in one of them
+pub mod FusionLaws

@@ -8,7 +8,7 @@ pub mod ListsExample
 pub mod Below
 -- the lists of all processors
 pub mod Fusion
--- each iteration of a table in one of them
-pub mod FusionLaws
+-- block ends that leave each shift and peel room
+pub mod Wide
 -- each iteration in one list, once: what that says
 pub mod EachOnce

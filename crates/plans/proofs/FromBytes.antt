@@ -22,7 +22,7 @@ use Rattle.chains.specs.MaximumLaws.{maximum_below-of, maximum_below-upper}
 use Rattle.chains.specs.Threshold.{threshold}
 use Rattle.chains.proofs.ThresholdLaws.{threshold-attained, threshold-upper}
 use Rattle.lists.specs.Fusion.{Fusion, work, fused_list, peeled_list}
-use Rattle.lists.specs.FusionLaws.{Once, once, owner, phase}
+use Rattle.lists.proofs.FusionLaws.{Once, once, owner, phase}
 use Rattle.lists.specs.EachOnce.{EachOnce}
 use Rattle.amounts.specs.declared.Amounts.{Amounts}
 use Rattle.legality.specs.Written.{number_at}

@@ -12,7 +12,7 @@ use Rattle.blocks.specs.SpanLaws.{span-ends, span_begins}
 use Rattle.blocks.specs.Blocks.{lines, start, before}
 use Rattle.blocks.proofs.LineLaws.{before-first, before-up, before_last, before-whole, before-next, before-rises, before-one, some_block, one_block, short-not}
 use Rattle.lists.specs.Fusion.{fused_list}
-use Rattle.lists.specs.FusionLaws.{fused-list}
+use Rattle.lists.proofs.FusionLaws.{fused-list}
 use Rattle.chains.specs.Threshold.{threshold}
 use Rattle.plans.specs.Plans.{Settings, Planned, plan_of, planned}
 use Rattle.plans.specs.Accepted.{AcceptedPlan, not-outside, planned-accepts}

@@ -31,7 +31,8 @@ use Rattle.blocks.specs.SpanLaws.{span-most}
 use Rattle.blocks.specs.SumLaws.{neither}
 use Rattle.blocks.proofs.LineLaws.{before-most, before-rises, short-not}
 use Rattle.lists.specs.Fusion.{Fusion}
-use Rattle.lists.specs.FusionLaws.{Wide, fusion-wide}
+use Rattle.lists.specs.Wide.{Wide}
+use Rattle.lists.proofs.FusionLaws.{fusion-wide}
 use Rattle.rows.specs.Legal.{Legal}
 use Rattle.amounts.specs.declared.Amounts.{Amounts}
 use Rattle.legality.specs.ByHand.{by_hand}

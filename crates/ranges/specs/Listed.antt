@@ -24,7 +24,7 @@ use Rattle.blocks.specs.Code.{part_of, block_in, Cuttable}
 use Rattle.lists.specs.Lists.{ranges}
 use Rattle.lists.proofs.BelowLaws.{indices_in, by-sums-length, by-loops-length}
 use Rattle.lists.specs.Fusion.{fusion_in, fused_range, peeled_range, work}
-use Rattle.lists.specs.FusionLaws.{fused-list, peeled-list, fused-columns, peeled-columns}
+use Rattle.lists.proofs.FusionLaws.{fused-list, peeled-list, fused-columns, peeled-columns}
 use Rattle.positions.specs.Search.{Aligned}
 use Rattle.plans.specs.Code.{Laid}
 use Rattle.ranges.specs.Code.{part_in, range_of, cut, list_of, RangesKept, Apart}

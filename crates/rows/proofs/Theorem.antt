@@ -19,7 +19,8 @@ use Rattle.model.proofs.Commute.{Clash, commutes}
 use Rattle.blocks.specs.Index.{same-part}
 use Rattle.lists.proofs.Order.{Less, less-key}
 use Rattle.lists.specs.Fusion.{Fusion, phases, work}
-use Rattle.lists.specs.FusionLaws.{Wide, owner, phase, key, rank, past_all, index_below, rows, once}
+use Rattle.lists.specs.Wide.{Wide}
+use Rattle.lists.proofs.FusionLaws.{owner, phase, key, rank, past_all, index_below, rows, once}
 use Rattle.rows.specs.PlainOrder.{plain, plain-mem, plain-before, plain-once, plain-run}
 use Rattle.rows.specs.Legal.{Depends, NoneMissed, Legal}
 use Rattle.rows.specs.Contained.{contained}

@@ -14,7 +14,7 @@ use Rattle.refusals.specs.Refusals.{met}
 use Rattle.refusals.specs.Answers.{AnswerOf, accepted, refused}
 use Rattle.grounds.proofs.AcceptedLaws.{valid-last}
 use Rattle.blocks.specs.Sums.{column}
-use Rattle.lists.specs.FusionLaws.{once}
+use Rattle.lists.proofs.FusionLaws.{once}
 use Rattle.turns.specs.Turn.{Said, refuses, performs, waits, ends, After, stays, wrong_state, next, turn, stepped, own}
 use Rattle.turns.proofs.Meaning.{turn-said, performs-says, waits-says, ends-says}
 use Rattle.plans.specs.Plans.{Settings, Planned, planned, planned_for}

@@ -20,14 +20,13 @@ use Rattle.lists.specs.Lists.{ranges, fused_columns, peeled_columns}
 use Rattle.lists.proofs.Order.{less-key, by-sums-mem, by-sums-before, by-sums-same, by-loops-mem, by-loops-before, by-loops-same}
 use Rattle.lists.specs.Fusion.{Fusion, own, fused_range, peeled_range, fused_list, peeled_list, phases, work}
 use Rattle.lists.specs.Fusion.{fusion_of}
+use Rattle.lists.specs.Wide.{Wide as WideOf}
 
 module _ (t : Table) (c : Fusion) where
   open c use {shift, peel, processors, edge}
 
-  -- there is a processor, and for each loop the middle blocks are no smaller than its shift and peel together
-  pub record Wide : Type 0 where
-    pub some : 0 < processors
-    pub gaps : (k : ℕ) → k < count t → Gaps processors edge (shift k + peel k)
+  abbrev Wide : Type 0
+  Wide = WideOf t c
 
   -- so it is if they are no smaller than the threshold
   pub wide_by : (threshold : ℕ) → ((k : ℕ) → k < count t → shift k + peel k ≤ threshold) → Gaps processors edge threshold → Wide
