@@ -93,6 +93,9 @@ def as_record(body, names, steps):
         theirs = next((CLAUSES[f]["ensures"] for f in steps.callee.values() if f in CLAUSES and any(steps.field[p][1] == m.group(3) and steps.callee[p] == f for p in steps.field)), [])
         if len(theirs) == len(names):
             return m.group(1) + "record { " + "; ".join(f"{n} = {m.group(2)}.{u}" for n, u in zip(names, theirs)) + " }"
+    m = re.fullmatch(r"(\s*(?:let .*? in\s+)*)rw (\((?:[^()]|\([^()]*\))*\)|\S+)\s+\((.*)\)\s*", body, re.S)
+    if m and len(names) == 2:
+        return m.group(1).rstrip() + f"\n    let both = {m.group(3)} in\n    rw {m.group(2)} record {{ {names[0]} = both.0; {names[1]} = both.1 }}"
     if len(names) == 2:
         return "\n    let both =" + body.rstrip() + f" in\n    record {{ {names[0]} = both.0; {names[1]} = both.1 }}"
     return body + "\n    -- LOST_record " + " ".join(names)
@@ -189,6 +192,8 @@ class Steps:
                 for arm, f, path in self.new_arm.get(norm(old), []):
                     if path and rest[1:1 + len(path)] == path:
                         return ["c", arm, f] + rest[1 + len(path):]
+                if rest[1:3] == ["kept", "0"]:
+                    rest = [rest[0], "auto", "0"] + rest[3:]
                 if rest[1:] in (["taken"], ["left"]):
                     rest = [rest[0], "true" if rest[1] == "taken" else "false"]
                 return ["c", new] + self.lent(self.clause(rest[1:], "ensures", self.callee.get(p)), self.callee.get(p))
@@ -269,6 +274,12 @@ def paths(body, steps, place, goal):
         if who not in alias:
             if who in parts:
                 kind, function = parts[who]
+                m2 = re.fullmatch(r"t(\d+)", tail[0]) if kind == "args" else None
+                if kind == "args":
+                    if m2 and int(m2.group(1)) <= len(PARAMS.get(OWN, [])):
+                        tail = [PARAMS[OWN][int(m2.group(1)) - 1]] + tail[1:]
+                    out.append(".".join([who] + tail))
+                    continue
                 if kind in ("requires", "its"):
                     word = "requires" if kind == "requires" else "ensures"
                     out.append(".".join([who] + steps.clause([word] + tail, word, function)[1:]))
@@ -292,7 +303,9 @@ def paths(body, steps, place, goal):
             out.append(".".join(t))
             b = re.search(r"let (\w+) = $", "".join(out[-2:-1]))
             if b and body[pos:pos + 3] == " in":
-                if t == ["c", "requires"]:
+                if t == ["c", "args"]:
+                    parts[b.group(1)] = ("args", OWN)
+                elif t == ["c", "requires"]:
                     parts[b.group(1)] = ("requires", OWN)
                 elif len(t) == 2 or len(t) == 3 and t[2] == "ensures":
                     function = next((steps.callee[q] for q in steps.field if steps.field[q][1] == t[1] and steps.callee[q]), None)
