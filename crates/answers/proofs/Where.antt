@@ -23,7 +23,7 @@ use Rattle.amounts.specs.declared.Amounts.{Amounts}
 use Rattle.legality.specs.Written.{amounts_in}
 use Rattle.legality.specs.ByHand.{too_large, first_unmet, judged, by_hand}
 use Rattle.plans.specs.Plans.{Settings, Planned, own, bad_processors, bad_number, bad_line, amounts_for, fitting, planned, planned_for}
-use Rattle.plans.specs.Accepted.{planned-accepts}
+use Rattle.plans.proofs.Accepted.{planned-accepts}
 use Rattle.plans.proofs.FromBytes.{plan-by-hand}
 use Rattle.iterations.specs.Memory.{remembered}
 use Rattle.turns.specs.Turn.{refuses, stays, stepped}

@@ -31,7 +31,7 @@ use Rattle.legality.proofs.WrittenLaws.{filled-same, row-filled}
 use Rattle.legality.specs.ByHand.{judged, by_hand}
 use Rattle.legality.proofs.ByHandLaws.{legal-judged, within-fine}
 use Rattle.plans.specs.Plans.{Settings, shift_of, peel_of, own, bad_processors, bad_number, without_plan, amounts_for, fitting, planned, planned_for}
-use Rattle.plans.specs.Accepted.{own-chosen, shift_small, peel-small}
+use Rattle.plans.proofs.Accepted.{own-chosen, shift_small, peel-small}
 use Rattle.plans.proofs.FromBytes.{past_shift, past-peel}
 use Rattle.entries.specs.Entries.{amounts_of, amounts}
 use Rattle.entries.specs.Places.{amounts-count, amount-told}

@@ -25,7 +25,7 @@ use Rattle.turns.proofs.Complete as turns
 use Rattle.turns.proofs.Own as own
 use Rattle.turns.proofs.Reached as reach
 use Rattle.plans.specs.Plans.{Settings, Planned, planned}
-use Rattle.plans.specs.Accepted.{planned-accepts}
+use Rattle.plans.proofs.Accepted.{planned-accepts}
 use Rattle.plain.specs.Plain.{plain_memory}
 use Rattle.plain.specs.PlainLaws.{plain-memory}
 use Rattle.stepping.specs.declared.Report.TheVariants.{Performed}

@@ -9,7 +9,8 @@ use Rattle.refusals.specs.Answers.{accepted}
 use Rattle.lists.proofs.FusionLaws.{rows}
 use Rattle.turns.specs.Calls.{Calls}
 use Rattle.plans.specs.Plans.{Settings, Planned, planned}
-use Rattle.plans.specs.Accepted.{Fit, planned-accepts}
+use Rattle.plans.specs.Accepted.{Fit}
+use Rattle.plans.proofs.Accepted.{planned-accepts}
 use Rattle.iterations.specs.MemoryLaws.{run_length}
 use Rattle.stepping.specs.Step.{step}
 use Rattle.stepping.specs.Reach.{step-turn, step_past}

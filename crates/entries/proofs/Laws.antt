@@ -23,8 +23,9 @@ use Rattle.text.specs.Lent.{Put}
 use Rattle.numbers.specs.Numbers.{encoded}
 use Rattle.plans.specs.declared.Plan.{Plan}
 use Rattle.plans.specs.Plans.{Settings, threshold_of, planned_for}
-use Rattle.plans.specs.Accepted.{threshold-small, named-accepts}
-use Rattle.plans.specs.Code.{planned_in, Made, Laid, made-laid, named-made}
+use Rattle.plans.proofs.Accepted.{threshold-small, named-accepts}
+use Rattle.plans.specs.Code.{planned_in, Made, Laid}
+use Rattle.plans.proofs.CodeLaws.{made-laid, named-made}
 use Rattle.ranges.specs.Code.{range_of as range_in}
 use Rattle.ranges.specs.Listed.{loops-are, few-blocks, cuttable, range-in, listed_small}
 use Rattle.numbers.specs.Pairs.{pairs-length}

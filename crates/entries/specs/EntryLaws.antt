@@ -10,7 +10,7 @@ use Rattle.blocks.specs.declared.Range.{Range}
 use Rattle.lists.specs.Fusion.{work}
 use Rattle.lists.proofs.Order.{Within, by-sums-mem, by-loops-mem}
 use Rattle.plans.specs.Plans.{Settings, Planned, planned}
-use Rattle.plans.specs.Accepted.{planned-accepts}
+use Rattle.plans.proofs.Accepted.{planned-accepts}
 use Rattle.entries.specs.Entries.{loop_range, empty_as_zero}
 
 -- a block of an accepted plan has an index, so the one before the next block's first is its last

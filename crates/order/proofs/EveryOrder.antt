@@ -8,7 +8,8 @@ use Rattle.std.proofs.Math.Decide.{ℕ_discrete}
 use Rattle.order.specs.Lists.{if_yes, if_no, before-left, before-right}
 use Rattle.order.specs.Sequences.{Before, bhere, bthere, NoDup}
 use Rattle.order.specs.Lists.{same-list, only-mem, mem-only, only-passes, only-before, before-only, mem-joined}
-use Rattle.order.specs.Machine.{Plan, start, left, left-next, left_other, Open, next, bump, count, next-open, trace, final, mine, InOrder}
+use Rattle.order.specs.Machine.{Plan, start, left, left_other, Open, next, bump, count, next-open, trace, final, mine, InOrder}
+use Rattle.order.proofs.Machine.{left-next}
 use Rattle.order.specs.Machine.{Exhausts}
 use Rattle.order.specs.Plain.{Covers}
 

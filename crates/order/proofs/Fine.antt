@@ -5,8 +5,10 @@ use mathlib.Core.List.{Memᴰ as Mem}
 use Rattle.order.specs.Lists.{put, put_same, put_other, put_self, put-twice, put-comm, before-right, before-total}
 use Rattle.order.specs.Sequences.{Before, run_all}
 use Rattle.order.specs.Reorder.{run_all-append, run_all-past, Commute}
-use Rattle.order.specs.Machine.{Plan, InOrder, trace, start, Exhausts, complete-in-order}
-use Rattle.order.specs.Plain.{Kept, Covers, in-order-covers, same_end, any-schedule}
+use Rattle.order.specs.Machine.{Plan, InOrder, trace, start, Exhausts}
+use Rattle.order.proofs.Machine.{complete-in-order}
+use Rattle.order.specs.Plain.{Kept, Covers, in-order-covers, same_end}
+use Rattle.order.proofs.Plain.{any-schedule}
 use Rattle.order.proofs.Exists.{complete-exists}
 use Rattle.order.specs.Steps.{number, steps, fine, mem-steps, steps-in-order}
 

@@ -8,7 +8,8 @@ use mathlib.Core.List.{Memᴰ as Mem}
 use Rattle.std.proofs.Math.Decide.{ℕ_discrete}
 use Rattle.order.specs.Sequences.{Before, NoDup}
 use Rattle.order.specs.Lists.{before-total, before-append-left, before-across, only-mem, mem-only, only-before}
-use Rattle.order.specs.Machine.{Plan, trace, final, start, left, left-rest, mine, runs, run-mine, run-rises, run-ahead, Exhausts}
+use Rattle.order.specs.Machine.{Plan, trace, final, start, left, left-rest, mine, Exhausts}
+use Rattle.order.proofs.Machine.{runs, run-mine, run-rises, run-ahead}
 
 module _ {A : Type 0} (p : Plan A) (bs : List ℕ) where
   -- the row's actions, and what processor b has left then

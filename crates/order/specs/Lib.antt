@@ -4,9 +4,9 @@ pub mod Sequences
 pub mod Lists
 -- when two orders of the same actions leave the same state
 pub mod Reorder
--- plans and schedules: what any schedule does, and in what order
+-- plans and schedules: what a schedule does
 pub mod Machine
--- every complete schedule leaves what the plain order leaves; and there is one
+-- in-order lists leave what the plain order leaves
 pub mod Plain
 -- the same where a turn is one step of an action
 pub mod Steps

@@ -31,7 +31,8 @@ use Rattle.legality.proofs.ByHandLaws.{HandFits, hand-accepts}
 use Rattle.plans.specs.Plans.{Settings, Planned, shift_of, peel_of, threshold_of, own, plan_of, amounts_for, planned}
 use Rattle.plans.specs.Checking.{plan_threshold}
 use Rattle.tables.proofs.Nine.{valid}
-use Rattle.plans.specs.Accepted.{AcceptedPlan, planned-accepts}
+use Rattle.plans.specs.Accepted.{AcceptedPlan}
+use Rattle.plans.proofs.Accepted.{planned-accepts}
 
 -- SHIFTS, PEELS, THRESHOLD
 module _ (s : List ℕ) (t : Table) (read : table s ≡ accepted t) where

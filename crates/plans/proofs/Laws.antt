@@ -33,7 +33,8 @@ use Rattle.plans.specs.declared.Plan.{Plan}
 use Rattle.plans.specs.declared.Asked.{Asked}
 use Rattle.plans.specs.Plans.{Settings, Planned, plan_of, short_for, bad_line, amounts_for, fits, fitting}
 use Rattle.tables.proofs.Nine.{valid}
-use Rattle.plans.specs.Accepted.{Chosen, not-outside, amounts-chosen, amounts-some, chosen-threshold, span_small}
+use Rattle.plans.specs.Accepted.{Chosen}
+use Rattle.plans.proofs.Accepted.{not-outside, amounts-chosen, amounts-some, chosen-threshold, span_small}
 use Rattle.plans.specs.Checking.{asked}
 use Rattle.plans.specs.Code.{Gives, Plans, refusing}
 

@@ -1,3 +1,7 @@
+-- an accepted plan fits
+pub mod Accepted
+-- and is laid out for other code
+pub mod CodeLaws
 -- what the code found is the table's plan
 pub mod Laws
 -- those of an accepted plan are

@@ -15,7 +15,8 @@ use Rattle.lists.specs.Fusion.{fused_list}
 use Rattle.lists.proofs.FusionLaws.{fused-list}
 use Rattle.chains.specs.Threshold.{threshold}
 use Rattle.plans.specs.Plans.{Settings, Planned, plan_of, planned}
-use Rattle.plans.specs.Accepted.{AcceptedPlan, not-outside, planned-accepts}
+use Rattle.plans.specs.Accepted.{AcceptedPlan}
+use Rattle.plans.proofs.Accepted.{not-outside, planned-accepts}
 use Rattle.plans.specs.OnLines.{OnLines}
 
 module _ (s : List ℕ) (w : Settings) (q : Planned) (planned-is : planned s w ≡ accepted q) where

@@ -10,8 +10,8 @@ use Rattle.model.specs.Table.{Table}
 use Rattle.amounts.specs.declared.Amounts.{Amounts}
 use Rattle.legality.specs.declared.Hand.{Hand}
 use Rattle.plans.specs.declared.Plan.{Plan}
-use Rattle.plans.specs.Plans.{Settings, Planned, amounts_for, planned, planned_for}
-use Rattle.plans.specs.Accepted.{Fit, planned-accepts, named-accepts}
+use Rattle.plans.specs.Plans.{Settings, Planned, amounts_for}
+use Rattle.plans.specs.Accepted.{Fit}
 
 -- the table in the store c, with the plan that code keeps in a
 abbrev pub planned_in : Axis → List ℕ → Planned
@@ -53,18 +53,3 @@ pub record Laid (a : Axis) (c : List ℕ) : Type 0 where
   pub held : Held c
   pub fit : Fit (table_in c) (fusion_in a)
   pub kept : Kept a
-
-pub made-laid : (s : List ℕ) (w : Settings) (r : Plan) (c : List ℕ) → Made (planned s w) r c → Laid r.axis c
-made-laid s w r c m = record {
-  held = m.held;
-  fit = (planned-accepts s w (planned_in r.axis c) m.is).fit;
-  kept = m.kept;
-}
-
--- a call that names a processor is the same call, for a processor below P
-pub named-made : (s : List ℕ) (w : Settings) (b : ℕ) (r : Plan) (c : List ℕ) → Made (planned_for s w b) r c → Made (planned s w) r c
-named-made s w b r c m = record {
-  is = (named-accepts s w b (planned_in r.axis c) m.is).0;
-  held = m.held;
-  kept = m.kept;
-}

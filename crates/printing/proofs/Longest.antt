@@ -16,7 +16,7 @@ use Rattle.grounds.specs.Accepted.{Valid}
 use Rattle.lists.specs.Fusion.{Fusion}
 use Rattle.outputs.specs.Given.{fitted}
 use Rattle.plans.specs.Plans.{Settings, Planned, shift_of, peel_of, planned}
-use Rattle.plans.specs.Accepted.{planned-accepts, shift_small, peel-small}
+use Rattle.plans.proofs.Accepted.{planned-accepts, shift_small, peel-small}
 use Rattle.plans.proofs.FromBytes.{own-plan, plan-most}
 use Rattle.sweeps.specs.Sweeps.{touched, written, sum_over, union, before, after}
 use Rattle.printing.specs.Printing.{listing_of, listing_given}

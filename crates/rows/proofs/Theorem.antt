@@ -8,7 +8,8 @@ use Rattle.order.specs.Sequences.{Before, run_all}
 use Rattle.order.specs.Lists.{before-left, before-right}
 use Rattle.order.specs.Reorder.{Commute}
 use Rattle.order.specs.Machine.{Exhausts, trace, start}
-use Rattle.order.specs.Rows.{Ordered, plan, any-schedule-by-keys}
+use Rattle.order.specs.Rows.{Ordered, plan}
+use Rattle.order.proofs.Rows.{any-schedule-by-keys}
 use Rattle.model.specs.declared.Iteration.{Iteration}
 use Rattle.model.specs.declared.Reference.{Reference}
 use Rattle.model.specs.Table.{Table, count, first, last, Inside}

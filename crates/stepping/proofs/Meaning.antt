@@ -18,7 +18,7 @@ use Rattle.lists.proofs.FusionLaws.{once}
 use Rattle.turns.specs.Turn.{Said, refuses, performs, waits, ends, After, stays, wrong_state, next, turn, stepped, own}
 use Rattle.turns.proofs.Meaning.{turn-said, performs-says, waits-says, ends-says}
 use Rattle.plans.specs.Plans.{Settings, Planned, planned, planned_for}
-use Rattle.plans.specs.Accepted.{planned-accepts, named-accepts}
+use Rattle.plans.proofs.Accepted.{planned-accepts, named-accepts}
 use Rattle.iterations.specs.Memory.{remembered}
 use Rattle.iterations.specs.MemoryLaws.{remembered-accepted}
 use Rattle.stepping.specs.declared.Report.{Report}

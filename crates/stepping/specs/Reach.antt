@@ -8,7 +8,7 @@ use Rattle.turns.specs.Turn.{refuses, stays, turn}
 use Rattle.turns.proofs.Reach.{stepped-turn}
 use Rattle.turns.specs.Reachable.{Reachable}
 use Rattle.plans.specs.Plans.{Settings, Planned, planned}
-use Rattle.plans.specs.Accepted.{named-below, named_past}
+use Rattle.plans.proofs.Accepted.{named-below, named_past}
 use Rattle.iterations.specs.Memory.{remembered}
 use Rattle.iterations.specs.MemoryLaws.{remembered-as-long}
 use Rattle.stepping.specs.Step.{work_of, elements, stepped_by, step}

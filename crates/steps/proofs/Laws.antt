@@ -18,8 +18,9 @@ use Rattle.barriers.specs.Code.{Ended, wrong_by}
 use Rattle.barriers.proofs.Same.{wrong-by-open}
 use Rattle.plans.specs.declared.Plan.{Plan}
 use Rattle.plans.specs.Plans.{Settings, planned_for}
-use Rattle.plans.specs.Code.{planned_in, Laid, Plans, named-made, made-laid}
-use Rattle.plans.specs.Accepted.{named-accepts}
+use Rattle.plans.specs.Code.{planned_in, Laid, Plans}
+use Rattle.plans.proofs.CodeLaws.{named-made, made-laid}
+use Rattle.plans.proofs.Accepted.{named-accepts}
 use Rattle.layouts.specs.Layout.{work_in}
 use Rattle.stepping.specs.declared.Report.{Report}
 use Rattle.stepping.specs.declared.Report.TheVariants.{Refused}

@@ -10,7 +10,8 @@ use mathlib.Core.List.{List, [], ◌∷◌}
 use mathlib.Core.List.Memᴰ.{head as mhere}
 use Rattle.std.proofs.Math.ListN.{length}
 use Rattle.order.specs.Lists.{if_yes, pick-length, perm-length}
-use Rattle.order.specs.Machine.{left, left-size, left-rest, left-next, rest, rest-next, next, next-open, bump, count, trace, final, start, runs, run-perm}
+use Rattle.order.specs.Machine.{left, left-size, left-rest, rest, rest-next, next, next-open, bump, count, trace, final, start}
+use Rattle.order.proofs.Machine.{left-next, runs, run-perm}
 use Rattle.order.proofs.Exists.{Able, some-able, nothing}
 use Rattle.order.specs.Rows.{Rows, plan, whole}
 use Rattle.blocks.specs.Sums.{column}

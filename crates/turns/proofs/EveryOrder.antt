@@ -5,7 +5,8 @@ use Rattle.std.proofs.Math.Decide.{dec_le, dec_lt}
 use mathlib.Core.List.{Memᴰ as Mem}
 use Rattle.order.specs.Lists.{if_yes, before-left, before-right, before-total, before-joined, joined-before}
 use Rattle.order.specs.Sequences.{Before, run_all}
-use Rattle.order.specs.Machine.{InOrder, complete-in-order}
+use Rattle.order.specs.Machine.{InOrder}
+use Rattle.order.proofs.Machine.{complete-in-order}
 use Rattle.order.specs.Plain.{Covers, in-order-covers}
 use Rattle.order.specs.Rows.{Rows, plan, whole, cut-before}
 use Rattle.order.proofs.EveryOrder.{owners, in_order, order-trace, order-complete, order-kept}

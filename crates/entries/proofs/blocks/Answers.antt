@@ -1,5 +1,5 @@
 use Rattle.plans.specs.Plans.{planned}
-use Rattle.plans.specs.Code.{made-laid}
+use Rattle.plans.proofs.CodeLaws.{made-laid}
 use Rattle.entries.specs.Entries.{blocks_given, blocks_of}
 use Rattle.numbers.specs.AskedLaws.{entry-refused, entry-given}
 use Rattle.entries.proofs.Laws.{blocks-ask}

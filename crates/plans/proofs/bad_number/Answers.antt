@@ -1,4 +1,3 @@
-use borrow.Author.Rules.{rules}
 use Rattle.plans.proofs.bad_number.Goals as goal
 
 pub returns-then-bad_processors : goal.returns-then-bad_processors

@@ -1,6 +1,5 @@
 use Rattle.plans.specs.Plans.{planned}
 use Rattle.plans.proofs.Laws.{asked-refused, asked-accepted}
-use borrow.Author.Rules.{rules}
 use Rattle.plans.proofs.check_plan.Goals as goal
 
 pub returns-then-r-ne0 : goal.returns-then-r-ne0

@@ -1,6 +1,5 @@
 use Rattle.reader.specs.Store.{table_in}
 use Rattle.plans.proofs.Laws.{own-chosen-is}
-use borrow.Author.Rules.{rules}
 use Rattle.plans.proofs.chosen.Goals as goal
 
 pub returns-then-w-eq0 : goal.returns-then-w-eq0

@@ -1,5 +1,4 @@
 use Rattle.plans.specs.Plans.{planned_for}
-use borrow.Author.Rules.{rules}
 use Rattle.plans.proofs.plan_for.Goals as goal
 
 pub returns : goal.returns

@@ -1,5 +1,4 @@
 use Rattle.plans.specs.Plans.{planned}
-use borrow.Author.Rules.{rules}
 use Rattle.plans.proofs.plan_table.Goals as goal
 
 pub returns : goal.returns

@@ -1,6 +1,5 @@
 use mathlib.Core.Path.{◌∙◌, sym}
 use Rattle.plans.proofs.Laws.{read-refused, read_held, plans-unfit, plans-ten, plans-seventeen, plans-chosen}
-use borrow.Author.Rules.{rules}
 use Rattle.plans.proofs.plan_unless.Goals as goal
 
 pub returns-then-r-ne0 : goal.returns-then-r-ne0

@@ -1,10 +1,8 @@
-use mathlib.Core.Path.{◌≡◌, refl, ◌∙◌}
-use Prim.Native.Nat.{◌≤◌, ◌<◌, ◌-◌, ◌^◌}
+use mathlib.Core.Path.{refl, ◌∙◌}
+use Prim.Native.Nat.{◌<◌, ◌^◌}
 use native.Mathlib.Omega.{arith}
-use borrow.Author.Rules.{rules}
 use Rattle.reader.specs.Store.{first_at, last_at}
 use Rattle.reader.specs.Held.{few-loops}
-use Rattle.blocks.specs.Sums.{least, largest}
 use Rattle.blocks.specs.SumLaws.{least-next, largest-next}
 use Rattle.plans.proofs.Laws.{last-small, span-end}
 use Rattle.plans.proofs.span_of.Goals as goal

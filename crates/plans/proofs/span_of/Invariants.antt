@@ -1,12 +1,7 @@
-use mathlib.Core.Path.{◌≡◌, refl, ◌∙◌}
+use mathlib.Core.Path.{◌≡◌}
 use Prim.Native.Nat.{◌≤◌, ◌<◌, ◌-◌, ◌^◌}
-use native.Mathlib.Omega.{arith}
-use borrow.Author.Rules.{rules}
 use Rattle.reader.specs.Store.{first_at, last_at}
-use Rattle.reader.specs.Held.{few-loops}
 use Rattle.blocks.specs.Sums.{least, largest}
-use Rattle.blocks.specs.SumLaws.{least-next, largest-next}
-use Rattle.plans.proofs.Laws.{last-small, span-end}
 use Rattle.plans.proofs.span_of.Given as goal
 
 -- the walk has seen the first k loops

@@ -1,4 +1,4 @@
-use Rattle.plans.specs.Code.{made-laid}
+use Rattle.plans.proofs.CodeLaws.{made-laid}
 use Rattle.printing.proofs.Laws.{refused-given, made-given}
 use borrow.Author.Rules.{rules}
 use Rattle.printing.proofs.print_listing.Goals as goal

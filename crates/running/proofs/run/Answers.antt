@@ -1,4 +1,4 @@
-use Rattle.plans.specs.Code.{made-laid}
+use Rattle.plans.proofs.CodeLaws.{made-laid}
 use Rattle.running.proofs.Laws.{runs-refused}
 use borrow.Author.Rules.{rules}
 use Rattle.running.proofs.run.Goals as goal

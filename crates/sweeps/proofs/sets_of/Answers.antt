@@ -1,6 +1,5 @@
 use native.Mathlib.Omega.{arith}
-use Prim.Native.Nat.{◌-◌}
-use Rattle.sweeps.specs.Rows.{SetsLeft, sets-start, sets-next, sets-done}
+use Rattle.sweeps.proofs.Rows.{sets-start, sets-next, sets-done}
 use Rattle.sweeps.proofs.Walks.{loop-few, rows-past}
 use Rattle.sweeps.proofs.sets_of.Goals as goal
 

@@ -1,7 +1,5 @@
-use native.Mathlib.Omega.{arith}
 use Prim.Native.Nat.{◌-◌}
-use Rattle.sweeps.specs.Rows.{SetsLeft, sets-start, sets-next, sets-done}
-use Rattle.sweeps.proofs.Walks.{loop-few, rows-past}
+use Rattle.sweeps.specs.Rows.{SetsLeft}
 use Rattle.sweeps.proofs.sets_of.Given as goal
 
 abbrev pub invariant-loop-row : goal.invariant-loop-row

@@ -1,7 +1,5 @@
-use native.Mathlib.Omega.{arith}
-use borrow.Author.Rules.{rules}
 use Prim.Native.Nat.{◌-◌}
-use Rattle.sweeps.proofs.Walks.{LoopInv, loops-start, loops-next, loops-done, room}
+use Rattle.sweeps.proofs.Walks.{LoopInv}
 use Rattle.sweeps.proofs.sweeps_of.Given as goal
 
 abbrev pub invariant-loop-k : goal.invariant-loop-k

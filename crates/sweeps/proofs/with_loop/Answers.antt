@@ -1,6 +1,5 @@
 use Rattle.reader.specs.Store.{table_in}
 use Rattle.sweeps.proofs.Walks.{added}
-use borrow.Author.Rules.{rules}
 use Rattle.sweeps.proofs.with_loop.Goals as goal
 
 pub returns : goal.returns

@@ -1,7 +1,6 @@
 use mathlib.Core.Path.{sym}
 use mathlib.Core.Bool.{or-false}
 use Rattle.marks.specs.Marks.{marked}
-use borrow.Author.Rules.{rules}
 use Rattle.sweeps.proofs.with_mark_if.Goals as goal
 
 pub returns-then-so : goal.returns-then-so

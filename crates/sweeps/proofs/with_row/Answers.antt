@@ -5,7 +5,6 @@ use mathlib.Core.Bool.{Bool, ◌&&◌, ◌||◌, and-true, and-false}
 use lib.Dec.{eqb, ltb}
 use borrow.Author.Tests.{ne_eqb}
 use Rattle.marks.specs.Marks.{marked}
-use borrow.Author.Rules.{rules}
 use Rattle.sweeps.proofs.with_row.Goals as goal
 
 -- a destination's row is a reference
