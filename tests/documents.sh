@@ -41,8 +41,19 @@ for document in *.md */*.md bindings/*/*.md examples/*/*.md; do
 done
 [ "$count" -ge 20 ] || say "only $count links were found"
 
+# A file of a crate, named as CRATE/specs/FILE or CRATE/proofs/FILE, is there. (NAME stands for any; declared is what rt makes; docs/PORT.md has old places.)
+named=0
+for document in *.md docs/*.md; do
+    [ "$document" != docs/PORT.md ] || continue
+    for target in $(grep -oE '\b[a-z]+/(specs|proofs)/[A-Za-z_]+' "$document" | grep -vE 'NAME|/declared$' | sort -u); do
+        [ -d "crates/${target%%/*}" ] || continue
+        named=$((named + 1))
+        [ -f "crates/$target.antt" ] || [ -d "crates/$target" ] || say "$document names $target, which is not there"
+    done
+done
+
 absent="[Tt]he papers?\b|\bpapers' |readings\.md|idioms\.md|\b01's\b|00-demands|01-scope|02-change|\(000,|\brequest [0-9]"
 leaning=$(grep -rnIE --exclude-dir={.git,build,target,landings,crates} --exclude=documents.sh "$absent" . || true)
 [ -z "$leaning" ] || say "these lean on papers that are not in the tree:"$'\n'"$leaning"
 [ "$bad" -eq 0 ] || exit 1
-echo "documents: $count links lead somewhere, and nothing leans on a paper that is not in the tree"
+echo "documents: $count links lead somewhere, $named files of crates are there, and nothing leans on a paper that is not in the tree"

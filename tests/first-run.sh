@@ -1,7 +1,7 @@
 #!/usr/bin/env bash
 # The scripts of bin/ on a checkout of their own, with two small crates for the library and two that have no part in it: what a first run prints,
 # when the library is made anew and when it is not, that a build which fails, is interrupted or has no toolchain leaves no old library, and
-# that the scripts work through links. The proofs are real ones (rt), a second or two each.
+# that the scripts work through links. The proofs are real ones (rt), some ten seconds each.
 set -eu
 cd "$(dirname "$0")/.."
 root=$PWD
@@ -16,14 +16,16 @@ cat > crates.txt <<'C'
 # A comment.
 one:
 other:
-vempaldi: one
+vempaldi staticlib: one
 plan: one
 C
 echo 'fn main() {}' > crates/plan/src/main.rt
-ghost='ghost use mathlib.Core.Path.{_≡_};'
-contract='    ensures { λ r. ⌜ r ≡ 7 ⌝ }'
-printf '%s\n' "$ghost" 'pub fn seven() -> usize' "$contract" '{' '    7' '}' > crates/one/src/lib.rt
-printf '%s\n' "$ghost" '#[no_mangle]' 'pub extern "C" fn vempaldi_seven() -> usize' "$contract" '{' '    one::seven()' '}' \
+# rt begins with what it has proved of the same text in another place, so this text stands nowhere else.
+own="// $(date +%s%N) $$"
+ghost='ghost use Rattle.std.specs.Prelude.{◌≡◌};'
+contract='    ensures { result ≡ 7 }'
+printf '%s\n' "$own" "$ghost" 'pub fn seven() -> usize' "$contract" '{' '    7' '}' > crates/one/src/lib.rt
+printf '%s\n' "$own" "$ghost" '#[unsafe(no_mangle)]' 'pub extern "C" fn vempaldi_seven() -> usize' "$contract" '{' '    one::seven()' '}' \
     > crates/vempaldi/src/lib.rt
 cp crates/one/src/lib.rt crates/other/src/lib.rt
 
@@ -49,8 +51,8 @@ no_library() { [ ! -e build/libvempaldi.a ] || wrong "$1: there is a library"; }
 builds 0 bin/library
 library 'a first run'
 sed -n 1p "$work/said" | grep -qE '^build/libvempaldi.a is not there: 2 crates .*minutes' || wrong 'the first line does not say how long'
-says '^proved 1 of 2: one, [0-9]+ s$'
-says '^proved 2 of 2: vempaldi, [0-9]+ s$'
+says '^proved 1 of 2: one, after [0-9]+ s$'
+says '^proved 2 of 2: vempaldi, after [0-9]+ s$'
 [ "$(wc -l < "$work/said")" -eq 3 ] || wrong 'a first run says three lines'
 nm build/libvempaldi.a | grep -q ' T vempaldi_seven$' || wrong 'the library has not the function'
 cmp -s build/vempaldi.h include/vempaldi.h || wrong 'the header is not copied'
@@ -73,7 +75,7 @@ cmp -s build/vempaldi.h include/vempaldi.h || wrong 'a changed header is not cop
 truncate -s 100 build/libvempaldi.a
 builds 0 bin/library
 says '^build/libvempaldi.a is not the file that was made'
-says '^1 of 2 crates are proved already$'
+says '^1 of 2 crates were proved already$'
 [ "$(stat -c %s build/libvempaldi.a)" -gt 100 ] || wrong 'a cut library is kept'
 builds 0 bin/library
 silent 'it was just made'
@@ -85,7 +87,7 @@ ln -s first "$work/links/second"
 echo '// more' >> crates/one/src/lib.rt
 builds 0 env -C / "$work/links/second"
 says '^the sources or the toolchain have changed since build/libvempaldi.a was made'
-says '^proved 1 of 2: one, [0-9]+ s$'
+says '^proved 1 of 2: one, after [0-9]+ s$'
 library 'a changed source'
 
 # A new file counts, and so does another toolchain.
@@ -114,7 +116,8 @@ library 'after an interrupted build'
 sed -i 's/^    7$/    8/' crates/one/src/lib.rt
 builds 1 bin/library
 says '^NOT proved: one$'
-says 'crates/one/src/lib.rt.*error|error.*one::seven|fn one::seven'
+says 'crates/one/src/lib.rt:[0-9:]+ it is not proved'
+says '^fn one::seven: no proof'
 no_library 'a proof fails'
 builds 1 bin/library
 no_library 'a proof fails again'
@@ -127,7 +130,7 @@ cat > "$work/kit/rt" <<R
 #!/bin/sh
 "$(command -v rt)" "\$@"
 status=\$?
-[ "\$1" != staticlib ] || for n in \$(seq 60); do echo "library number\$n: modules loaded=0 checked=0"; done
+[ "\$1" != all ] || for n in \$(seq 60); do echo "library number\$n: modules loaded=0 checked=0"; done
 exit \$status
 R
 sed -i 's/one::seven()/8/' crates/vempaldi/src/lib.rt
@@ -142,6 +145,12 @@ builds 1 env PATH="$work/kit:$PATH" bin/library
 says '^NOT proved: vempaldi$'
 says 'crates/vempaldi/src/lib.rt:[0-9:]+ error'
 sed -i '/^fn broken($/d' crates/vempaldi/src/lib.rt
+# So does one below, of which nothing is known yet.
+echo 'fn broken(' >> crates/one/src/lib.rt
+builds 1 bin/library
+says '^NOT proved: one$'
+says 'crates/one/src/lib.rt:[0-9:]+ error'
+sed -i '/^fn broken($/d' crates/one/src/lib.rt
 # Nothing is proved where rt itself fails; what it said last is shown.
 printf '#!/bin/sh\n[ "$1" != version ] || { echo another kit; exit; }\necho the kit is broken\nexit 2\n' > "$work/kit/rt"
 builds 1 env PATH="$work/kit:$PATH" bin/library
@@ -153,10 +162,10 @@ library 'it is mended'
 # The program behind bin/plan, in the same way; also where rt has proved it and it is not there any more.
 builds 0 bin/build
 says '^build/plan is not there: 2 crates '
-says '^proved 2 of 2: plan, [0-9]+ s$'
-rm target/bin/plan build/plan
+says '^proved 2 of 2: plan, after [0-9]+ s$'
+rm crates/plan/out/plan build/plan
 builds 0 bin/build
-says '^proved 2 of 2: plan, [0-9]+ s$'
+says '^proved 2 of 2: plan, after [0-9]+ s$'
 builds 0 bin/plan 2 /dev/null
 silent 'an empty program that is there'
 echo 'fn main() { let x = 1; }' > crates/plan/src/main.rt
@@ -170,8 +179,8 @@ cat > "$work/kit/rt" <<R
 #!/bin/sh
 case \$1 in
 version) echo another kit ;;
-check) echo '// more' >> crates/one/src/lib.rt ;;
-staticlib) mkdir -p target/staticlib; cp crates.txt target/staticlib/libvempaldi.a ;;
+all) echo '// more' >> ../one/src/lib.rt ;;
+lib) mkdir -p out; cp ../../crates.txt out/libvempaldi.a ;;
 esac
 R
 builds 1 env PATH="$work/kit:$PATH" bin/library
@@ -183,8 +192,8 @@ cat > "$work/kit/rt" <<R
 #!/bin/sh
 case \$1 in
 version) echo another kit ;;
-check) mkdir "$work/kit/busy" || : > "$work/kit/both"; echo check >> "$work/kit/calls"; sleep 2; rmdir "$work/kit/busy" ;;
-staticlib) mkdir -p target/staticlib; cp crates.txt target/staticlib/libvempaldi.a ;;
+all) mkdir "$work/kit/busy" || : > "$work/kit/both"; echo check >> "$work/kit/calls"; sleep 2; rmdir "$work/kit/busy" ;;
+lib) mkdir -p out; cp ../../crates.txt out/libvempaldi.a ;;
 esac
 R
 PATH="$work/kit:$PATH" bin/library > "$work/first" 2>&1 &

@@ -4,7 +4,7 @@ use Rattle.std.specs.Prelude.{ℕ}
 use Rattle.refusals.specs.declared.Refusal.{Refusal}
 
 -- two numbers are named
-abbrev pub naming : ℕ → ℕ → ℕ → ℕ → Refusal
+abbrev pub naming : (ground : ℕ) → ℕ → ℕ → ℕ → Refusal
 naming number place first second = record { ground = number; place = place; first = first; second = second }
 
 -- nothing is named

@@ -1,0 +1,12 @@
+use native.Mathlib.Omega.{arith}
+use Prim.Native.Nat.{suc, ◌-◌}
+use Rattle.lists.specs.Fusion.{fusion_in}
+use Rattle.text.specs.Written.{put-length}
+use Rattle.numbers.specs.Pairs.{Rowed, rowed-none, rowed-next, rowed-at, rowed-end}
+use Rattle.entries.proofs.write_blocks.Given as goal
+
+abbrev pub invariant-loop-b : goal.invariant-loop-b
+invariant-loop-b l = Rowed (fusion_in l.a).edge (λ j. (fusion_in l.a).edge (suc j) - 1) l.a.blocks 0 l.initial.out l.out l.b l.at
+
+abbrev pub decreases-loop-b : goal.decreases-loop-b
+decreases-loop-b l = l.a.blocks - l.b

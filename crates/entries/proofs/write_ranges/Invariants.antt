@@ -1,0 +1,16 @@
+use native.Mathlib.Omega.{arith}
+use Prim.Native.Nat.{◌-◌}
+use Rattle.text.specs.Written.{put-length}
+use Rattle.numbers.specs.Pairs.{Rowed, rowed-none, rowed-next, rowed-at, rowed-end}
+use Rattle.ranges.specs.Code.{range_of}
+use Rattle.ranges.specs.Listed.{few-loops, block-asks, part-asks}
+use Rattle.entries.specs.Entries.{empty_as_zero}
+use borrow.Author.Rules.{rules}
+use Rattle.entries.proofs.write_ranges.Given as goal
+
+abbrev pub invariant-loop-k : goal.invariant-loop-k
+invariant-loop-k l =
+    Rowed (λ j. (empty_as_zero (range_of l.phase l.a l.store l.b j)).from) (λ j. (empty_as_zero (range_of l.phase l.a l.store l.b j)).past) l.loops 0 l.initial.out l.out l.k l.at
+
+abbrev pub decreases-loop-k : goal.decreases-loop-k
+decreases-loop-k l = l.loops - l.k

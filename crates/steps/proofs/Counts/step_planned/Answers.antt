@@ -1,0 +1,62 @@
+use Prim.Native.Nat.{◌+◌, ◌≤◌}
+use native.Mathlib.Omega.{arith}
+use mathlib.Core.Path.{refl, sym, ◌∙◌}
+use lib.ListN.{length}
+use Rattle.barriers.proofs.Same.{zeros-small}
+use Rattle.iterations.specs.LoadedLaws.{loaded-total}
+use Rattle.layouts.specs.Layout.{work_in}
+use Rattle.steps.specs.Laid.{loaded-in, lent-in}
+use Rattle.steps.proofs.Laws.{leaves-unlike, leaves-wrong, leaves-called}
+use borrow.Author.Rules.{rules}
+use Rattle.steps.proofs.Counts.step_planned.Goals as goal
+
+pub returns-then-memory-wide : goal.returns-then-memory-wide
+returns-then-memory-wide c =
+    let a = c.args in
+    let p = c.requires in
+    let st = a.store.now in
+    let ld = loaded-in p.0 c.bases_of-bases.result.firsts c.bases_of-bases.ensures in
+    let n = loaded-total ld c.wide.result c.wide.ensures.0 in
+    rw (c.refused.ensures, c.met.ensures)
+    (leaves-unlike a.a st a.b a.self.done a.memory.now (λ e. c.if-memory-wide.true (e ∙ sym n)))
+
+pub put_ends-requires : goal.put_ends-requires
+put_ends-requires c = (c.requires.0, refl, zeros-small 192)
+
+pub returns-then-wrong_state : goal.returns-then-wrong_state
+returns-then-wrong_state c =
+    let a = c.args in
+    let p = c.requires in
+    let st = a.store.now in
+    let ld = loaded-in p.0 c.bases_of-bases.result.firsts c.bases_of-bases.ensures in
+    let n = loaded-total ld c.wide.result c.wide.ensures.0 in
+    rw (c.refused-then-wrong_state.ensures, c.met-then-wrong_state.ensures)
+    (leaves-wrong a.a st a.b a.self.done a.memory.now (c.if-memory-wide.false ∙ n) _
+    c.put_ends.ensures.0 c.wrong_state.result c.wrong_state.ensures c.if-wrong_state.true)
+
+pub step_laid-requires : goal.step_laid-requires
+step_laid-requires c =
+    let a = c.args in
+    let p = c.requires in
+    let st = a.store.now in
+    let ld = loaded-in p.0 c.bases_of-bases.result.firsts c.bases_of-bases.ensures in
+    let l = c.put_ends.ensures in
+    let y = c.put_lists.ensures in
+    let room : 0 + 96 ≤ length c.put_lists.new.lists = omega (arith, y.1.long) in (
+      (work_in a.a st, lent-in a.a st p.0 _ l.0 l.1 a.b _ 0 _ (λ i. (room, y.0)) ld),
+      c.if-memory-wide.false ∙ loaded-total ld _ c.wide.ensures.0,
+    )
+
+pub returns : goal.returns
+returns c =
+    let a = c.args in
+    let p = c.requires in
+    let st = a.store.now in
+    let ld = loaded-in p.0 c.bases_of-bases.result.firsts c.bases_of-bases.ensures in
+    let n = loaded-total ld _ c.wide.ensures.0 in
+    let l = c.put_ends.ensures in
+    let y = c.put_lists.ensures in
+    let room : 0 + 96 ≤ length c.put_lists.new.lists = omega (arith, y.1.long) in
+    leaves-called a.a st a.b a.self.done a.memory.now (c.if-memory-wide.false ∙ n) _ l.0 c.wrong_state.result
+    c.wrong_state.ensures c.if-wrong_state.false p.1 _ _ _
+    (c.step_laid.ensures (work_in a.a st) (lent-in a.a st p.0 _ l.0 l.1 a.b _ 0 _ (λ i. (room, y.0)) ld))

@@ -1,0 +1,17 @@
+use mathlib.Core.Path.{ap, ◌∙◌}
+use Rattle.stepping.specs.declared.Report.{Report}
+use Rattle.told.specs.Answers.{reported}
+use Rattle.vempaldi.proofs.Laws.{report-small}
+use borrow.Author.Rules.{rules}
+use Rattle.vempaldi.proofs.vempaldi_step.Goals as goal
+
+pub tell_report-requires : goal.tell_report-requires
+tell_report-requires c =
+    let a = c.args in
+    let x = c.step-r in
+    report-small a.table.now a.settings a.processor a.counts.now a.memory.now x.result.report x.ensures.report-is
+
+pub returns : goal.returns
+returns c =
+    let a = c.args in
+    let h = c.step-r.ensures in record { counts_after = h.counts-are; memory_after = h.memory-is; report_after = c.tell_report.ensures ∙ ap (λ (x : Report). reported x a.report.now) h.report-is; answer_after = rw (c.refusal_in.ensures, h.report-is) at c.write_answer.ensures }
