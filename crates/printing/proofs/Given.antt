@@ -2,7 +2,7 @@
 use Rattle.std.specs.Prelude.{ℕ, ◌≡◌, List}
 use Rattle.refusals.specs.declared.Refusal.{Refusal}
 use Rattle.refusals.specs.Answers.{accepted, refused}
-use Rattle.outputs.specs.Given.{fitted, final}
+use Rattle.outputs.specs.Given.{fitted}
 use Rattle.plans.specs.Plans.{Settings, Planned, planned}
 use Rattle.printing.specs.Printing.{listing_of, listing_given}
 
@@ -10,11 +10,6 @@ module _ (s : List ℕ) (w : Settings) (room : ℕ) where
   pub given-refused : (r : Refusal) → planned s w ≡ refused r → listing_given s w room ≡ refused r
   unfolding listing_given
   given-refused r e = rw e
-
-  -- so the lent bytes stay as found
-  pub given-kept : (r : Refusal) → planned s w ≡ refused r → (out : List ℕ) → final (listing_given s w room) out ≡ out
-  unfolding final
-  given-kept r e out = rw (given-refused r e)
 
   pub given-accepted : (q : Planned) → planned s w ≡ accepted q → listing_given s w room ≡ fitted room (listing_of q)
   unfolding listing_given

@@ -1,6 +1,6 @@
--- The longest listing: so much room is always enough, and 13 is then never given. Laws alone.
+-- The longest listing. Laws alone.
 use Rattle.std.specs.Prelude.{ℕ, zero, suc, ◌+◌, ◌*◌, ◌^◌, ◌≤◌, ◌<◌, ◌≡◌, true, false, List, length}
-use Rattle.std.proofs.Common.{mul-suc, arith, ap, ◌∙◌, le-ltb}
+use Rattle.std.proofs.Common.{mul-suc, arith, ap, ◌∙◌}
 use Rattle.std.proofs.lemmas.Bool.{false≢true}
 use Rattle.marks.specs.Marks.{size}
 use Rattle.marks.specs.MarkLaws.{size-most}
@@ -14,13 +14,11 @@ use Rattle.chains.proofs.Tables.{all_refs-refs, all_refs-below}
 use Rattle.refusals.specs.Answers.{accepted}
 use Rattle.grounds.specs.Accepted.{Valid}
 use Rattle.lists.specs.Fusion.{Fusion}
-use Rattle.outputs.specs.Given.{fitted}
 use Rattle.plans.specs.Plans.{Settings, Planned, shift_of, peel_of, planned}
 use Rattle.plans.proofs.Accepted.{planned-accepts, shift_small, peel-small}
 use Rattle.plans.proofs.FromBytes.{own-plan, plan-most}
 use Rattle.sweeps.specs.Sweeps.{touched, written, sum_over, union, before, after}
-use Rattle.printing.specs.Printing.{listing_of, listing_given}
-use Rattle.printing.proofs.Given.{given-accepted}
+use Rattle.printing.specs.Printing.{listing_of}
 use Rattle.printing.specs.Lengths.{loops-four, loops-five, peeled-sum, peeled-still-sum, listing-most}
 
 -- SWEEPS: each of at most sixteen loops touches at most sixteen arrays and writes at most sixteen
@@ -72,10 +70,3 @@ own-listing-length s w q e z =
     let most = listing-most t q.plan (before t) (after t) a.fit 3 (λ k. omega (arith, shift k, shift_small t v k)) (λ k. omega (arith, peel k, peel-small t v k))
     true (λ _. (shift 0 ∙ first-shift t v, peel 0 ∙ first-peel t v)) (before-few t v.few-loops) (after-few t) 278 22908 loops-four peeled-still-sum in
     omega (arith, most)
-
--- so much room is enough: a plan that is accepted has its listing
-pub listing-given : (s : List ℕ) (w : Settings) (q : Planned) → planned s w ≡ accepted q
-    → (room : ℕ) → 50000 ≤ room → listing_given s w room ≡ accepted (listing_of q)
-unfolding fitted
-listing-given s w q e room l =
-    given-accepted s w room q e ∙ rw (le-ltb room (length (listing_of q)) (omega (arith, listing-length s w q e)))
