@@ -6,12 +6,10 @@ use Rattle.turns.proofs.Finished as turns
 use Rattle.plans.specs.Plans.{Settings, Planned, planned}
 use Rattle.stepping.specs.declared.Report.TheVariants.{Finished}
 use Rattle.stepping.specs.Step.{report_of}
-use Rattle.stepping.specs.Run.{run_row}
 use Rattle.stepping.proofs.Meaning.{said-ends}
 use Rattle.calls.specs.Rows.{Fits, Complete, next_report}
 use Rattle.calls.specs.Calls.{calls}
 use Rattle.calls.proofs.AnyRow.{listed, unlisted}
-use Rattle.calls.proofs.CallersOrder.{row-complete}
 
 module _ (s : List ℕ) (w : Settings) (q : Planned) (planned-is : planned s w ≡ accepted q) (m : List Float) (fits : Fits q m) where
   module _ (bs : List ℕ) where
@@ -20,7 +18,3 @@ module _ (s : List ℕ) (w : Settings) (q : Planned) (planned-is : planned s w �
 
     pub finished-all : ((b : ℕ) → b < q.plan.processors → next_report s w bs m b ≡ Finished) → Complete s w q bs m
     finished-all all = unlisted s w q planned-is bs m (turns.finished-complete (calls s w q planned-is) bs m fits (λ b l. said-ends _ (all b l)))
-
-  -- so after the row of a run in a caller's order, whatever bytes it takes
-  pub run-finished : (order : List ℕ) (b : ℕ) → b < q.plan.processors → next_report s w (run_row s w order m q) m b ≡ Finished
-  run-finished order = all_finished (run_row s w order m q) (row-complete s w q planned-is order m fits)

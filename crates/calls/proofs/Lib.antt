@@ -6,3 +6,5 @@ pub mod CallersOrder
 pub mod EveryOrder
 -- all are finished after a complete row
 pub mod Finished
+-- and after a run in a caller's order
+pub mod FinishedRun

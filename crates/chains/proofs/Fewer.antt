@@ -7,13 +7,11 @@ use Rattle.model.specs.Table.{Table, count}
 use Rattle.model.specs.References.{touch, Touch, all_refs}
 use Rattle.overlap.specs.Booleans.{both_true}
 use Rattle.chains.specs.Graph.{Graph, Dependence}
-use Rattle.chains.specs.Dependence.{backward, forward}
 use Rattle.chains.proofs.DependenceLaws.{touch_is, dependence-meets}
 use Rattle.chains.specs.TableGraph.{graph}
-use Rattle.chains.specs.Walk.{numbers, shifts, peels, Ordered, Below}
+use Rattle.chains.specs.Fewer.{without_bounds}
+use Rattle.chains.specs.Walk.{numbers, Ordered, Below}
 use Rattle.chains.proofs.Largest.{numbers-legal, numbers-least}
-use Rattle.chains.specs.Threshold.{threshold}
-use Rattle.chains.proofs.ThresholdLaws.{threshold-smaller}
 use Rattle.chains.proofs.Tables.{all_refs-ordered, all_refs-below}
 
 module _ {R : Type 0} (amount : R → R → ℕ) (g : Graph R) (depends : R → R → Bool)
@@ -27,16 +25,7 @@ module _ {R : Type 0} (amount : R → R → ℕ) (g : Graph R) (depends : R → 
       numbers-least amount thinned o b (numbers amount g)
       (λ x y d. numbers-legal amount g o b x y (record { from = d.from; to = d.to; joined = fewer x y d.joined }))
 
--- the table's references where bounds play no part
-abbrev pub without_bounds : Table → Graph Reference
-without_bounds t = record {
-  references = all_refs t;
-  number = λ r. r.number;
-  depends = λ x y. ltb x.number y.number && touch x y;
-  earlier = λ x y e. ltb-true x.number y.number (both_true (ltb x.number y.number) (touch x y) e).0;
-}
-
--- in which any reference of an earlier loop and one of a later loop to its array make a dependence, if one of them stores
+-- where bounds play no part any reference of an earlier loop and one of a later loop to its array make a dependence, if one of them stores
 pub without-touch : (t : Table) (x y : Reference)
     → Dependence (without_bounds t) x y ↔ (Mem x (all_refs t) × Mem y (all_refs t) × (x.number < y.number) × Touch x y)
 without-touch t x y = (given, made)
@@ -53,8 +42,3 @@ never-larger t few amount = fewer-smaller amount (without_bounds t) _ _ fewer (a
   where
     fewer : (x y : Reference) → (graph t).depends x y ≡ true → (ltb x.number y.number && touch x y) ≡ true
     fewer x y e = let m = (dependence-meets t x y).0 e in rw (lt-ltb _ _ m.earlier-loop, (touch_is x y).1 m.meet.0)
-
--- nor is the threshold
-pub threshold-never-larger : (t : Table) → count t ≤ 16
-    → threshold (shifts (graph t)) (peels (graph t)) ≤ threshold (shifts (without_bounds t)) (peels (without_bounds t))
-threshold-never-larger t few = threshold-smaller _ _ _ _ (never-larger t few backward) (never-larger t few forward)

@@ -30,3 +30,5 @@ pub mod StepKnown
 pub mod Threshold
 -- how large shifts, peels and the threshold can be
 pub mod Bounds
+-- dependences where bounds play no part
+pub mod Fewer

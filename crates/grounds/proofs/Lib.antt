@@ -16,3 +16,5 @@ pub mod AcceptedLaws
 pub mod Sizes
 -- the first 2,364 bytes decide the answer
 pub mod Prefix
+-- so the first 4,096 do
+pub mod PrefixKept

@@ -137,7 +137,3 @@ reading-take s n h = go (dec_le n (length s))
     go : Dec (n ≤ length s) → reading (take n s) ≡ reading s
     go (yes long) = whole_take s n (omega arith) long
     go (no short) = ap reading (take_all n s (omega arith))
-
--- so the first 4,096 are
-pub reading-kept : (s : List ℕ) → reading (take 4096 s) ≡ reading s
-reading-kept s = reading-take s 4096 (omega arith)

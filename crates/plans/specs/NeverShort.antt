@@ -6,7 +6,8 @@ use Rattle.refusals.specs.Answers.{accepted}
 use Rattle.serial.specs.Serial.{table}
 use Rattle.chains.specs.Walk.{shifts, peels}
 use Rattle.chains.specs.Threshold.{threshold}
-use Rattle.chains.proofs.Fewer.{without_bounds, threshold-never-larger}
+use Rattle.chains.specs.Fewer.{without_bounds}
+use Rattle.chains.proofs.FewerThreshold.{threshold-never-larger}
 use Rattle.blocks.specs.Span.{table_span}
 use Rattle.blocks.specs.Blocks.{is_short}
 use Rattle.blocks.proofs.LineLaws.{short-given, short-not}

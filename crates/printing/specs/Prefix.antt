@@ -1,7 +1,7 @@
 -- A program that keeps a table's first 4,096 bytes prints the same: every table has ended or met a ground before that.
 use Rattle.std.specs.Prelude.{ℕ, ◌≡◌, List, take}
 use Rattle.serial.specs.Serial.{table}
-use Rattle.grounds.proofs.Prefix.{reading-kept}
+use Rattle.grounds.proofs.PrefixKept.{reading-kept}
 use Rattle.plans.specs.Plans.{Settings, planned}
 use Rattle.printing.specs.Printing.{text}
 
