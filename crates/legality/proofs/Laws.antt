@@ -17,10 +17,10 @@ use Rattle.overlap.specs.Booleans.{both_true, either_true, not-true, same_test}
 use Rattle.model.specs.declared.Reference.{Reference}
 use Rattle.model.specs.Table.{Table, count}
 use Rattle.model.specs.References.{refs, touch}
-use Rattle.reader.specs.Store.{start_at, kind_at, table_in}
+use Rattle.reader.specs.Store.{start_at, kind_at, array_at, table_in}
 use Rattle.reader.specs.Held.{Held, count_held, few-loops}
-use Rattle.reader.specs.Rows.{ref_in, row_refs, refers_to, refs_from, refs_in, LastDestination}
-use Rattle.reader.specs.RowLaws.{is-refers, row-reference, row-none, refs-next}
+use Rattle.reader.specs.Rows.{ref_in, row_refs, refs_from, refs_in, LastDestination}
+use Rattle.reader.specs.RowLaws.{row-reference, row-none, refs-next}
 use Rattle.chains.specs.Dependence.{meet_in, dependence}
 use Rattle.chains.proofs.DependenceLaws.{touch_is, dependence-meets, dependence-bounds, none-untouched}
 use Rattle.chains.specs.TableGraph.{earlier}
@@ -122,13 +122,11 @@ module _ (c : List ℕ) (f : Reference → Bool) (k : ℕ) where
 
 -- ONE ROW, with a destination of another loop, and as a destination
 module _ (c s p : List ℕ) where
-  pub row_apart : (x : Reference) (k r : ℕ) → false ≡ refers_to c r x.array → false ≡ with_row c s p x k r
+  pub row_apart : (x : Reference) (k r : ℕ) → (x.array ≡ array_at c r → ⊥) → false ≡ with_row c s p x k r
   row_apart x k r n = go (dec_lt (kind_at c r) 2)
     where
       go : Dec (kind_at c r < 2) → false ≡ with_row c s p x k r
-      go (yes q) =
-          row_here c (between (table_in c) s p x) k r false q
-          (between-apart (table_in c) s p x (ref_in c k r) (λ e. false≢true (n ∙ is-refers c r x.array q (sym e))))
+      go (yes q) = row_here c (between (table_in c) s p x) k r false q (between-apart (table_in c) s p x (ref_in c k r) n)
       go (no q) = row-empty c (between (table_in c) s p x) k r (omega arith)
 
   module _ (j r k : ℕ) where

@@ -62,7 +62,6 @@ module _ (t : Table) (s p : List ℕ) where
 pub record Storing (t : Table) (x : Reference) (k : ℕ) : Type 0 where
   pub fits : ReferenceFits t x
   pub stores : x.stores ≡ true
-  pub array : x.array < 16
   pub other : x.number ≢ k
   pub there : k < count t
 

@@ -132,7 +132,10 @@ fn lacks_row(
     requires storing { Storing (table_in store.now) x k × (r < start_at store.now (k + 1)) }
     ensures { result ≡ with_row store.now shifts.now peels.now x k r }
 {
-    if reader::refers_to(store, r, x.array) {
+    if wide(reader::array_at(store, r)) != x.array {
+        return false;
+    }
+    if reader::kind_at(store, r) < reader::CONSTANT {
         let y = reader::reference_at(store, k, r);
         return lacks_between(store, shifts, peels, x, y);
     }

@@ -22,7 +22,6 @@ lacks_loop-requires c =
       record {
         fits = reference-fits p.held.0 a.j p.j_bound.0 a.r p.j_bound.1 (omega (arith, kind));
         stores = eq-eqb _ 1 kind;
-        array = omega arith;
         other = p.j_bound.3;
         there = p.j_bound.2;
       },
