@@ -1,6 +1,5 @@
 -- How large shifts, peels and the threshold can be: a chain that ends at loop k has at most k dependences.
 use Rattle.std.specs.Prelude.{ℕ, ◌+◌, ◌*◌, max, ◌≤◌, ◌<◌, ◌≡◌, refl, Bool, true, false, List, length, get_or, set}
-use mathlib.Core.List.{Memᴰ as Mem}
 use Rattle.std.proofs.Common.{mul-le-mul_left, le_trans, arith, get_or-set_same, get_or-set_other}
 use Rattle.std.proofs.Math.Decide.{ℕ_discrete, dec_le}
 use Rattle.std.proofs.Math.ListN.{get_or-eq_default}

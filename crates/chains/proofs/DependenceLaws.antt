@@ -1,5 +1,5 @@
 -- Laws of dependences: the predicate as a proposition, the test of it, which pairs make none, and what a distance means.
-use Rattle.std.specs.Prelude.{ℕ, ◌+◌, ◌-◌, ◌≤◌, ◌<◌, ◌≡◌, ◌↔◌, false, ◌&&◌, ◌||◌, ltb, eqb}
+use Rattle.std.specs.Prelude.{ℕ, ◌+◌, ◌≤◌, ◌<◌, ◌≡◌, ◌↔◌, false, ◌&&◌, ◌||◌, ltb, eqb}
 use Rattle.std.proofs.Common.{⊎_elim, arith}
 use Rattle.std.proofs.Math.Bool.{true, or-true, and-false}
 use borrow.Author.Tests.{ltb-true, lt-ltb, eqb-true, eq-eqb}

@@ -15,7 +15,7 @@ use Rattle.records.specs.History.{summary, lengths, advanced, with_array, with_l
 use Rattle.records.specs.Clear.{Clear, Within}
 use Rattle.model.specs.declared.Iteration.{Iteration}
 use Rattle.model.specs.declared.Reference.{Reference}
-use Rattle.model.specs.Table.{Item, read, constant, operation, Statement, Loop, Table, no_loop, count, loop, first, last, Inside}
+use Rattle.model.specs.Table.{Item, read, constant, operation, Statement, Loop, Table, no_loop, count, loop, last, Inside}
 use Rattle.model.specs.References.{destination, reads, references, refs}
 use Rattle.refusals.specs.Answers.{accepted, refused}
 use Rattle.reader.specs.Reading.{Answer, reading, loops_of, table_of}

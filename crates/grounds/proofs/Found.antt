@@ -14,7 +14,7 @@ use Rattle.records.proofs.ClearLaws.{nothing}
 use Rattle.records.specs.Grounds.{◌if◌else◌, early, edge, fields, or_else, ground}
 use Rattle.grounds.specs.Places.{after, Records}
 use Rattle.grounds.specs.PlaceLaws.{records-within}
-use Rattle.grounds.specs.Statements.{arrays, elements, loops, latest, items, waiting, OutOfRange, ManyElements}
+use Rattle.grounds.specs.Statements.{loops, latest, waiting, OutOfRange, ManyElements}
 use Rattle.grounds.specs.Statements.{Unnumbered, NinthOrTooFew, Outside, OutsideInLoop, OutsideArray, AtWhole, Ground}
 use Rattle.grounds.specs.Tests.{Test, test, kind_tests, field_tests, last_tests, tests, First}
 use Rattle.grounds.proofs.Counted.{arrays-counted, elements-counted, loops-counted, Body, body-counted, Clears, loop-array, first-last, no_loop_lem}

@@ -3,7 +3,7 @@ use Rattle.std.specs.Prelude.{ℕ, ◌+◌, ◌-◌, ◌≤◌, ◌<◌, ◌≡�
 use mathlib.Core.List.{Memᴰ as Mem}
 use Rattle.records.specs.History.{operands}
 use Rattle.model.specs.declared.Reference.{Reference}
-use Rattle.model.specs.Table.{Item, read, constant, operation, Statement, Loop, Table, count, loop, first, last}
+use Rattle.model.specs.Table.{Item, read, constant, operation, Statement, Loop, Table, count, loop}
 use Rattle.model.specs.References.{references}
 use Rattle.grounds.specs.Statements.{sum}
 

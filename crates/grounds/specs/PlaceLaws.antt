@@ -4,7 +4,7 @@ use Rattle.std.proofs.Common.{arith, ◌∙◌}
 use Rattle.records.specs.declared.Kind.{Kind}
 use Rattle.records.specs.declared.Kind.TheVariants as kind
 use Rattle.records.specs.declared.Record.{Record}
-use Rattle.records.specs.declared.Record.TheVariants.{Unknown, End}
+use Rattle.records.specs.declared.Record.TheVariants.{End}
 use Rattle.records.specs.Bytes.{byte, kind_of, body_length, record_of, record_at}
 use Rattle.records.specs.Clear.{span_of}
 use Rattle.records.proofs.ClearLaws.{span-kind}

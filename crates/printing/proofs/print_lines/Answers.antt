@@ -1,5 +1,4 @@
 use Rattle.printing.proofs.Laws.{no_room, room, lines_are, gives_same}
-use borrow.Author.Rules.{rules}
 use Rattle.printing.proofs.print_lines.Goals as goal
 
 pub returns-then-out-total : goal.returns-then-out-total

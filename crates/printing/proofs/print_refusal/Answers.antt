@@ -1,6 +1,5 @@
 use native.Mathlib.Omega.{arith}
 use Rattle.printing.proofs.Laws.{no_room, room}
-use borrow.Author.Rules.{rules}
 use Rattle.printing.proofs.print_refusal.Goals as goal
 
 pub returns-then-out-size : goal.returns-then-out-size

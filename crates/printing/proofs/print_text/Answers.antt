@@ -1,6 +1,5 @@
 use Rattle.plans.proofs.CodeLaws.{made-laid}
 use Rattle.printing.proofs.Laws.{refused-printed, made-printed}
-use borrow.Author.Rules.{rules}
 use Rattle.printing.proofs.print_text.Goals as goal
 
 pub returns-then-r-ne0 : goal.returns-then-r-ne0
