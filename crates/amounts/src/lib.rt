@@ -1,6 +1,7 @@
 // Shifts and peels: the largest totals of backward and of forward amounts over all chains of dependences that end at a loop, found in a
 // single walk over the rows of the store. Each reference that the walk comes to is paired with every reference of an earlier loop, each pair once,
 // and is then kept in columns, in which the references of later loops find it.
+#![tactic(auto)]
 
 ghost use Rattle.std.specs.Prelude.{◌≡◌, true, ◌+◌, ◌*◌, ◌<◌, ◌≤◌, max, length};
 ghost use Rattle.order.specs.Sequences.{joined};

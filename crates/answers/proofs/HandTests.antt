@@ -1,6 +1,6 @@
 -- The tests of a plan by hand are the statements of 19 and 20: given, a ground holds; where it holds, it is given.
-use Rattle.std.specs.Prelude.{ℕ, ◌+◌, ◌*◌, ◌/◌, ◌%◌, ◌≤◌, ◌<◌, ◌≡◌, refl, ◌⊎◌, ◌≢◌, Bool, true, false, not, ◌||◌, eqb, get_or}
-use Rattle.std.proofs.Common.{arith, ap, subst, ◌∙◌, inl, inr, ⊎_elim, eq-eqb, ne_eqb}
+use Rattle.std.specs.Prelude.{ℕ, ◌+◌, ◌*◌, ◌/◌, ◌%◌, ◌≤◌, ◌<◌, ◌≡◌, refl, ◌⊎◌, ◌≢◌, Bool, true, not, ◌||◌, eqb, get_or}
+use Rattle.std.proofs.Common.{arith, subst, inl, inr, ⊎_elim, eq-eqb, ne_eqb}
 use Rattle.std.proofs.Math.Decide.{dec_lt}
 use Rattle.std.proofs.lemmas.Bool.{false≢true}
 use Rattle.model.specs.declared.Reference.{Reference}
@@ -13,7 +13,7 @@ use Rattle.chains.specs.Unmet.{missed, Unmet}
 use Rattle.chains.proofs.UnmetLaws.{missed-is, first-unmet, unmet-first}
 use Rattle.blocks.specs.SumLaws.{some-which, some-here}
 use Rattle.amounts.specs.declared.Amounts.{Amounts}
-use Rattle.legality.specs.Written.{number_at, amounts_in}
+use Rattle.legality.specs.Written.{amounts_in}
 use Rattle.legality.proofs.WrittenLaws.{pair_read, amount-past}
 use Rattle.legality.specs.ByHand.{large_at, too_large, first_unmet}
 use Rattle.plans.specs.Plans.{Settings}

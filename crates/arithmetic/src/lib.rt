@@ -1,4 +1,6 @@
 // Small functions on numbers, which many crates call. Where one sort of number has a name of its own, the other is said in the name.
+#![tactic(auto)]
+
 ghost use Rattle.std.specs.Prelude.{◌≡◌, ◌-◌, ◌<◌, min, max};
 
 pub fn wide(x: u32) -> usize

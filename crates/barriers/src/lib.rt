@@ -1,5 +1,7 @@
 // From the counts of iterations done and the numbers where each processor's phases end: which barriers are open, ground 15, the phase
 // that a processor has come to, and who can step.
+#![tactic(auto)]
+
 ghost use Rattle.std.specs.Prelude.{◌≡◌, ◌≤◌, ◌<◌, length};
 ghost use Rattle.turns.specs.Row.{lowest};
 ghost use Rattle.barriers.specs.Code.{before_by, left_by, closed_by, phase_by, last_open_by, most_by, wrong_by, ready_by, listed_by, EndsFit, Sized};

@@ -1,5 +1,5 @@
 -- Laws of how n lines are split over P blocks: how many each has, and that together they have all.
-use Rattle.std.specs.Prelude.{◌≡◌, ◌⊎◌, ℕ, zero, suc, ◌+◌, ◌-◌, ◌*◌, ◌/◌, ◌%◌, ◌≤◌, ◌<◌, min}
+use Rattle.std.specs.Prelude.{◌≡◌, ◌⊎◌, ℕ, zero, suc, ◌+◌, ◌*◌, ◌/◌, ◌%◌, ◌≤◌, ◌<◌, min}
 use Rattle.std.proofs.Math.Path.{refl}
 use Rattle.std.proofs.Common.{sym, ap, ◌∙◌, ⊎_elim, suc-mul, zero-mul, mul-zero, mod-lt, lt-ltb, le-ltb}
 use Rattle.std.proofs.Math.Logic.{inl, inr}

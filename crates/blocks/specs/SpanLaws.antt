@@ -4,7 +4,6 @@ use Rattle.std.proofs.Math.Path.{refl, ap}
 use Rattle.std.proofs.Common.{◌∙◌}
 use Prim.Native.Nat.{ℕ, suc, ◌+◌, ◌-◌, ◌≤◌, ◌<◌}
 use native.Mathlib.Omega.{arith}
-use Rattle.model.specs.Table.{count, first}
 use Rattle.blocks.specs.Sums.{least, largest}
 use Rattle.blocks.specs.SumLaws.{least-same, least-bound, largest-same, largest-bound, largest-most}
 use Rattle.blocks.specs.declared.Span.{Span}

@@ -1,4 +1,6 @@
 // How the indices are cut into blocks, which part of a loop each block has, and when a block is too short.
+#![tactic(auto)]
+
 ghost use Rattle.std.specs.Prelude.{◌≡◌, cond, suc, ◌+◌, ◌-◌, ◌*◌, ◌/◌, ◌%◌, ◌^◌, ◌≤◌, ◌<◌, min, max, eqb};
 ghost use Rattle.blocks.specs.Blocks.{lines, start, before, block, is_short};
 ghost use Rattle.blocks.specs.Parts.{fused_part, peeled_part};

@@ -1,4 +1,6 @@
 // References in columns, in which a walk over pairs finds the partners of a reference by one comparison each.
+#![tactic(auto)]
+
 ghost use Rattle.std.specs.Prelude.{◌≡◌, ◌<◌, ◌≤◌};
 ghost use Rattle.model.specs.References.{touch};
 ghost use Rattle.columns.specs.Columns.{stored_as, ref_at, Marked, searched, with_reference};

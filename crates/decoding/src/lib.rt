@@ -1,4 +1,6 @@
 // One record of a loop table, from bytes: its kind, its fields, and the tests on it.
+#![tactic(auto)]
+
 ghost use Rattle.std.specs.Prelude.{◌≡◌, ◌+◌, ◌<◌, ◌≤◌, length};
 ghost use Rattle.refusals.specs.Refusals.{met};
 ghost use Rattle.records.specs.Bytes.{byte, two, four, offset, kind_of, body_length, record_of};

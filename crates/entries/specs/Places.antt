@@ -1,6 +1,6 @@
 -- Which number of an entry is which, by its place: two a block, two a loop, two an iteration, and no others. Laws alone.
 use Rattle.std.specs.Prelude.{ℕ, zero, suc, ◌+◌, ◌-◌, ◌*◌, ◌<◌, ◌≡◌, refl, List, [], ◌∷◌, ◌++◌, length, get_or}
-use Rattle.std.proofs.Common.{arith, ap, subst, ◌∙◌, length-append}
+use Rattle.std.proofs.Common.{arith, subst, ◌∙◌, length-append}
 use Rattle.std.proofs.Math.Decide.{ℕ_discrete}
 use Rattle.std.proofs.Math.ListN.{get_or-append}
 use Rattle.order.specs.Sequences.{joined}

@@ -1,4 +1,6 @@
 // Public entries on plans: the numbers asked for, four bytes each, in lent bytes; or a refusal, which leaves them as found.
+#![tactic(auto)]
+
 ghost use Rattle.std.specs.Prelude.{[], ◌∷◌, ◌++◌, suc, ◌+◌, ◌-◌, ◌*◌, ◌^◌, ◌<◌, ◌≤◌, length};
 ghost use Rattle.order.specs.Sequences.{joined};
 ghost use Rattle.reader.specs.Store.{last_at, loops_in, table_in};

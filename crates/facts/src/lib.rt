@@ -1,4 +1,6 @@
 // Facts of a table, four bytes each, in lent bytes; or a refusal, which leaves them as found.
+#![tactic(auto)]
+
 ghost use Rattle.std.specs.Prelude.{[], ◌∷◌, ◌+◌, ◌*◌, ◌^◌, ◌<◌, ◌≤◌, length, get_or};
 ghost use Rattle.order.specs.Sequences.{joined};
 ghost use Rattle.reader.specs.Store.{first_at, last_at, arrays_in, loops_in, table_in};

@@ -1,4 +1,6 @@
 // One iteration of a loop.
+#![tactic(auto)]
+
 ghost use Rattle.std.specs.Prelude.{◌≡◌, List, [], ℕ, suc, ◌+◌, ◌-◌, ◌^◌, ◌≤◌, ◌<◌, length, get_or, set, take};
 ghost use Rattle.model.specs.Table.{Table, iteration, Inside};
 ghost use Rattle.model.specs.Bodies.{performed, run};

@@ -1,4 +1,6 @@
 // Joins two loop tables: left's arrays, left's loops, right's loops and one end.
+#![tactic(auto)]
+
 ghost use Rattle.std.specs.Prelude.{◌≡◌, ◌+◌, ◌*◌, ◌≤◌, ◌<◌, length};
 ghost use Rattle.std.proofs.Math.Seq.{paste};
 ghost use Rattle.refusals.specs.Answers.{accepted};

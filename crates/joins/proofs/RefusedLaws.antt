@@ -1,17 +1,16 @@
 -- Joining is refused with nothing but what `OfBoth` says, and wherever it says so.
 use Rattle.std.specs.Prelude.{ℕ, ◌+◌, ◌≤◌, ◌<◌, ◌≡◌, refl, ◌≢◌, Bool, true, false, not, List, ltb, length}
-use Rattle.std.proofs.Common.{arith, sym, ap, subst, ◌∙◌}
+use Rattle.std.proofs.Common.{arith, sym, ap, ◌∙◌}
 use borrow.Author.Tests.{ltb-true, ltb-false, lt-ltb, le-ltb, not-true, not-false}
 use Rattle.records.specs.Encoding.{encode_all}
 use Rattle.model.specs.Table.{Table, count}
 use Rattle.refusals.specs.declared.Refusal.{Refusal}
 use Rattle.refusals.specs.Refusals.{met}
-use Rattle.refusals.specs.Answers.{accepted, refused, ◌if◌else◌, after, refusal_of, Only}
+use Rattle.refusals.specs.Answers.{accepted, refused, ◌if◌else◌, Only}
 use Rattle.refusals.proofs.AnswerLaws.{accepted-only, after-only, if-only}
-use Rattle.reader.specs.Reading.{Answer}
 use Rattle.serial.specs.Serial.{table}
 use Rattle.tables.proofs.Nine.{told-some, refused-told}
-use Rattle.outputs.specs.Given.{Given, fitted}
+use Rattle.outputs.specs.Given.{fitted}
 use Rattle.joins.specs.Joining.{alike, joined_records, joining}
 use Rattle.joins.proofs.Written.{alike_same, same_alike}
 use Rattle.joins.specs.Refused.{BothAccepted, OfBoth, in_left, in_right, unlike, crowd, buffer}

@@ -1,4 +1,6 @@
 // A plan laid out in lent numbers: for each processor where its phases end, and its lists.
+#![tactic(auto)]
+
 ghost use Rattle.std.specs.Prelude.{◌≡◌, ◌+◌, ◌^◌, ◌≤◌, ◌<◌, length};
 ghost use Rattle.barriers.specs.Code.{Ended, EndsFit};
 ghost use Rattle.plans.specs.Code.{Laid};

@@ -1,4 +1,6 @@
 // A plan by hand: its shifts and peels are read from bytes, and held to what a plan may be (19) and to every dependence of the table (20).
+#![tactic(auto)]
+
 ghost use Rattle.std.specs.Prelude.{◌≡◌, true, ◌≢◌, ◌+◌, ◌*◌, ◌<◌, ◌≤◌, length};
 ghost use Rattle.model.specs.Table.{count};
 ghost use Rattle.model.specs.References.{touch};

@@ -1,5 +1,7 @@
 // The listing: the lines of a plan, or the single line of a refusal, into lent bytes. What has no room is left out, and the answer
 // is the text's whole length, so a first call with no bytes tells how many are needed.
+#![tactic(auto)]
+
 ghost use Rattle.std.specs.Prelude.{◌+◌, ◌^◌, ◌≤◌, ◌<◌};
 ghost use Rattle.reader.specs.Store.{loops_in, last_at, table_in};
 ghost use Rattle.blocks.specs.Sums.{column};

@@ -7,7 +7,7 @@ use Rattle.order.specs.Sequences.{Before, NoDup}
 use Rattle.order.specs.Lists.{before-left, before-right}
 use Rattle.order.specs.Rows.{Rows}
 use Rattle.model.specs.declared.Iteration.{Iteration}
-use Rattle.model.specs.Table.{Table, count, first, last, Inside}
+use Rattle.model.specs.Table.{Table, count, last, Inside}
 use Rattle.blocks.specs.Sums.{largest, column}
 use Rattle.blocks.specs.SumLaws.{largest-bound}
 use Rattle.blocks.specs.Span.{table_span}

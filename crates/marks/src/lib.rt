@@ -1,4 +1,6 @@
 // Sets of sixteen marks, one a bit of a mask.
+#![tactic(auto)]
+
 ghost use Rattle.std.specs.Prelude.{◌≡◌, ◌||◌, ℕ, ◌<◌, ◌≤◌, eqb};
 ghost use Rattle.marks.specs.Marks.{marked, size};
 

@@ -1,4 +1,5 @@
 // What a loop table is made of, as far as code passes it by value. The definitions are in specs/.
+#![tactic(auto)]
 
 // Iteration `index` of loop `number`.
 #[derive(Clone, Copy)]

@@ -1,4 +1,6 @@
 // What a call tells of what it gives in lent bytes. The definitions are in specs/.
+#![tactic(auto)]
+
 ghost use Rattle.std.specs.Prelude.{◌≡◌};
 ghost use Rattle.refusals.specs.Refusals.{met};
 ghost use Rattle.outputs.specs.Gives.{refusing, writing};

@@ -1,4 +1,6 @@
 // Where two loops meet, for one index.
+#![tactic(auto)]
+
 ghost use Rattle.std.specs.Prelude.{◌≡◌, ◌<◌};
 ghost use Rattle.overlap.specs.Overlap.{overlap};
 

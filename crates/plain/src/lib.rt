@@ -1,4 +1,6 @@
 // The plain run: the loops in table order, each from first to last, every iteration once. It knows nothing of a plan.
+#![tactic(auto)]
+
 ghost use Rattle.std.specs.Prelude.{◌≡◌, List, ℕ, suc, ◌-◌, ◌^◌, ◌≤◌, ◌<◌, length};
 ghost use Rattle.order.specs.Sequences.{run_all};
 ghost use Rattle.model.specs.Table.{count};

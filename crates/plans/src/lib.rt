@@ -1,5 +1,7 @@
 // The plan of a table: read through 9, its shifts and peels, found or given by hand (19, 20); and for a number of processors and a line's length,
 // grounds 10, 17 and 11.
+#![tactic(auto)]
+
 ghost use Rattle.std.specs.Prelude.{◌≡◌, false, ◌<◌};
 ghost use Rattle.reader.specs.Store.{Sized, table_in};
 ghost use Rattle.reader.specs.Held.{Held};

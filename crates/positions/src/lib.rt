@@ -1,5 +1,6 @@
 // The lists of one processor: how long they are, and their n-th iteration, found without walking the list.
 // Loop k has the range from froms[k] up to pasts[k], pasts[k] not in it, and the shift shifts[k].
+#![tactic(auto)]
 
 ghost use Rattle.std.specs.Prelude.{◌≡◌, ℕ, ◌+◌, ◌-◌, ◌*◌, ◌^◌, ◌≤◌, ◌<◌, length, get_or};
 ghost use Rattle.model.specs.Table.{iteration};

@@ -1,4 +1,6 @@
 // A table's listing into lent bytes: all of it, or a refusal, which leaves them as found. The program `plan` prints the line of a refusal instead.
+#![tactic(auto)]
+
 ghost use Rattle.std.specs.Prelude.{◌≤◌, length};
 ghost use Rattle.plans.specs.Plans.{settings};
 ghost use Rattle.plans.specs.Code.{planned_in, Laid};

@@ -1,4 +1,6 @@
 // The ranges of a plan's loops in a block, kept in a lent run of numbers, and the lists that they give: how long, and their n-th iteration.
+#![tactic(auto)]
+
 ghost use Rattle.std.specs.Prelude.{◌≡◌, ℕ, ◌+◌, ◌≤◌, ◌<◌, ◌^◌, length, get_or, set};
 ghost use Rattle.model.specs.Table.{iteration};
 ghost use Rattle.reader.specs.Store.{last_at, loops_in, table_in};

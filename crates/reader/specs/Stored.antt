@@ -5,7 +5,6 @@ use Rattle.records.specs.History.{summary, lengths}
 use Rattle.model.specs.Table.{Item, Statement, Loop, Table}
 use Rattle.reader.specs.Reading.{loops_of}
 use Rattle.reader.specs.Store.{Sized, first_at, last_at, start_at, kind_at, value_at, arrays_in, loops_in, table_in, body_from, loops_from}
-use Rattle.reader.specs.Store.{kept}
 
 -- what holds of each row: what a destination or a read has for an offset is one
 pub record Row (c : List ℕ) (r : ℕ) : Type 0 where

@@ -1,16 +1,14 @@
 -- A record is told by its own bytes alone: where two rows of bytes agree, they have the same record.
-use Rattle.std.specs.Prelude.{ℕ, ◌+◌, ◌≤◌, ◌<◌, ◌≡◌, List, length}
+use Rattle.std.specs.Prelude.{ℕ, ◌+◌, ◌≤◌, ◌<◌, ◌≡◌, List}
 use Rattle.std.proofs.Common.{arith, sym, ◌∙◌}
 use Rattle.std.proofs.Math.Path.{refl, ap}
 use Rattle.records.specs.declared.Kind.{Kind}
 use Rattle.records.specs.declared.Kind.TheVariants as kind
 use Rattle.records.specs.declared.Record.{Record}
 use Rattle.records.specs.declared.Record.TheVariants.{Unknown, Array, Loop, Read, Constant, Operation, End, Statement}
-use Rattle.records.specs.declared.Summary.{Summary}
 use Rattle.records.specs.Bytes.{byte, two, four, offset, kind_of, body_length, record_of, record_at}
-use Rattle.records.specs.Clear.{Clear, span_of}
+use Rattle.records.specs.Clear.{span_of}
 use Rattle.records.proofs.ClearLaws.{span-kind}
-use Rattle.records.proofs.Outcome.{Whole}
 
 -- the kind of a record, and by it the length of the body
 abbrev pub kind_in : Record → Kind

@@ -1,4 +1,6 @@
 // What a record of a loop table is, and what the tests on it look at in the records before it.
+#![tactic(auto)]
+
 ghost use Rattle.std.specs.Prelude.{◌≡◌, ◌+◌, ◌<◌, ◌≤◌};
 ghost use Rattle.records.specs.History.{operands, with_array, with_loop, with_item, with_statement, advanced, blank};
 ghost use Rattle.records.specs.Clear.{Room};

@@ -1,4 +1,6 @@
 // A refusal: its ground, its place, and what it names. One record by value for all calls.
+#![tactic(auto)]
+
 ghost use Rattle.std.specs.Prelude.{◌≡◌};
 ghost use Rattle.refusals.specs.Refusals.{none, met, naming};
 

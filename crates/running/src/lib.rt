@@ -1,4 +1,6 @@
 // The run in a caller's order: a call for each byte, then calls for the lowest-numbered processor that can step, each made by the step.
+#![tactic(auto)]
+
 ghost use Rattle.std.specs.Prelude.{◌≡◌, ℕ, List, length};
 ghost use Rattle.model.specs.declared.Iteration.{Iteration};
 ghost use Rattle.refusals.specs.Answers.{accepted};

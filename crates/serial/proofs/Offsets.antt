@@ -1,22 +1,21 @@
 -- One offset for each array that is stored: where every reference to it has that one, no two references collide.
-use Prim.Native.Nat.{ℕ, zero, suc, ◌+◌, ◌-◌, ◌≤◌, ◌<◌}
+use Prim.Native.Nat.{ℕ, suc, ◌+◌, ◌-◌, ◌≤◌, ◌<◌}
 use native.Mathlib.Omega.{arith}
 use native.Mathlib.Decide.{ℕ_discrete}
 use native.Mathlib.Numerals.{add-one}
 use mathlib.Core.Path.{◌≡◌, refl, sym, ap, subst, ◌∙◌}
 use mathlib.Core.Logic.{◌⊎◌, inl, inr, ⊎_elim}
-use mathlib.Core.Bool.{Bool, true, false, not, cond, ◌||◌, ◌&&◌, false≢true, and-false}
+use mathlib.Core.Bool.{Bool, true, false, not, ◌||◌, false≢true, and-false}
 use mathlib.Core.List.{List}
 use mathlib.Core.List.{Memᴰ as Mem}
 use lib.Dec.{eqb, ltb}
-use lib.ListN.{length, get_or, set, length-set, replicate, length-replicate, get_or-replicate}
+use lib.ListN.{get_or, set, length-set, replicate, length-replicate, get_or-replicate}
 use lib.Seq.{get_or-set_same, get_or-set_other}
-use borrow.Author.Tests.{lt-ltb, le-ltb, eq-eqb, ne_eqb, eqb-true}
+use borrow.Author.Tests.{lt-ltb, eq-eqb, ne_eqb, eqb-true}
 use Rattle.overlap.specs.Booleans.{not-true}
 use Rattle.overlap.specs.Overlap.{some_from}
 use Rattle.overlap.proofs.OverlapLaws.{is_some}
 use Rattle.model.specs.declared.Reference.{Reference}
-use Rattle.model.specs.References.{Touch}
 use Rattle.reader.specs.Store.{kind_at, array_at, value_at}
 use Rattle.reader.specs.Stored.{Row}
 use Rattle.reader.specs.Rows.{ref_in, refs_in}

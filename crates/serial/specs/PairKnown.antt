@@ -1,5 +1,5 @@
 -- The test of a pair of references, and the first pair of several that collides, by computation: of a loop from 0 to 1.
-use Rattle.std.specs.Prelude.{ℕ, ◌+◌, ◌≡◌, refl, Bool, true, false, List, [], ◌∷◌}
+use Rattle.std.specs.Prelude.{ℕ, ◌+◌, ◌≡◌, refl, true, false, List, [], ◌∷◌}
 use Rattle.overlap.specs.Overlap.{overlap}
 use Rattle.model.specs.declared.Reference.{Reference}
 use Rattle.model.specs.References.{touch}

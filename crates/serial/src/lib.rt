@@ -1,4 +1,6 @@
 // Ground 9: two different iterations of one loop meet at an element, one of them storing.
+#![tactic(auto)]
+
 ghost use Rattle.std.specs.Prelude.{◌≡◌, ◌||◌, ℕ, ◌-◌, ◌<◌, ◌≤◌, length};
 ghost use Rattle.overlap.specs.Overlap.{some_from};
 ghost use Rattle.refusals.specs.Answers.{accepted, refusal_of};

@@ -1,4 +1,6 @@
 // One step of a processor, from a table's bytes, the counts of iterations done and a memory.
+#![tactic(auto)]
+
 ghost use Rattle.std.specs.Prelude.{◌≡◌, ◌<◌, length};
 ghost use Rattle.model.specs.Table.{iteration};
 ghost use Rattle.model.specs.declared.Iteration.{Iteration};

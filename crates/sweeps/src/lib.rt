@@ -1,4 +1,6 @@
 // The arrays that the loops of a table touch and those that they write, counted before and after fusion.
+#![tactic(auto)]
+
 ghost use Rattle.std.specs.Prelude.{◌≡◌, ◌&&◌, ◌||◌, ℕ, ◌<◌, eqb, ltb};
 ghost use Rattle.marks.specs.Marks.{marked};
 ghost use Rattle.model.specs.Table.{count};

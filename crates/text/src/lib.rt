@@ -1,4 +1,5 @@
 // Text in lent bytes: what has no room is left out, and each function answers the place past its text, as if there were room.
+#![tactic(auto)]
 
 ghost use Rattle.std.specs.Prelude.{◌≡◌, [], ◌∷◌, ◌++◌, ◌+◌, ◌^◌, ◌≤◌, ◌<◌, length, set};
 ghost use Rattle.text.specs.Lent.{Put};

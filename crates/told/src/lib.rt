@@ -1,4 +1,6 @@
 // What a call tells: its answer's four numbers and, of a step, its report's three, in what it is lent.
+#![tactic(auto)]
+
 ghost use Rattle.std.specs.Prelude.{◌≡◌};
 ghost use Rattle.told.specs.Answers.{answered, written, reported, refusal_in, ReportFits};
 

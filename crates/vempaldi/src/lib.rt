@@ -1,4 +1,6 @@
 // The exported functions: thin, with plain numbers and slices. None requires anything: what it cannot take it refuses.
+#![tactic(auto)]
+
 ghost use Rattle.std.specs.Prelude.{◌≡◌, length};
 ghost use Rattle.refusals.specs.Answers.{refusal_of};
 ghost use Rattle.serial.specs.Serial.{table as accepts};

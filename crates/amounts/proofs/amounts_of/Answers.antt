@@ -1,4 +1,3 @@
-use borrow.Author.Rules.{rules}
 use Rattle.amounts.proofs.Laws.{walked-amounts}
 use Rattle.amounts.proofs.amounts_of.Goals as goal
 

@@ -1,6 +1,5 @@
 use native.Mathlib.Omega.{arith}
 use mathlib.Core.Path.{◌∙◌}
-use borrow.Author.Rules.{rules}
 use Rattle.amounts.proofs.Laws.{count-few, meet-stored}
 use Rattle.amounts.proofs.meet.Goals as goal
 

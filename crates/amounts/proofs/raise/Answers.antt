@@ -1,4 +1,3 @@
-use borrow.Author.Rules.{rules}
 use native.Mathlib.Omega.{arith}
 use mathlib.Core.Path.{sym, ◌∙◌}
 use Rattle.reader.specs.Store.{table_in}
@@ -24,9 +23,12 @@ returns-then-meet c =
     let a = c.args in
     let p = c.requires in
     let t = table_in a.store.now in
-    let m = sym c.meet.ensures ∙ c.if-meet.true in record { shifts_after = raised-met t backward a.x a.y a.shifts.now p.number_lt_number.0 p.number_lt_number.1 _ _ _ m c.wide.ensures.0 c.above.ensures
-          c.raised.ensures; peels_after = raised-met t forward a.x a.y a.peels.now p.number_lt_number.0 p.number_lt_number.1 _ _ _ m c.wide-then-meet.ensures.0 c.above-then-meet.ensures
-          c.raised-then-meet.ensures }
+    let m = sym c.meet.ensures ∙ c.if-meet.true in record {
+      shifts_after = raised-met t backward a.x a.y a.shifts.now p.number_lt_number.0 p.number_lt_number.1 _ _ _ m c.wide.ensures.0 c.above.ensures
+          c.raised.ensures;
+      peels_after = raised-met t forward a.x a.y a.peels.now p.number_lt_number.0 p.number_lt_number.1 _ _ _ m c.wide-then-meet.ensures.0 c.above-then-meet.ensures
+          c.raised-then-meet.ensures;
+    }
 
 pub returns-else-meet : goal.returns-else-meet
 returns-else-meet c =

@@ -1,9 +1,8 @@
-use Prim.Native.Nat.{◌-◌, ◌<◌}
+use Prim.Native.Nat.{◌<◌}
 use native.Mathlib.Omega.{arith}
-use borrow.Author.Rules.{rules}
 use Rattle.reader.specs.Store.{table_in}
 use Rattle.amounts.specs.Walked.{numbers_in}
-use Rattle.amounts.proofs.Laws.{Remaining, remaining-start, remaining-step, remaining-next, remaining-end}
+use Rattle.amounts.proofs.Laws.{remaining-start, remaining-step, remaining-next, remaining-end}
 use Rattle.amounts.proofs.take_earlier.Goals as goal
 
 pub loop-x-init : goal.loop-x-init
@@ -17,11 +16,14 @@ take_up-requires c =
     let l = c.loop-x in
     let p = c.requires in
     let a = c.args in
-    let i : l.x < a.from = omega (arith, c.loop-x-test.true) in record { held = (p.held.0, c.searched_for-column.ensures, p.held.1.each l.x i); bounded = (
+    let i : l.x < a.from = omega (arith, c.loop-x-test.true) in record {
+      held = (p.held.0, c.searched_for-column.ensures, p.held.1.each l.x i);
+      bounded = (
         l.invariant.bounded,
         remaining-step (table_in a.store.now) a.columns.now a.from a.y _ l.x l.made l.shifts l.peels i l.invariant,
         omega (arith, l.invariant.few, p.bounded.1, i, p.held.1.few),
-      ) }
+      );
+    }
 
 pub overflow_add-x : goal.overflow_add-x
 overflow_add-x c = let p = c.requires in omega (arith, c.loop-x-test.true, p.held.1.few)
@@ -37,5 +39,8 @@ loop-x-preserved c =
 pub returns : goal.returns
 returns c =
     let l = c.loop-x in
-    let a = c.args in record { taken = remaining-end (table_in a.store.now) a.columns.now a.from a.y (numbers_in a.shifts.now a.peels.now a.made.now) l.x l.made
-          l.shifts l.peels (omega (arith, c.loop-x-test.false)) l.invariant; bounded_2 = (l.invariant.bounded, omega (arith, l.invariant.few, l.invariant.past, c.requires.held.1.few)) }
+    let a = c.args in record {
+      taken = remaining-end (table_in a.store.now) a.columns.now a.from a.y (numbers_in a.shifts.now a.peels.now a.made.now) l.x l.made
+          l.shifts l.peels (omega (arith, c.loop-x-test.false)) l.invariant;
+      bounded_2 = (l.invariant.bounded, omega (arith, l.invariant.few, l.invariant.past, c.requires.held.1.few));
+    }

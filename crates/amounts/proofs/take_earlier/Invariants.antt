@@ -1,9 +1,7 @@
-use Prim.Native.Nat.{◌-◌, ◌<◌}
-use native.Mathlib.Omega.{arith}
-use borrow.Author.Rules.{rules}
+use Prim.Native.Nat.{◌-◌}
 use Rattle.reader.specs.Store.{table_in}
 use Rattle.amounts.specs.Walked.{numbers_in}
-use Rattle.amounts.proofs.Laws.{Remaining, remaining-start, remaining-step, remaining-next, remaining-end}
+use Rattle.amounts.proofs.Laws.{Remaining}
 use Rattle.amounts.proofs.take_earlier.Given as goal
 
 -- `take_earlier` meets its contract. The invariant: the pairs that are left are the next steps, and from the numbers so far they give what all of them give.

@@ -1,4 +1,3 @@
-use borrow.Author.Rules.{rules}
 use mathlib.Core.Path.{sym, ◌∙◌}
 use Rattle.reader.specs.Store.{table_in}
 use Rattle.columns.specs.Columns.{ref_at}

@@ -1,4 +1,3 @@
-use Prim.Native.Nat.{◌≤◌, ◌-◌}
 use mathlib.Core.Path.{◌≡◌, refl}
 use native.Mathlib.Omega.{arith}
 use borrow.Author.Rules.{rules}
@@ -7,7 +6,7 @@ use mir.Syntax.{w32}
 use mir.Val.{Fits}
 use Rattle.chains.specs.Maximum.{maximum_below}
 use Rattle.chains.specs.MaximumLaws.{maximum_below-next}
-use Rattle.chains.specs.Threshold.{threshold, sum_at}
+use Rattle.chains.specs.Threshold.{threshold}
 use Rattle.amounts.proofs.threshold_of.Goals as goal
 
 pub loop-k-init : goal.loop-k-init

@@ -1,13 +1,7 @@
 use Prim.Native.Nat.{◌≤◌, ◌-◌}
-use mathlib.Core.Path.{◌≡◌, refl}
-use native.Mathlib.Omega.{arith}
-use borrow.Author.Rules.{rules}
-use lib.ListN.{get_or}
-use mir.Syntax.{w32}
-use mir.Val.{Fits}
+use mathlib.Core.Path.{◌≡◌}
 use Rattle.chains.specs.Maximum.{maximum_below}
-use Rattle.chains.specs.MaximumLaws.{maximum_below-next}
-use Rattle.chains.specs.Threshold.{threshold, sum_at}
+use Rattle.chains.specs.Threshold.{sum_at}
 use Rattle.amounts.proofs.threshold_of.Given as goal
 
 -- `threshold_of` meets its contract. The invariant: t is the largest sum of the loops below k.

@@ -1,14 +1,8 @@
-use Prim.Native.Nat.{ℕ, ◌-◌, ◌≤◌}
-use mathlib.Core.Path.{◌≡◌, subst}
-use native.Mathlib.Omega.{arith}
-use borrow.Author.Rules.{rules}
+use Prim.Native.Nat.{◌-◌, ◌≤◌}
 use Rattle.order.specs.Sequences.{joined}
-use Rattle.model.specs.Table.{count}
 use Rattle.model.specs.References.{refs}
 use Rattle.reader.specs.Store.{table_in}
-use Rattle.reader.specs.Held.{count_held}
 use Rattle.amounts.specs.Walked.{Walked, numbers_in}
-use Rattle.amounts.proofs.Laws.{count-few, walked_start, walked_all}
 use Rattle.amounts.proofs.walk.Given as goal
 
 -- `walk` meets its contract. The invariant: the walk has come past the references of the loops below k.

@@ -1,10 +1,7 @@
-use Prim.Native.Nat.{ℕ, ◌+◌, ◌-◌, ◌≤◌}
-use mathlib.Core.Path.{◌≡◌, subst}
-use native.Mathlib.Omega.{arith}
+use Prim.Native.Nat.{◌+◌, ◌-◌, ◌≤◌}
 use Rattle.reader.specs.Store.{start_at, table_in}
-use Rattle.amounts.specs.Rows.{past_row, past-few, start-in, past-start, past_end}
+use Rattle.amounts.specs.Rows.{past_row}
 use Rattle.amounts.specs.Walked.{Walked, numbers_in}
-use Rattle.amounts.proofs.Laws.{count-few}
 use Rattle.amounts.proofs.walk_loop.Given as goal
 
 -- `walk_loop` meets its contract. The invariant: the walk has come past the rows before r.

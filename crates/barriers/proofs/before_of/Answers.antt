@@ -1,7 +1,6 @@
 use mathlib.Core.Path.{ap, ◌∙◌}
 use Rattle.blocks.specs.Sums.{column}
 use Rattle.barriers.proofs.Laws.{before-past}
-use borrow.Author.Rules.{rules}
 use Rattle.barriers.proofs.before_of.Goals as goal
 
 pub returns : goal.returns

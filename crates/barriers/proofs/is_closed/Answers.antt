@@ -5,7 +5,6 @@ use Rattle.blocks.specs.Sums.{column}
 use Rattle.blocks.specs.SumLaws.{some-none}
 use Rattle.barriers.specs.Code.{left_by}
 use Rattle.barriers.proofs.Laws.{lowest-some}
-use borrow.Author.Rules.{rules}
 use Rattle.barriers.proofs.is_closed.Goals as goal
 
 pub returns-then-phase-eq0 : goal.returns-then-phase-eq0

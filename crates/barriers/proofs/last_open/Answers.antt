@@ -1,9 +1,7 @@
-use Prim.Native.Nat.{◌<◌}
 use native.Mathlib.Omega.{arith}
 use mathlib.Core.Bool.{not}
 use mathlib.Core.Path.{◌≡◌, refl, sym, ap, ◌∙◌}
-use borrow.Author.Rules.{rules}
-use Rattle.barriers.specs.Code.{open_by, last_open_by}
+use Rattle.barriers.specs.Code.{open_by}
 use Rattle.barriers.proofs.Laws.{open-here, open-down}
 use Rattle.barriers.proofs.last_open.Goals as goal
 

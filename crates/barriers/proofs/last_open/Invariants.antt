@@ -1,9 +1,6 @@
 use Prim.Native.Nat.{◌<◌}
-use native.Mathlib.Omega.{arith}
-use mathlib.Core.Path.{◌≡◌, refl, sym, ap, ◌∙◌}
-use borrow.Author.Rules.{rules}
+use mathlib.Core.Path.{◌≡◌}
 use Rattle.barriers.specs.Code.{open_by, last_open_by}
-use Rattle.barriers.proofs.Laws.{open-here, open-down}
 use Rattle.barriers.proofs.last_open.Given as goal
 
 abbrev pub invariant-loop-n : goal.invariant-loop-n

@@ -1,11 +1,7 @@
-use Prim.Native.Nat.{ℕ, ◌-◌, ◌*◌, ◌≤◌}
-use native.Mathlib.Omega.{arith}
-use mathlib.Core.Path.{◌≡◌, refl, ap, ◌∙◌}
-use borrow.Author.Rules.{rules}
+use Prim.Native.Nat.{◌-◌, ◌*◌, ◌≤◌}
+use mathlib.Core.Path.{◌≡◌}
 use Rattle.blocks.specs.Sums.{total}
-use Rattle.blocks.specs.SumLaws.{total-next}
 use Rattle.barriers.specs.Code.{before_by}
-use Rattle.barriers.proofs.Laws.{before_small}
 use Rattle.barriers.proofs.listed.Given as goal
 
 abbrev pub invariant-loop-b : goal.invariant-loop-b

@@ -1,5 +1,4 @@
 use Rattle.barriers.proofs.Laws.{ready-found}
-use borrow.Author.Rules.{rules}
 use Rattle.barriers.proofs.lowest_ready.Goals as goal
 
 pub returns : goal.returns

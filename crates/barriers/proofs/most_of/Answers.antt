@@ -3,7 +3,6 @@ use native.Mathlib.Numerals.{add-one}
 use mathlib.Core.Path.{ap, ◌∙◌}
 use Rattle.barriers.specs.Code.{before_by}
 use borrow.Author.Tests.{lt-ltb, le-ltb}
-use borrow.Author.Rules.{rules}
 use Rattle.barriers.proofs.most_of.Goals as goal
 
 pub returns-then-b-processors : goal.returns-then-b-processors

@@ -1,9 +1,6 @@
 use Prim.Native.Nat.{◌<◌}
-use native.Mathlib.Omega.{arith}
-use mathlib.Core.Path.{◌≡◌, refl, sym, ap, ◌∙◌}
-use borrow.Author.Rules.{rules}
+use mathlib.Core.Path.{◌≡◌}
 use Rattle.barriers.specs.Code.{come_by, phase_by}
-use Rattle.barriers.proofs.Laws.{come-here, come-down}
 use Rattle.barriers.proofs.phase_of.Given as goal
 
 abbrev pub invariant-loop-n : goal.invariant-loop-n

@@ -1,10 +1,6 @@
-use Prim.Native.Nat.{ℕ, ◌-◌, ◌<◌}
 use native.Mathlib.Omega.{arith}
-use mathlib.Core.Path.{◌≡◌}
-use mathlib.Core.Bool.{false}
-use borrow.Author.Rules.{rules}
 use borrow.Author.Count.{below_none, below_more}
-use Rattle.barriers.specs.Code.{most_by, beyond_by}
+use Rattle.barriers.specs.Code.{most_by}
 use Rattle.barriers.proofs.Laws.{above-true, above-false, wrong-here, wrong-none}
 use Rattle.barriers.proofs.wrong_state.Goals as goal
 

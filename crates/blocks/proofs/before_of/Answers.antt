@@ -3,7 +3,6 @@ use native.Mathlib.Omega.{arith}
 use mathlib.Core.Path.{◌≡◌, ap, ◌∙◌}
 use Rattle.blocks.specs.Blocks.{lines, start}
 use Rattle.blocks.proofs.LineLaws.{before_at, before-most, lines_fit}
-use borrow.Author.Rules.{rules}
 use Rattle.blocks.proofs.before_of.Goals as goal
 
 -- `blocks::before_of` meets its contract: W times the lines before the block, cut at the count. Assumes nothing.

@@ -1,5 +1,4 @@
 use native.Mathlib.Numerals.{add-one}
-use borrow.Author.Rules.{rules}
 use Rattle.blocks.proofs.block_of.Goals as goal
 
 -- `blocks::block_of` meets its contract. Assumes nothing.

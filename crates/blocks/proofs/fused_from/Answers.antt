@@ -1,5 +1,4 @@
 use borrow.Author.Tests.{eq-eqb, ne_eqb}
-use borrow.Author.Rules.{rules}
 use Rattle.blocks.proofs.fused_from.Goals as goal
 
 -- `blocks::fused_from` meets its contract: the first block has no lower end. Assumes nothing.

@@ -1,5 +1,4 @@
 use Rattle.blocks.specs.Parts.{fused_part}
-use borrow.Author.Rules.{rules}
 use Rattle.blocks.proofs.fused_part.Goals as goal
 
 -- `blocks::fused_part` meets its contract. Assumes nothing.

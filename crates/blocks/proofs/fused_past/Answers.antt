@@ -1,6 +1,5 @@
 use native.Mathlib.Omega.{arith}
 use borrow.Author.Tests.{eq-eqb, ne_eqb}
-use borrow.Author.Rules.{rules}
 use Rattle.blocks.proofs.fused_past.Goals as goal
 
 -- `blocks::fused_past` meets its contract: the last block has no upper end. Assumes nothing.

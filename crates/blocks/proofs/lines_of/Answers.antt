@@ -1,5 +1,4 @@
 use Rattle.blocks.proofs.LineLaws.{lines_at}
-use borrow.Author.Rules.{rules}
 use Rattle.blocks.proofs.lines_of.Goals as goal
 
 -- `blocks::lines_of` meets its contract. Assumes nothing.

@@ -1,4 +1,3 @@
-use borrow.Author.Rules.{rules}
 use Rattle.blocks.proofs.part_of.Goals as goal
 
 pub returns-in-Fused : goal.returns-in-Fused

@@ -1,6 +1,5 @@
 use borrow.Author.Tests.{eq-eqb, ne_eqb}
 use Rattle.blocks.specs.Parts.{peeled_part}
-use borrow.Author.Rules.{rules}
 use Rattle.blocks.proofs.peeled_part.Goals as goal
 
 -- `blocks::peeled_part` meets its contract: the last block peels nothing. Assumes nothing.

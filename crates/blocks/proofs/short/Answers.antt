@@ -1,9 +1,8 @@
-use Prim.Native.Nat.{ℕ, ◌-◌, ◌<◌, ◌≤◌}
-use mathlib.Core.Path.{◌≡◌, subst}
+use Prim.Native.Nat.{ℕ, ◌<◌, ◌≤◌}
+use mathlib.Core.Path.{subst}
 use borrow.Author.Tests.{lt-ltb, le-ltb, le-leb, lt-leb}
 use Rattle.blocks.specs.Blocks.{lines}
 use Rattle.blocks.proofs.LineLaws.{short-at}
-use borrow.Author.Rules.{rules}
 use Rattle.blocks.proofs.short.Goals as goal
 
 -- `blocks::short` meets its contract: of the blocks the last, which is the smallest, alone has to be tested. Assumes nothing.

@@ -1,6 +1,5 @@
 use native.Mathlib.Omega.{arith}
 use Rattle.blocks.proofs.BlockLaws.{start_fits, start-at}
-use borrow.Author.Rules.{rules}
 use Rattle.blocks.proofs.start_of.Goals as goal
 
 -- `blocks::start_of` meets its contract: each block before b has n / P lines, and the first (n mod P) have one more. Assumes nothing.

@@ -1,5 +1,4 @@
 use Rattle.bodies.proofs.Tops.{combined-tops}
-use borrow.Author.Rules.{rules}
 use Rattle.bodies.proofs.combine.Goals as goal
 
 pub returns : goal.returns

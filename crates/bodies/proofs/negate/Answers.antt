@@ -1,5 +1,4 @@
 use Rattle.bodies.proofs.Tops.{negated-top}
-use borrow.Author.Rules.{rules}
 use Rattle.bodies.proofs.negate.Goals as goal
 
 pub returns : goal.returns

@@ -1,5 +1,4 @@
 use Rattle.bodies.proofs.Tops.{pushed}
-use borrow.Author.Rules.{rules}
 use Rattle.bodies.proofs.push.Goals as goal
 
 pub returns : goal.returns

@@ -3,7 +3,6 @@ use native.Mathlib.Omega.{arith}
 use Rattle.bodies.proofs.Work.{at-bottom}
 use Rattle.reader.specs.Store.{lead_from}
 use Prim.Native.Nat.{◌-◌}
-use borrow.Author.Rules.{rules}
 use Rattle.bodies.proofs.value_of.Goals as goal
 
 pub work_rows-worked-requires : goal.work_rows-worked-requires
@@ -15,5 +14,8 @@ pub returns : goal.returns
 returns c =
     let a = c.args in
     let n = c.none-none in
-    let w = c.work_rows-worked in record { stopped = w.ensures.count_value.1; by_index = λ ns b. at-bottom (lead_from a.store.now a.from (a.past - a.from) []) ns a.i a.memory.now n.result
-          w.result.waiting n.ensures w.ensures.count_value.0 (w.ensures.by_index ns b) }
+    let w = c.work_rows-worked in record {
+      stopped = w.ensures.count_value.1;
+      by_index = λ ns b. at-bottom (lead_from a.store.now a.from (a.past - a.from) []) ns a.i a.memory.now n.result
+          w.result.waiting n.ensures w.ensures.count_value.0 (w.ensures.by_index ns b);
+    }

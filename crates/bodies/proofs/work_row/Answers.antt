@@ -1,5 +1,4 @@
 use Rattle.bodies.proofs.Work.{read-asks, read-works, constant-asks, constant-works, operation-asks, operation-works}
-use borrow.Author.Rules.{rules}
 use Rattle.bodies.proofs.work_row.Goals as goal
 
 pub element-requires : goal.element-requires

@@ -1,4 +1,3 @@
-use borrow.Author.Rules.{rules}
 use Rattle.columns.specs.Columns.{with_reference}
 use Rattle.columns.proofs.put_reference.Goals as goal
 

@@ -1,4 +1,3 @@
-use borrow.Author.Rules.{rules}
 use Rattle.columns.proofs.reference_in.Goals as goal
 
 -- `reference_in` meets its contract: the numbers at the position, each from its column.

@@ -1,6 +1,5 @@
 use Rattle.records.specs.Grounds.{fields}
 use borrow.Author.Tests.{lt-ltb, le-ltb, eq-eqb, ne_eqb}
-use borrow.Author.Rules.{rules}
 use Rattle.decoding.proofs.array_tests.Goals as goal
 
 pub returns-then-n-eq0 : goal.returns-then-n-eq0

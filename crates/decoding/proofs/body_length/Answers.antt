@@ -2,7 +2,6 @@ use Prim.Native.Nat.{ℕ}
 use Rattle.records.specs.Bytes.{body_length, body_lengths}
 use mathlib.Core.Path.{sym, ap, ◌∙◌}
 use lib.ListN.{get_or, get_or-eq_default}
-use borrow.Author.Rules.{rules}
 use Rattle.decoding.proofs.body_length.Goals as goal
 
 pub returns-then-b-lt8 : goal.returns-then-b-lt8

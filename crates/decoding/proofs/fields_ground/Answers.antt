@@ -1,5 +1,4 @@
 use Rattle.records.specs.Grounds.{fields}
-use borrow.Author.Rules.{rules}
 use Rattle.decoding.proofs.fields_ground.Goals as goal
 
 pub returns-in-Unknown : goal.returns-in-Unknown

@@ -1,6 +1,5 @@
 use Rattle.records.specs.Bytes.{four}
 use native.Mathlib.Omega.{arith}
-use borrow.Author.Rules.{rules}
 use Rattle.decoding.proofs.four_at.Goals as goal
 
 pub returns : goal.returns

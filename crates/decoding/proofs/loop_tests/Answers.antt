@@ -1,6 +1,5 @@
 use Rattle.records.specs.Grounds.{fields}
 use borrow.Author.Tests.{lt-ltb, le-ltb, le-leb, lt-leb}
-use borrow.Author.Rules.{rules}
 use Rattle.decoding.proofs.loop_tests.Goals as goal
 
 pub returns-then-last-gt-MOST_LAST : goal.returns-then-last-gt-MOST_LAST

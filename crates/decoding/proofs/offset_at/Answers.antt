@@ -1,6 +1,5 @@
 use Rattle.records.specs.Bytes.{offset}
 use native.Mathlib.Omega.{arith}
-use borrow.Author.Rules.{rules}
 use Rattle.decoding.proofs.offset_at.Goals as goal
 
 pub returns : goal.returns

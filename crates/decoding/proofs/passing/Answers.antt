@@ -1,5 +1,4 @@
 use Rattle.records.specs.Grounds.{passed}
-use borrow.Author.Rules.{rules}
 use Rattle.decoding.proofs.passing.Goals as goal
 
 pub returns-in-Unknown : goal.returns-in-Unknown

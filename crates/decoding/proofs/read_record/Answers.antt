@@ -7,12 +7,10 @@ use Rattle.records.specs.Clear.{span_of}
 use Rattle.records.proofs.ClearLaws.{span-kind, length-max}
 use mathlib.Core.Path.{◌≡◌, sym, ap, ◌∙◌}
 use native.Mathlib.Omega.{arith}
-use borrow.Author.Rules.{rules}
 use Rattle.decoding.proofs.read_record.Goals as goal
 
 pub returns-then-s-at : goal.returns-then-s-at
 returns-then-s-at c =
-    
     let s = c.args.s.now in
     let at = c.args.at in
     let t = c.args.t in
@@ -21,7 +19,6 @@ returns-then-s-at c =
 
 pub returns-then-g-ne0 : goal.returns-then-g-ne0
 returns-then-g-ne0 c =
-    
     let s = c.args.s.now in
     let at = c.args.at in
     let t = c.args.t in
@@ -34,7 +31,6 @@ overflow_add-at-2 c = omega (arith, c.body_length-n.ensures, length-max c.one_at
 
 pub returns-then-s-at-2 : goal.returns-then-s-at-2
 returns-then-s-at-2 c =
-    
     let s = c.args.s.now in
     let at = c.args.at in
     let t = c.args.t in
@@ -50,8 +46,6 @@ record_of-r-requires c =
 
 pub returns-then-f-ne0 : goal.returns-then-f-ne0
 returns-then-f-ne0 c =
-    
-    
     let s = c.args.s.now in
     let at = c.args.at in
     let t = c.args.t in
@@ -71,9 +65,6 @@ overflow_add-at-5 c =
 
 pub returns : goal.returns
 returns c =
-    
-    
-    
     let s = c.args.s.now in
     let at = c.args.at in
     let t = c.args.t in

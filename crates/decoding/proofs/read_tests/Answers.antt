@@ -1,6 +1,5 @@
 use Rattle.records.specs.Grounds.{fields}
 use borrow.Author.Tests.{lt-ltb, le-ltb, le-leb, lt-leb}
-use borrow.Author.Rules.{rules}
 use Rattle.decoding.proofs.read_tests.Goals as goal
 
 pub returns-then-t-q : goal.returns-then-t-q

@@ -2,7 +2,6 @@ use Rattle.records.specs.Bytes.{record_of}
 use Rattle.records.specs.Clear.{span_of}
 use native.Mathlib.Omega.{arith}
 use mathlib.Core.Path.{ap}
-use borrow.Author.Rules.{rules}
 use Rattle.decoding.proofs.record_of.Goals as goal
 
 pub four_at-requires : goal.four_at-requires

@@ -1,6 +1,5 @@
 use Rattle.records.specs.Bytes.{two}
 use native.Mathlib.Omega.{arith}
-use borrow.Author.Rules.{rules}
 use Rattle.decoding.proofs.two_at.Goals as goal
 
 pub returns : goal.returns

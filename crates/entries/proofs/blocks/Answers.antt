@@ -3,7 +3,6 @@ use Rattle.plans.proofs.CodeLaws.{made-laid}
 use Rattle.entries.specs.Entries.{blocks_given, blocks_of}
 use Rattle.numbers.specs.AskedLaws.{entry-refused, entry-given}
 use Rattle.entries.proofs.Laws.{blocks-ask}
-use borrow.Author.Rules.{rules}
 use Rattle.entries.proofs.blocks.Goals as goal
 
 pub returns-then-r-ne0 : goal.returns-then-r-ne0

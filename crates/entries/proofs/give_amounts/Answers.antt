@@ -4,7 +4,6 @@ use Rattle.reader.specs.Held.{few-loops}
 use Rattle.entries.specs.Entries.{amounts_of}
 use Rattle.numbers.specs.AskedLaws.{numbers-short, numbers-put}
 use Rattle.entries.proofs.Laws.{amounts-are, amounts-size}
-use borrow.Author.Rules.{rules}
 use Rattle.entries.proofs.give_amounts.Goals as goal
 
 pub overflow_mul-loops : goal.overflow_mul-loops

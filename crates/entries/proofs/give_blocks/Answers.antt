@@ -2,7 +2,6 @@ use Rattle.lists.specs.Fusion.{fusion_in}
 use Rattle.entries.specs.Entries.{blocks_of}
 use Rattle.numbers.specs.AskedLaws.{numbers-short, numbers-put}
 use Rattle.entries.proofs.Laws.{blocks-size}
-use borrow.Author.Rules.{rules}
 use Rattle.entries.proofs.give_blocks.Goals as goal
 
 pub returns-then-out-wide : goal.returns-then-out-wide

@@ -6,7 +6,6 @@ use Rattle.ranges.specs.Listed.{list-in}
 use Rattle.entries.specs.Entries.{pairs_of}
 use Rattle.numbers.specs.AskedLaws.{numbers-short, numbers-put}
 use Rattle.entries.proofs.Laws.{list-fits, list-size}
-use borrow.Author.Rules.{rules}
 use Rattle.entries.proofs.give_list.Goals as goal
 
 pub returns-then-out-size : goal.returns-then-out-size

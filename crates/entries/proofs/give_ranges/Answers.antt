@@ -4,7 +4,6 @@ use Rattle.plans.specs.Code.{planned_in}
 use Rattle.numbers.specs.AskedLaws.{numbers-short, numbers-put}
 use Rattle.entries.specs.Entries.{ranges_of}
 use Rattle.entries.proofs.Laws.{ranges-are, ranges-size}
-use borrow.Author.Rules.{rules}
 use Rattle.entries.proofs.give_ranges.Goals as goal
 
 pub overflow_mul-pairs : goal.overflow_mul-pairs

@@ -4,7 +4,6 @@ use Rattle.reader.specs.Store.{table_in}
 use Rattle.sweeps.specs.declared.Sweeps.{Sweeps}
 use Rattle.sweeps.specs.Sweeps.{before, after, sweeps}
 use Rattle.numbers.specs.AskedLaws.{two_size, two-put, numbers-short, numbers-put}
-use borrow.Author.Rules.{rules}
 use Rattle.entries.proofs.give_sweeps.Goals as goal
 
 pub returns-then-out-lt-PAIR : goal.returns-then-out-lt-PAIR

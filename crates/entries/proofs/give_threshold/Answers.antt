@@ -4,7 +4,6 @@ use Rattle.reader.specs.Store.{table_in}
 use Rattle.plans.specs.Plans.{threshold_of}
 use Rattle.numbers.specs.AskedLaws.{one_size, one-put, numbers-short, numbers-put}
 use Rattle.entries.proofs.Laws.{threshold-is, threshold-fits}
-use borrow.Author.Rules.{rules}
 use Rattle.entries.proofs.give_threshold.Goals as goal
 
 pub returns-then-out-lt-NUMBER : goal.returns-then-out-lt-NUMBER

@@ -1,4 +1,3 @@
-use borrow.Author.Rules.{rules}
 use Rattle.entries.proofs.put_block.Goals as goal
 
 pub returns : goal.returns

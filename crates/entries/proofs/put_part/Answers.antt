@@ -1,4 +1,3 @@
-use borrow.Author.Rules.{rules}
 use Rattle.entries.proofs.put_part.Goals as goal
 
 pub returns : goal.returns

@@ -1,5 +1,4 @@
 use Rattle.entries.proofs.Laws.{zero-empty, zero-some}
-use borrow.Author.Rules.{rules}
 use Rattle.entries.proofs.put_range.Goals as goal
 
 pub returns-then-past-from : goal.returns-then-past-from

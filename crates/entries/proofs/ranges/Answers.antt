@@ -2,7 +2,6 @@ use Rattle.plans.specs.Plans.{planned_for}
 use Rattle.entries.specs.Entries.{ranges_given, ranges_of}
 use Rattle.numbers.specs.AskedLaws.{entry-refused, entry-given}
 use Rattle.entries.proofs.Laws.{named-laid}
-use borrow.Author.Rules.{rules}
 use Rattle.entries.proofs.ranges.Goals as goal
 
 pub returns-then-r-ne0 : goal.returns-then-r-ne0

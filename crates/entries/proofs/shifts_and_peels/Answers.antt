@@ -1,7 +1,6 @@
 use Rattle.serial.specs.Serial.{table}
 use Rattle.entries.specs.Entries.{amounts, amounts_of}
 use Rattle.numbers.specs.AskedLaws.{entry-refused, entry-given}
-use borrow.Author.Rules.{rules}
 use Rattle.entries.proofs.shifts_and_peels.Goals as goal
 
 pub returns-then-r-ne0 : goal.returns-then-r-ne0

@@ -3,7 +3,6 @@ use mathlib.Core.List.{[], ◌∷◌}
 use Rattle.sweeps.specs.Sweeps.{before, after}
 use Rattle.entries.specs.Entries.{sweeps_given}
 use Rattle.numbers.specs.AskedLaws.{entry-refused, entry-given}
-use borrow.Author.Rules.{rules}
 use Rattle.entries.proofs.sweeps.Goals as goal
 
 pub returns-then-r-ne0 : goal.returns-then-r-ne0

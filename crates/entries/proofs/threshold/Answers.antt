@@ -4,7 +4,6 @@ use Rattle.plans.specs.Plans.{threshold_of}
 use Rattle.tables.proofs.Nine.{valid}
 use Rattle.entries.specs.Entries.{thresholds}
 use Rattle.numbers.specs.AskedLaws.{entry-refused, entry-given}
-use borrow.Author.Rules.{rules}
 use Rattle.entries.proofs.threshold.Goals as goal
 
 pub returns-then-r-ne0 : goal.returns-then-r-ne0

@@ -1,8 +1,6 @@
 use native.Mathlib.Omega.{arith}
-use Prim.Native.Nat.{◌-◌}
-use Rattle.blocks.specs.Sums.{column}
 use Rattle.text.specs.Written.{put-length}
-use Rattle.numbers.specs.Pairs.{Rowed, rowed-none, rowed-next, rowed-at, rowed-end}
+use Rattle.numbers.specs.Pairs.{rowed-none, rowed-next, rowed-at, rowed-end}
 use Rattle.entries.proofs.write_amounts.Goals as goal
 
 pub loop-k-init : goal.loop-k-init

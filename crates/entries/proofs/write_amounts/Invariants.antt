@@ -1,8 +1,6 @@
-use native.Mathlib.Omega.{arith}
 use Prim.Native.Nat.{◌-◌}
 use Rattle.blocks.specs.Sums.{column}
-use Rattle.text.specs.Written.{put-length}
-use Rattle.numbers.specs.Pairs.{Rowed, rowed-none, rowed-next, rowed-at, rowed-end}
+use Rattle.numbers.specs.Pairs.{Rowed}
 use Rattle.entries.proofs.write_amounts.Given as goal
 
 abbrev pub invariant-loop-k : goal.invariant-loop-k

@@ -1,8 +1,6 @@
 use native.Mathlib.Omega.{arith}
-use Prim.Native.Nat.{suc, ◌-◌}
-use Rattle.lists.specs.Fusion.{fusion_in}
 use Rattle.text.specs.Written.{put-length}
-use Rattle.numbers.specs.Pairs.{Rowed, rowed-none, rowed-next, rowed-at, rowed-end}
+use Rattle.numbers.specs.Pairs.{rowed-none, rowed-next, rowed-at, rowed-end}
 use Rattle.entries.proofs.write_blocks.Goals as goal
 
 pub loop-b-init : goal.loop-b-init

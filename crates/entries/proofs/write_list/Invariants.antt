@@ -1,10 +1,7 @@
-use native.Mathlib.Omega.{arith}
 use Prim.Native.Nat.{◌-◌}
-use Rattle.text.specs.Written.{put-length}
 use Rattle.ranges.specs.Code.{list_of}
-use Rattle.numbers.specs.Pairs.{Rowed, rowed-none, rowed-next, rowed-at, rowed-end}
-use Rattle.entries.proofs.Laws.{loop_at, index_at, list_put}
-use borrow.Author.Rules.{rules}
+use Rattle.numbers.specs.Pairs.{Rowed}
+use Rattle.entries.proofs.Laws.{loop_at, index_at}
 use Rattle.entries.proofs.write_list.Given as goal
 
 abbrev pub invariant-loop-n : goal.invariant-loop-n

@@ -1,11 +1,7 @@
 use native.Mathlib.Omega.{arith}
-use Prim.Native.Nat.{◌-◌}
 use Rattle.text.specs.Written.{put-length}
-use Rattle.numbers.specs.Pairs.{Rowed, rowed-none, rowed-next, rowed-at, rowed-end}
-use Rattle.ranges.specs.Code.{range_of}
+use Rattle.numbers.specs.Pairs.{rowed-none, rowed-next, rowed-at, rowed-end}
 use Rattle.ranges.specs.Listed.{few-loops, block-asks, part-asks}
-use Rattle.entries.specs.Entries.{empty_as_zero}
-use borrow.Author.Rules.{rules}
 use Rattle.entries.proofs.write_ranges.Goals as goal
 
 pub block_of-blk-requires : goal.block_of-blk-requires

@@ -2,7 +2,6 @@ use Rattle.serial.specs.Serial.{table}
 use Rattle.tables.proofs.Nine.{valid}
 use Rattle.facts.specs.Facts.{facts_of, facts_given}
 use Rattle.numbers.specs.AskedLaws.{entry-refused, entry-given}
-use borrow.Author.Rules.{rules}
 use Rattle.facts.proofs.facts.Goals as goal
 
 pub returns-then-r-ne0 : goal.returns-then-r-ne0

@@ -4,7 +4,6 @@ use Rattle.reader.specs.Held.{few-arrays, few-loops}
 use Rattle.numbers.specs.AskedLaws.{numbers-short, numbers-put}
 use Rattle.facts.specs.Facts.{facts_of}
 use Rattle.facts.proofs.Laws.{facts-size}
-use borrow.Author.Rules.{rules}
 use Rattle.facts.proofs.give_facts.Goals as goal
 
 pub overflow_add-pairs : goal.overflow_add-pairs

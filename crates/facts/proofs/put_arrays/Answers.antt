@@ -1,8 +1,6 @@
 use native.Mathlib.Omega.{arith}
-use Prim.Native.Nat.{◌-◌}
-use lib.ListN.{get_or}
 use Rattle.text.specs.Written.{put-length}
-use Rattle.numbers.specs.Pairs.{Rowed, rowed-none, rowed-next, rowed-at, rowed-end}
+use Rattle.numbers.specs.Pairs.{rowed-none, rowed-next, rowed-at, rowed-end}
 use Rattle.facts.proofs.put_arrays.Goals as goal
 
 pub loop-q-init : goal.loop-q-init

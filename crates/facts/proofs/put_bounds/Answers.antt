@@ -1,8 +1,6 @@
 use native.Mathlib.Omega.{arith}
-use Prim.Native.Nat.{◌-◌}
 use Rattle.text.specs.Written.{put-length}
-use Rattle.reader.specs.Store.{first_at, last_at}
-use Rattle.numbers.specs.Pairs.{Rowed, rowed-none, rowed-next, rowed-at, rowed-end}
+use Rattle.numbers.specs.Pairs.{rowed-none, rowed-next, rowed-at, rowed-end}
 use Rattle.facts.proofs.put_bounds.Goals as goal
 
 pub loop-k-init : goal.loop-k-init

@@ -1,5 +1,4 @@
 use Rattle.facts.proofs.Laws.{three-put}
-use borrow.Author.Rules.{rules}
 use Rattle.facts.proofs.put_counts.Goals as goal
 
 pub returns : goal.returns

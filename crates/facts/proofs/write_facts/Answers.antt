@@ -1,7 +1,6 @@
 use native.Mathlib.Omega.{arith}
 use Rattle.reader.specs.Held.{few-arrays, few-loops}
 use Rattle.facts.proofs.Laws.{facts-put}
-use borrow.Author.Rules.{rules}
 use Rattle.facts.proofs.write_facts.Goals as goal
 
 pub put_counts-counted-requires : goal.put_counts-counted-requires

@@ -1,7 +1,6 @@
 use mathlib.Core.Path.{sym}
 use lib.Seq.{get_or-take}
 use Rattle.iterations.proofs.Laws.{untaken}
-use borrow.Author.Rules.{rules}
 use Rattle.iterations.proofs.array_length.Goals as goal
 
 pub returns-then-k-arrays : goal.returns-then-k-arrays

@@ -1,9 +1,7 @@
 use native.Mathlib.Omega.{arith}
 use mathlib.Core.Path.{refl}
-use Prim.Native.Nat.{◌-◌}
-use borrow.Author.Rules.{rules}
 use Rattle.reader.specs.Store.{table_in}
-use Rattle.iterations.proofs.Laws.{Filled, filled-start, filled-most, filled_next, filled-all}
+use Rattle.iterations.proofs.Laws.{filled-start, filled-most, filled_next, filled-all}
 use Rattle.iterations.proofs.bases_of.Goals as goal
 
 pub loop-k-init : goal.loop-k-init

@@ -1,7 +1,6 @@
 use native.Mathlib.Numerals.{add-one}
 use lib.ListN.{length}
 use Rattle.iterations.specs.RunnableLaws.{loaded-body, loaded-rows, loaded-runnable}
-use borrow.Author.Rules.{rules}
 use Rattle.iterations.proofs.iterate.Goals as goal
 
 pub run_rows-requires : goal.run_rows-requires

@@ -3,7 +3,6 @@ use mathlib.Core.List.{[]}
 use Prim.Native.Nat.{suc, ◌-◌}
 use Rattle.reader.specs.Store.{statement_at}
 use Rattle.iterations.proofs.Laws.{statement-stored}
-use borrow.Author.Rules.{rules}
 use Rattle.iterations.proofs.run_statement.Goals as goal
 
 pub value_of-x-requires : goal.value_of-x-requires
@@ -21,5 +20,8 @@ returns c =
     let a = c.args in
     let stop = rw (add-one a.row) at c.value_of-x.ensures.stopped in
     let value = rw (add-one a.row) at c.value_of-x.ensures.by_index in
-    let y = rw (c.value_at.ensures, c.array_at.ensures) at c.store_in.ensures in record { stopped = stop; by_index = statement-stored a.bases.now a.i (statement_at a.store.now a.row (a.past - suc a.row) []) a.memory.now _
-          c.value_of-x.result.value c.requires.performable.stores.0 value y }
+    let y = rw (c.value_at.ensures, c.array_at.ensures) at c.store_in.ensures in record {
+      stopped = stop;
+      by_index = statement-stored a.bases.now a.i (statement_at a.store.now a.row (a.past - suc a.row) []) a.memory.now _
+          c.value_of-x.result.value c.requires.performable.stores.0 value y;
+    }

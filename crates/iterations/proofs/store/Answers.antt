@@ -1,4 +1,3 @@
-use borrow.Author.Rules.{rules}
 use Rattle.iterations.proofs.store.Goals as goal
 
 pub returns : goal.returns

@@ -1,7 +1,6 @@
 use Prim.Native.Nat.{◌+◌, ◌-◌}
 use lib.ListN.{get_or}
 use Rattle.iterations.proofs.Laws.{part-stored}
-use borrow.Author.Rules.{rules}
 use Rattle.iterations.proofs.store_in.Goals as goal
 
 pub returns : goal.returns

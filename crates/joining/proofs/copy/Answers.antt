@@ -1,7 +1,5 @@
 use native.Mathlib.Omega.{arith}
-use Prim.Native.Nat.{◌-◌}
-use lib.ListN.{length}
-use Rattle.joining.proofs.Walks.{Copied, copy_start, copy_more, copy_done}
+use Rattle.joining.proofs.Walks.{copy_start, copy_more, copy_done}
 use Rattle.joining.proofs.copy.Goals as goal
 
 pub loop-k-init : goal.loop-k-init

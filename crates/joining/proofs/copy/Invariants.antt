@@ -1,7 +1,6 @@
-use native.Mathlib.Omega.{arith}
 use Prim.Native.Nat.{◌-◌}
 use lib.ListN.{length}
-use Rattle.joining.proofs.Walks.{Copied, copy_start, copy_more, copy_done}
+use Rattle.joining.proofs.Walks.{Copied}
 use Rattle.joining.proofs.copy.Given as goal
 
 abbrev pub invariant-loop-k : goal.invariant-loop-k

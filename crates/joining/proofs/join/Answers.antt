@@ -1,7 +1,6 @@
 use Rattle.serial.specs.Serial.{table}
 use Rattle.reader.specs.ReadIntoLaws.{into-told}
 use Rattle.joining.proofs.Answers.{left-refused}
-use borrow.Author.Rules.{rules}
 use Rattle.joining.proofs.join.Goals as goal
 
 pub returns-then-r-ne0 : goal.returns-then-r-ne0

@@ -4,8 +4,6 @@ use Rattle.serial.specs.Serial.{table}
 use Rattle.reader.specs.Held.{few-loops}
 use Rattle.reader.specs.ReadIntoLaws.{into-told}
 use Rattle.joining.proofs.Answers.{right-refused, unlike-arrays, many-loops, joined, enough}
-use borrow.Author.Tests.{not-true, not-false}
-use borrow.Author.Rules.{rules}
 use Rattle.joining.proofs.join_right.Goals as goal
 
 pub returns-then-r-ne0 : goal.returns-then-r-ne0

@@ -1,7 +1,5 @@
 use native.Mathlib.Omega.{arith}
-use borrow.Author.Rules.{rules}
-use Prim.Native.Nat.{◌-◌}
-use Rattle.joining.proofs.Walks.{Inv, start, few, equal, differ, done, unlike}
+use Rattle.joining.proofs.Walks.{start, few, equal, differ, done, unlike}
 use Rattle.joining.proofs.same_lengths.Goals as goal
 
 pub returns-then-n-arrays_in : goal.returns-then-n-arrays_in
@@ -44,23 +42,17 @@ bounds-theirs-k c =
 pub returns-then-ours-k : goal.returns-then-ours-k
 returns-then-ours-k c =
     let l = c.loop-k in
-    
-    
     differ c.args.ours.now c.args.theirs.now c.requires c.arrays_in-n.result c.arrays_in.result c.arrays_in-n.ensures
     c.arrays_in.ensures c.if-n-arrays_in.false l.k l.invariant (omega (arith, c.loop-k-test.true)) c.if-ours-k.true
 
 pub loop-k-preserved : goal.loop-k-preserved
 loop-k-preserved c =
     let l = c.loop-k in
-    
-    
     equal c.args.ours.now c.args.theirs.now c.requires c.arrays_in-n.result c.arrays_in.result c.arrays_in-n.ensures
     c.arrays_in.ensures c.if-n-arrays_in.false l.k l.invariant (omega (arith, c.loop-k-test.true)) c.if-ours-k.false
 
 pub returns : goal.returns
 returns c =
     let l = c.loop-k in
-    
-    
     done c.args.ours.now c.args.theirs.now c.requires c.arrays_in-n.result c.arrays_in.result c.arrays_in-n.ensures
     c.arrays_in.ensures c.if-n-arrays_in.false l.k l.invariant (omega (arith, c.loop-k-test.false))

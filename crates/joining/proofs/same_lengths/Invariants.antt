@@ -1,7 +1,5 @@
-use native.Mathlib.Omega.{arith}
-use borrow.Author.Rules.{rules}
 use Prim.Native.Nat.{◌-◌}
-use Rattle.joining.proofs.Walks.{Inv, start, few, equal, differ, done, unlike}
+use Rattle.joining.proofs.Walks.{Inv}
 use Rattle.joining.proofs.same_lengths.Given as goal
 
 abbrev pub invariant-loop-k : goal.invariant-loop-k

@@ -4,7 +4,6 @@ use Prim.Native.Nat.{◌-◌, ◌*◌}
 use lib.ListN.{length, take, drop, length-drop}
 use lib.Seq.{length-take-le, take_all}
 use Rattle.joining.proofs.Answers.{too_long_lem, wrote}
-use borrow.Author.Rules.{rules}
 use Rattle.joining.proofs.write.Goals as goal
 
 pub returns-then-out-count : goal.returns-then-out-count

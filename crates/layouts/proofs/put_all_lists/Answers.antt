@@ -1,8 +1,7 @@
-use Prim.Native.Nat.{ℕ, ◌-◌, ◌*◌, ◌≤◌}
+use Prim.Native.Nat.{ℕ, ◌*◌}
 use native.Mathlib.Omega.{arith}
 use mathlib.Core.Path.{refl, ap}
 use Rattle.ranges.specs.Listed.{few-blocks}
-use Rattle.layouts.specs.Layout.{Standing}
 use Rattle.layouts.proofs.Laws.{standing-next}
 use Rattle.layouts.proofs.put_all_lists.Goals as goal
 

@@ -1,9 +1,5 @@
-use Prim.Native.Nat.{ℕ, ◌-◌, ◌*◌, ◌≤◌}
-use native.Mathlib.Omega.{arith}
-use mathlib.Core.Path.{refl, ap}
-use Rattle.ranges.specs.Listed.{few-blocks}
+use Prim.Native.Nat.{◌-◌, ◌≤◌}
 use Rattle.layouts.specs.Layout.{Standing}
-use Rattle.layouts.proofs.Laws.{standing-next}
 use Rattle.layouts.proofs.put_all_lists.Given as goal
 
 abbrev pub invariant-loop-b : goal.invariant-loop-b

@@ -1,6 +1,5 @@
 use mathlib.Core.Path.{refl}
 use Rattle.layouts.proofs.Laws.{ends-put}
-use borrow.Author.Rules.{rules}
 use Rattle.layouts.proofs.put_end.Goals as goal
 
 pub returns : goal.returns

@@ -1,8 +1,7 @@
-use Prim.Native.Nat.{◌-◌}
 use native.Mathlib.Omega.{arith}
 use mathlib.Core.Path.{refl}
 use Rattle.ranges.specs.Listed.{few-blocks, block-asks}
-use Rattle.layouts.proofs.Laws.{Ending, ending-none, ending-next, ending-all}
+use Rattle.layouts.proofs.Laws.{ending-none, ending-next, ending-all}
 use Rattle.layouts.proofs.put_ends.Goals as goal
 
 pub loop-b-init : goal.loop-b-init

@@ -1,6 +1,5 @@
 use mathlib.Core.Path.{refl}
 use Rattle.layouts.specs.Layout.{stands-both}
-use borrow.Author.Rules.{rules}
 use Rattle.layouts.proofs.put_lists.Goals as goal
 
 pub returns : goal.returns

@@ -3,7 +3,6 @@ use mathlib.Core.Path.{◌∙◌, sym}
 use Rattle.reader.specs.Store.{table_in}
 use Rattle.legality.proofs.ByHandLaws.{not-large}
 use Rattle.legality.proofs.Laws.{judged-large, judged-unmet, judged-fine}
-use borrow.Author.Rules.{rules}
 use Rattle.legality.proofs.judged.Goals as goal
 
 pub returns-then-too_large : goal.returns-then-too_large

@@ -1,7 +1,6 @@
 use Rattle.reader.specs.Store.{table_in}
 use Rattle.legality.proofs.Laws.{lacking-met, lacking-fine}
 use mathlib.Core.Path.{◌∙◌, sym}
-use borrow.Author.Rules.{rules}
 use Rattle.legality.proofs.lacks.Goals as goal
 
 pub misses-requires : goal.misses-requires

@@ -2,7 +2,6 @@ use Rattle.reader.specs.Store.{table_in}
 use Rattle.legality.proofs.Laws.{touch-swap, between_first, between-second}
 use mathlib.Core.Path.{◌∙◌, sym}
 use native.Mathlib.Omega.{arith}
-use borrow.Author.Rules.{rules}
 use Rattle.legality.proofs.lacks_between.Goals as goal
 
 pub returns-then-x-y : goal.returns-then-x-y

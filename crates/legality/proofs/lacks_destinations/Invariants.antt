@@ -1,10 +1,7 @@
-use native.Mathlib.Omega.{arith}
-use mathlib.Core.Path.{◌∙◌, sym}
 use Prim.Native.Nat.{◌+◌, ◌-◌}
 use Rattle.reader.specs.Store.{table_in}
-use Rattle.amounts.specs.Rows.{past-few}
 use Rattle.legality.specs.Code.{stored_with}
-use Rattle.legality.proofs.Laws.{count-few, LeftOf, left-start, left-next, found-row, left_end, up-to-last, past-last}
+use Rattle.legality.proofs.Laws.{LeftOf}
 use Rattle.legality.proofs.lacks_destinations.Given as goal
 
 abbrev pub invariant-loop-r : goal.invariant-loop-r

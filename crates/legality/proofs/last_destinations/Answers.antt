@@ -1,8 +1,8 @@
 use native.Mathlib.Omega.{arith}
 use mathlib.Core.Path.{refl}
-use Prim.Native.Nat.{suc, ◌-◌}
+use Prim.Native.Nat.{suc}
 use Rattle.reader.specs.Held.{count_held, few-rows}
-use Rattle.legality.proofs.Laws.{count-few, LastsTo, lasts-next}
+use Rattle.legality.proofs.Laws.{count-few, lasts-next}
 use Rattle.legality.proofs.last_destinations.Goals as goal
 
 pub loop-k-init : goal.loop-k-init

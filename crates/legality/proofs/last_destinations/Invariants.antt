@@ -1,8 +1,5 @@
-use native.Mathlib.Omega.{arith}
-use mathlib.Core.Path.{refl}
-use Prim.Native.Nat.{suc, ◌-◌}
-use Rattle.reader.specs.Held.{count_held, few-rows}
-use Rattle.legality.proofs.Laws.{count-few, LastsTo, lasts-next}
+use Prim.Native.Nat.{◌-◌}
+use Rattle.legality.proofs.Laws.{LastsTo}
 use Rattle.legality.proofs.last_destinations.Given as goal
 
 abbrev pub invariant-loop-k : goal.invariant-loop-k

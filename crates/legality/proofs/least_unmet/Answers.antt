@@ -1,7 +1,6 @@
 use native.Mathlib.Omega.{arith}
-use Prim.Native.Nat.{◌-◌}
 use Rattle.reader.specs.Held.{count_held}
-use Rattle.legality.proofs.Laws.{count-few, NoneFromOf, from_next, all_found, all_none}
+use Rattle.legality.proofs.Laws.{count-few, from_next, all_found, all_none}
 use Rattle.legality.proofs.least_unmet.Goals as goal
 
 pub loops_in-loops-requires : goal.loops_in-loops-requires
@@ -30,7 +29,7 @@ overflow_add-result c =
     (arith, c.loop-j-test.true, c.loops_in-loops.ensures, count_held p.0, count-few p.0, c.if-k-lt16.true)
 
 pub returns-then-k-lt16 : goal.returns-then-k-lt16
-returns-then-k-lt16 c =    let a = c.args in
+returns-then-k-lt16 c = let a = c.args in
     let p = c.requires in
     let l = c.loop-j in
     (all_found p.0 a.shifts.now a.peels.now l.j _ l.invariant c.lowest_later-k.ensures c.if-k-lt16.true, omega (arith, c.if-k-lt16.true, c.loop-j-test.true, c.loops_in-loops.ensures, count_held p.0, count-few p.0))
@@ -41,11 +40,11 @@ overflow_add-j c =
     omega (arith, c.loop-j-test.true, c.loops_in-loops.ensures, count_held p.0, count-few p.0)
 
 pub loop-j-preserved : goal.loop-j-preserved
-loop-j-preserved c =    let a = c.args in
+loop-j-preserved c = let a = c.args in
     let l = c.loop-j in
     from_next c.requires.0 a.shifts.now a.peels.now l.j _ l.invariant c.lowest_later-k.ensures (omega (arith, c.if-k-lt16.false))
 
 pub returns : goal.returns
-returns c =    let a = c.args in
+returns c = let a = c.args in
     let l = c.loop-j in
     (all_none c.requires.0 a.shifts.now a.peels.now l.j (omega (arith, c.loop-j-test.false, c.loops_in-loops.ensures, count_held c.requires.0)) l.invariant, omega arith)

@@ -1,7 +1,5 @@
-use native.Mathlib.Omega.{arith}
 use Prim.Native.Nat.{◌-◌}
-use Rattle.reader.specs.Held.{count_held}
-use Rattle.legality.proofs.Laws.{count-few, NoneFromOf, from_next, all_found, all_none}
+use Rattle.legality.proofs.Laws.{NoneFromOf}
 use Rattle.legality.proofs.least_unmet.Given as goal
 
 abbrev pub invariant-loop-j : goal.invariant-loop-j

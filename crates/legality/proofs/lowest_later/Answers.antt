@@ -1,7 +1,6 @@
 use native.Mathlib.Omega.{arith}
-use Prim.Native.Nat.{◌-◌, ◌<◌}
 use Rattle.reader.specs.Held.{count_held}
-use Rattle.legality.proofs.Laws.{count-few, NoneToOf, none-start, none-next, later-found, later-none}
+use Rattle.legality.proofs.Laws.{count-few, none-start, none-next, later-found, later-none}
 use Rattle.legality.proofs.lowest_later.Goals as goal
 
 pub loops_in-loops-requires : goal.loops_in-loops-requires
@@ -22,7 +21,7 @@ unmet_pair-requires c =
     record { held = (p.0, p.1, c.loop-k.invariant.0, omega (arith, c.loop-k-test.true, c.loops_in-loops.ensures, count_held p.0)); lasts = c.requires.lasts }
 
 pub returns-then-unmet_pair : goal.returns-then-unmet_pair
-returns-then-unmet_pair c =    let a = c.args in
+returns-then-unmet_pair c = let a = c.args in
     let p = c.requires.held in
     let l = c.loop-k in
     later-found p.0 a.shifts.now a.peels.now a.j l.k _
@@ -35,12 +34,12 @@ overflow_add-k-in-loop-k c =
     omega (arith, c.loop-k-test.true, c.loops_in-loops.ensures, count_held p.0, count-few p.0)
 
 pub loop-k-preserved : goal.loop-k-preserved
-loop-k-preserved c =    let a = c.args in
+loop-k-preserved c = let a = c.args in
     let l = c.loop-k in
     (omega (arith, l.invariant.0), none-next c.requires.held.0 a.shifts.now a.peels.now a.j l.k _ l.invariant.1 c.unmet_pair.ensures c.if-unmet_pair.false)
 
 pub returns : goal.returns
-returns c =    let a = c.args in
+returns c = let a = c.args in
     let l = c.loop-k in
     later-none c.requires.held.0 a.shifts.now a.peels.now a.j l.k
     (omega (arith, c.loop-k-test.false, c.loops_in-loops.ensures, count_held c.requires.held.0)) l.invariant.1

@@ -1,7 +1,5 @@
-use native.Mathlib.Omega.{arith}
 use Prim.Native.Nat.{◌-◌, ◌<◌}
-use Rattle.reader.specs.Held.{count_held}
-use Rattle.legality.proofs.Laws.{count-few, NoneToOf, none-start, none-next, later-found, later-none}
+use Rattle.legality.proofs.Laws.{NoneToOf}
 use Rattle.legality.proofs.lowest_later.Given as goal
 
 abbrev pub invariant-loop-k : goal.invariant-loop-k

@@ -1,6 +1,5 @@
 use Rattle.legality.proofs.Laws.{missing-shift, missing-peel}
 use native.Mathlib.Omega.{arith}
-use borrow.Author.Rules.{rules}
 use Rattle.legality.proofs.misses.Goals as goal
 
 pub overflow_add-wide : goal.overflow_add-wide

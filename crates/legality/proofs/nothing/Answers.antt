@@ -1,4 +1,3 @@
-use borrow.Author.Rules.{rules}
 use Rattle.legality.proofs.nothing.Goals as goal
 
 pub returns : goal.returns

@@ -1,8 +1,6 @@
 use Rattle.legality.proofs.Laws.{stride-near, filled-step, filled-all}
 use native.Mathlib.Omega.{arith}
 use mathlib.Core.Path.{◌≡◌, sym}
-use Prim.Native.Nat.{◌+◌, ◌-◌, ◌*◌, ◌≤◌}
-use Rattle.legality.specs.Written.{number_at, filled}
 use Rattle.legality.proofs.WrittenLaws.{filled_none}
 use Rattle.legality.proofs.read_amounts.Goals as goal
 

@@ -1,9 +1,6 @@
-use Rattle.legality.proofs.Laws.{stride-near, filled-step, filled-all}
-use native.Mathlib.Omega.{arith}
-use mathlib.Core.Path.{◌≡◌, sym}
+use mathlib.Core.Path.{◌≡◌}
 use Prim.Native.Nat.{◌+◌, ◌-◌, ◌*◌, ◌≤◌}
 use Rattle.legality.specs.Written.{number_at, filled}
-use Rattle.legality.proofs.WrittenLaws.{filled_none}
 use Rattle.legality.proofs.read_amounts.Given as goal
 
 abbrev pub invariant-loop-k : goal.invariant-loop-k

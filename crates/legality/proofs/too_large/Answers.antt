@@ -1,8 +1,4 @@
 use native.Mathlib.Omega.{arith}
-use mathlib.Core.Path.{◌≡◌}
-use Prim.Native.Nat.{ℕ, ◌-◌, ◌≤◌, ◌<◌}
-use mathlib.Core.Bool.{false}
-use Rattle.legality.specs.ByHand.{large_at}
 use Rattle.legality.proofs.Laws.{large-shift, large-peel, large-next, large-end}
 use Rattle.legality.proofs.too_large.Goals as goal
 

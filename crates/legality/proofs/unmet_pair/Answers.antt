@@ -1,5 +1,4 @@
 use native.Mathlib.Omega.{arith}
-use borrow.Author.Rules.{rules}
 use Rattle.legality.proofs.Laws.{count-few, pair-earlier, pair-later}
 use Rattle.legality.proofs.unmet_pair.Goals as goal
 

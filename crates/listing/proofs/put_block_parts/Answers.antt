@@ -1,11 +1,7 @@
 use native.Mathlib.Omega.{arith}
-use Prim.Native.Nat.{◌-◌}
 use Rattle.text.specs.Written.{put-length}
-use Rattle.ranges.specs.Code.{range_of}
 use Rattle.ranges.specs.Listed.{few-loops, block-asks, part-asks}
-use Rattle.listing.specs.Listing.{range_line, phase_name}
-use Rattle.listing.proofs.Laws.{Lines, lines_start, lines_next, lines_end}
-use borrow.Author.Rules.{rules}
+use Rattle.listing.proofs.Laws.{lines_start, lines_next, lines_end}
 use Rattle.listing.proofs.put_block_parts.Goals as goal
 
 pub block_of-blk-requires : goal.block_of-blk-requires

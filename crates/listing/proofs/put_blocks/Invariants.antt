@@ -1,9 +1,7 @@
-use native.Mathlib.Omega.{arith}
 use Prim.Native.Nat.{◌-◌}
 use Rattle.blocks.specs.Code.{block_in}
-use Rattle.text.specs.Written.{put-length}
 use Rattle.listing.specs.Listing.{block_line}
-use Rattle.listing.proofs.Laws.{Lines, lines_start, lines_next, lines_end}
+use Rattle.listing.proofs.Laws.{Lines}
 use Rattle.listing.proofs.put_blocks.Given as goal
 
 abbrev pub invariant-loop-b : goal.invariant-loop-b

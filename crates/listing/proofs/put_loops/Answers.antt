@@ -1,11 +1,7 @@
 use native.Mathlib.Omega.{arith}
-use Prim.Native.Nat.{◌-◌}
-use Rattle.blocks.specs.Sums.{column}
 use Rattle.text.specs.Written.{put-length}
 use Rattle.ranges.specs.Listed.{few-loops}
-use Rattle.listing.specs.Listing.{loop_line}
-use Rattle.listing.proofs.Laws.{Lines, lines_start, lines_next, lines_end}
-use borrow.Author.Rules.{rules}
+use Rattle.listing.proofs.Laws.{lines_start, lines_next, lines_end}
 use Rattle.listing.proofs.put_loops.Goals as goal
 
 pub loop-k-init : goal.loop-k-init

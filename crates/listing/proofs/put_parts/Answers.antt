@@ -1,11 +1,7 @@
 use native.Mathlib.Omega.{arith}
-use Prim.Native.Nat.{◌-◌}
-use Rattle.reader.specs.Store.{loops_in}
 use Rattle.text.specs.Written.{put-length}
-use Rattle.ranges.specs.Code.{range_of}
 use Rattle.ranges.specs.Listed.{few-blocks}
-use Rattle.listing.specs.Listing.{range_line, each, phase_name}
-use Rattle.listing.proofs.Laws.{Lines, lines_start, lines_next, lines_end}
+use Rattle.listing.proofs.Laws.{lines_start, lines_next, lines_end}
 use Rattle.listing.proofs.put_parts.Goals as goal
 
 pub loop-b-init : goal.loop-b-init

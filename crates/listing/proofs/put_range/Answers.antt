@@ -1,6 +1,5 @@
 use Rattle.listing.specs.Listing.{phase_name}
 use Rattle.listing.proofs.Laws.{range-empty, range-some, peeled-name}
-use borrow.Author.Rules.{rules}
 use Rattle.listing.proofs.put_range.Goals as goal
 
 pub returns-then-past-from : goal.returns-then-past-from

@@ -1,7 +1,6 @@
-use native.Mathlib.Omega.{arith}
 use lib.Dec.{lit<, lit≤}
 use native.Mathlib.Nat.{le_refl, lt_of_le_of_lt}
-use mathlib.Core.Path.{refl, ◌∙◌}
+use mathlib.Core.Path.{◌∙◌}
 use Rattle.text.specs.Written.{put_then, put_whole}
 use Rattle.ranges.specs.Listed.{few-blocks, cuttable}
 use Rattle.listing.proofs.Laws.{past-most, listed}

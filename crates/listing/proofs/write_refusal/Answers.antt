@@ -1,6 +1,5 @@
 use Rattle.text.specs.Written.{put_whole}
 use Rattle.listing.specs.Listing.{refusal_line}
-use borrow.Author.Rules.{rules}
 use Rattle.listing.proofs.write_refusal.Goals as goal
 
 pub returns : goal.returns

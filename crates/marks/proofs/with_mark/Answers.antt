@@ -7,7 +7,6 @@ use lib.Pow.{shl_exact}
 use lib.Dec.{lit<}
 use Rattle.marks.specs.Marks.{marked}
 use Rattle.marks.proofs.Laws.{marked-or, marked-one}
-use borrow.Author.Rules.{rules}
 use Rattle.marks.proofs.with_mark.Goals as goal
 
 pub returns : goal.returns

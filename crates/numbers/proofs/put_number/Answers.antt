@@ -1,6 +1,5 @@
 use Rattle.text.specs.Written.{put_one, put_then}
 use Rattle.numbers.specs.Numbers.{four}
-use borrow.Author.Rules.{rules}
 use Rattle.numbers.proofs.put_number.Goals as goal
 
 pub returns : goal.returns

@@ -1,5 +1,4 @@
 use Rattle.text.specs.Written.{put_then}
-use borrow.Author.Rules.{rules}
 use Rattle.numbers.proofs.put_pair.Goals as goal
 
 pub returns : goal.returns

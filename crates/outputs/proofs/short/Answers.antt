@@ -1,6 +1,5 @@
 use mathlib.Core.Path.{ap, ◌∙◌}
 use Rattle.outputs.specs.Gives.{refusing}
-use borrow.Author.Rules.{rules}
 use Rattle.outputs.proofs.short.Goals as goal
 
 pub returns : goal.returns

@@ -1,4 +1,3 @@
-use borrow.Author.Rules.{rules}
 use Rattle.overlap.specs.Overlap.{overlap}
 use Rattle.overlap.proofs.overlaps.Goals as goal
 

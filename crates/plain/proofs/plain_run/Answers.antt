@@ -1,5 +1,4 @@
 use Rattle.plain.proofs.Laws.{run-refused, run-held, run-accepted}
-use borrow.Author.Rules.{rules}
 use Rattle.plain.proofs.plain_run.Goals as goal
 
 pub returns-then-r-ne0 : goal.returns-then-r-ne0

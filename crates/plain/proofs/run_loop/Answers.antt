@@ -1,5 +1,4 @@
 use native.Mathlib.Numerals.{add-one}
-use borrow.Author.Rules.{rules}
 use Rattle.plain.proofs.Laws.{loop-asks, loop-run}
 use Rattle.plain.proofs.run_loop.Goals as goal
 

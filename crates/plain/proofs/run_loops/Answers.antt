@@ -1,7 +1,4 @@
-use native.Mathlib.Omega.{arith}
-use Prim.Native.Nat.{◌-◌}
-use borrow.Author.Rules.{rules}
-use Rattle.plain.proofs.Laws.{LoopsLeft, loops-start, loops-asks, loops-next, loops-end}
+use Rattle.plain.proofs.Laws.{loops-start, loops-asks, loops-next, loops-end}
 use Rattle.plain.proofs.run_loops.Goals as goal
 
 pub loop-k-init : goal.loop-k-init
@@ -12,14 +9,12 @@ loop-k-init c =
 pub run_loop-requires : goal.run_loop-requires
 run_loop-requires c =
     let l = c.loop-k in
-    
     loops-asks c.args.store.now c.args.bases.now c.args.memory.now c.loops_in-loops.result c.requires c.loops_in-loops.ensures
     l.k l.memory l.invariant c.loop-k-test.true
 
 pub loop-k-preserved : goal.loop-k-preserved
 loop-k-preserved c =
     let l = c.loop-k in
-    
     loops-next c.args.store.now c.args.bases.now c.args.memory.now c.loops_in-loops.result c.requires c.loops_in-loops.ensures
     l.k l.memory l.invariant c.loop-k-test.true _ c.run_loop.ensures
 
@@ -29,6 +24,5 @@ shape_of-memory c = c.loop-k.invariant.long
 pub returns : goal.returns
 returns c =
     let l = c.loop-k in
-    
     loops-end c.args.store.now c.args.bases.now c.args.memory.now c.loops_in-loops.result c.requires c.loops_in-loops.ensures
     l.k l.memory l.invariant c.loop-k-test.false

@@ -1,7 +1,5 @@
-use native.Mathlib.Omega.{arith}
 use Prim.Native.Nat.{◌-◌}
-use borrow.Author.Rules.{rules}
-use Rattle.plain.proofs.Laws.{LoopsLeft, loops-start, loops-asks, loops-next, loops-end}
+use Rattle.plain.proofs.Laws.{LoopsLeft}
 use Rattle.plain.proofs.run_loops.Given as goal
 
 abbrev pub invariant-loop-k : goal.invariant-loop-k

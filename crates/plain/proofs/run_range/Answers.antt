@@ -1,7 +1,6 @@
 use native.Mathlib.Omega.{arith}
-use Prim.Native.Nat.{suc, ◌-◌}
 use borrow.Author.Rules.{rules}
-use Rattle.plain.proofs.Laws.{RangeLeft, range-start, range-asks, range-next, range-end}
+use Rattle.plain.proofs.Laws.{range-start, range-asks, range-next, range-end}
 use Rattle.plain.proofs.run_range.Goals as goal
 
 pub loop-i-init : goal.loop-i-init
@@ -14,8 +13,11 @@ run_rows-requires c =
     let a = c.args in
     let p = c.requires in
     let l = c.loop-i in
-    let t = c.loop-i-test.true in record { past_bound = (p.past_bound.0, omega (arith, p.past_bound.1, t), p.past_bound.2); runnable = range-asks a.store.now a.bases.now a.from a.past a.first a.last a.memory.now l.i l.memory l.invariant
-          (omega (arith, t)) p.by_index }
+    let t = c.loop-i-test.true in record {
+      past_bound = (p.past_bound.0, omega (arith, p.past_bound.1, t), p.past_bound.2);
+      runnable = range-asks a.store.now a.bases.now a.from a.past a.first a.last a.memory.now l.i l.memory l.invariant
+          (omega (arith, t)) p.by_index;
+    }
 
 pub overflow_add-i : goal.overflow_add-i
 overflow_add-i c = omega (arith, c.requires.past_bound.1, c.loop-i-test.true)

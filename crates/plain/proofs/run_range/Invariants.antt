@@ -1,7 +1,5 @@
-use native.Mathlib.Omega.{arith}
 use Prim.Native.Nat.{suc, ◌-◌}
-use borrow.Author.Rules.{rules}
-use Rattle.plain.proofs.Laws.{RangeLeft, range-start, range-asks, range-next, range-end}
+use Rattle.plain.proofs.Laws.{RangeLeft}
 use Rattle.plain.proofs.run_range.Given as goal
 
 abbrev pub invariant-loop-i : goal.invariant-loop-i

@@ -1,5 +1,4 @@
 use Rattle.plain.proofs.Laws.{held_asks, held-unlike, held-run}
-use borrow.Author.Rules.{rules}
 use Rattle.plain.proofs.run_table.Goals as goal
 
 pub returns-then-memory-bases : goal.returns-then-memory-bases

@@ -1,8 +1,7 @@
-use mathlib.Core.Path.{◌≡◌, refl, ◌∙◌}
-use Prim.Native.Nat.{◌≤◌, ◌-◌, ◌*◌, ◌^◌}
+use mathlib.Core.Path.{refl, ◌∙◌}
 use native.Mathlib.Omega.{arith}
 use lib.ListN.{length}
-use Rattle.blocks.specs.Sums.{column, total}
+use Rattle.blocks.specs.Sums.{column}
 use Rattle.blocks.specs.SumLaws.{total-next}
 use Rattle.lists.specs.Lists.{ranges}
 use Rattle.lists.specs.Below.{weighted}

@@ -1,12 +1,9 @@
-use mathlib.Core.Path.{◌≡◌, refl, ◌∙◌}
+use mathlib.Core.Path.{◌≡◌}
 use Prim.Native.Nat.{◌≤◌, ◌-◌, ◌*◌, ◌^◌}
-use native.Mathlib.Omega.{arith}
 use lib.ListN.{length}
 use Rattle.blocks.specs.Sums.{column, total}
-use Rattle.blocks.specs.SumLaws.{total-next}
 use Rattle.lists.specs.Lists.{ranges}
 use Rattle.lists.specs.Below.{weighted}
-use Rattle.positions.specs.Search.{below_all}
 use Rattle.positions.proofs.below_sum.Given as goal
 
 -- `positions::below_sum` meets its contract: the walk has counted the first k loops. Assumes nothing.

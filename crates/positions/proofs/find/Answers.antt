@@ -1,11 +1,10 @@
 use mathlib.Core.Path.{◌≡◌, sym}
-use Prim.Native.Nat.{◌≤◌, ◌-◌, suc}
+use Prim.Native.Nat.{suc}
 use native.Mathlib.Omega.{arith}
 use lib.ListN.{length}
 use Rattle.blocks.specs.Sums.{column}
 use Rattle.lists.specs.Lists.{ranges}
 use Rattle.lists.proofs.BelowLaws.{below-zero, below-first}
-use Rattle.positions.specs.Search.{Bracket}
 use Rattle.positions.proofs.find.Goals as goal
 
 pub loop-s-init : goal.loop-s-init

@@ -1,10 +1,4 @@
-use mathlib.Core.Path.{◌≡◌, sym}
-use Prim.Native.Nat.{◌≤◌, ◌-◌, suc}
-use native.Mathlib.Omega.{arith}
-use lib.ListN.{length}
-use Rattle.blocks.specs.Sums.{column}
-use Rattle.lists.specs.Lists.{ranges}
-use Rattle.lists.proofs.BelowLaws.{below-zero, below-first}
+use Prim.Native.Nat.{◌≤◌, ◌-◌}
 use Rattle.positions.specs.Search.{Bracket}
 use Rattle.positions.proofs.find.Given as goal
 

@@ -1,5 +1,4 @@
 use Rattle.positions.specs.Search.{ones-sized, ones_below, ones-found}
-use borrow.Author.Rules.{rules}
 use Rattle.positions.proofs.fused_nth.Goals as goal
 
 -- `positions::fused_nth` meets its contract: with weights of 1 the search counts iterations. Assumes nothing.

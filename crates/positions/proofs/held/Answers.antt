@@ -2,7 +2,6 @@ use mathlib.Core.Path.{sym, ap}
 use native.Mathlib.Omega.{arith}
 use lib.ListN.{length}
 use Rattle.lists.proofs.Order.{loop-at-in, loop-at-early, loop-at-late}
-use borrow.Author.Rules.{rules}
 use Rattle.positions.proofs.held.Goals as goal
 
 -- `positions::held` meets its contract. Assumes nothing.

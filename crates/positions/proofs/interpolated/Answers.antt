@@ -1,7 +1,6 @@
 use Prim.Native.Nat.{◌-◌}
 use native.Mathlib.Nat.{div-le_self}
 use native.Mathlib.Omega.{arith}
-use borrow.Author.Rules.{rules}
 use Rattle.positions.proofs.interpolated.Goals as goal
 
 -- `positions::interpolated` ends, and nothing in it wraps. What it answers is a guess. Assumes nothing.

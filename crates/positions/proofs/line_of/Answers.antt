@@ -1,10 +1,7 @@
-use Prim.Native.Nat.{ℕ, ◌≤◌, ◌-◌, ◌*◌, ◌^◌}
 use native.Mathlib.Omega.{arith}
 use lib.ListN.{length}
-use Rattle.blocks.specs.Sums.{column, total}
+use Rattle.blocks.specs.Sums.{column}
 use Rattle.lists.specs.Lists.{ranges}
-use Rattle.lists.specs.Below.{weighted}
-use Rattle.positions.specs.Lines.{Counted}
 use Rattle.positions.specs.LineLaws.{line-next, line-end}
 use Rattle.positions.proofs.line_of.Goals as goal
 

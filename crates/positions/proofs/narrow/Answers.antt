@@ -1,5 +1,4 @@
 use native.Mathlib.Omega.{arith}
-use borrow.Author.Rules.{rules}
 use Rattle.positions.proofs.narrow.Goals as goal
 
 -- `positions::narrow` meets its contract: whichever way it goes, the n-th iteration stays between low and high. Assumes nothing.

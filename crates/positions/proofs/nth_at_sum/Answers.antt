@@ -1,8 +1,5 @@
-use mathlib.Core.Path.{◌≡◌}
-use Prim.Native.Nat.{◌≤◌, ◌-◌, ◌+◌}
 use native.Mathlib.Omega.{arith}
 use lib.ListN.{length}
-use Rattle.order.specs.Sequences.{joined}
 use Rattle.blocks.specs.Sums.{column}
 use Rattle.lists.specs.Joined.{walk-next}
 use Rattle.lists.specs.Lists.{here, ranges}

@@ -1,12 +1,9 @@
 use mathlib.Core.Path.{◌≡◌}
 use Prim.Native.Nat.{◌≤◌, ◌-◌, ◌+◌}
-use native.Mathlib.Omega.{arith}
 use lib.ListN.{length}
 use Rattle.order.specs.Sequences.{joined}
 use Rattle.blocks.specs.Sums.{column}
-use Rattle.lists.specs.Joined.{walk-next}
 use Rattle.lists.specs.Lists.{here, ranges}
-use Rattle.positions.specs.Search.{at-sum-fits, at-sum-here, at-sum-past}
 use Rattle.positions.proofs.nth_at_sum.Given as goal
 
 -- `positions::nth_at_sum` meets its contract: of the n that come first, the first k loops have all but `left`. Assumes nothing.

@@ -1,5 +1,4 @@
 use native.Mathlib.Nat.{div-add-mod', mod-lt}
-use borrow.Author.Rules.{rules}
 use Rattle.positions.proofs.on_line.Goals as goal
 
 -- `positions::on_line` meets its contract: a quotient and its remainder. Assumes nothing.

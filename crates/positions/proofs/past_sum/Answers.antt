@@ -1,5 +1,4 @@
 use native.Mathlib.Omega.{arith}
-use borrow.Author.Rules.{rules}
 use Rattle.positions.proofs.past_sum.Goals as goal
 
 -- `positions::past_sum` meets its contract. Assumes nothing.

@@ -1,9 +1,6 @@
-use mathlib.Core.Path.{◌≡◌}
-use Prim.Native.Nat.{◌≤◌, ◌-◌, ◌+◌}
 use native.Mathlib.Omega.{arith}
 use lib.ListN.{length}
-use Rattle.order.specs.Sequences.{joined}
-use Rattle.lists.specs.Lists.{over, ranges}
+use Rattle.lists.specs.Lists.{ranges}
 use Rattle.positions.specs.Search.{by-loops-here, by-loops-next, by-loops-past}
 use Rattle.positions.proofs.peeled_nth.Goals as goal
 

@@ -1,10 +1,8 @@
 use mathlib.Core.Path.{◌≡◌}
 use Prim.Native.Nat.{◌≤◌, ◌-◌, ◌+◌}
-use native.Mathlib.Omega.{arith}
 use lib.ListN.{length}
 use Rattle.order.specs.Sequences.{joined}
 use Rattle.lists.specs.Lists.{over, ranges}
-use Rattle.positions.specs.Search.{by-loops-here, by-loops-next, by-loops-past}
 use Rattle.positions.proofs.peeled_nth.Given as goal
 
 -- `positions::peeled_nth` meets its contract: of the n that come first, the first k loops have all but `left`. Assumes nothing.

@@ -1,7 +1,6 @@
 use native.Mathlib.Omega.{arith}
 use Rattle.positions.specs.Search.{bound_columns}
 use Rattle.positions.specs.LineLaws.{line-located}
-use borrow.Author.Rules.{rules}
 use Rattle.positions.proofs.position_of.Goals as goal
 
 -- `positions::position_of` meets its contract. Assumes nothing.

@@ -1,8 +1,8 @@
-use mathlib.Core.Path.{◌≡◌, refl, ◌∙◌}
-use Prim.Native.Nat.{◌≤◌, ◌<◌, ◌-◌, ◌+◌, ◌^◌}
+use mathlib.Core.Path.{refl, ◌∙◌}
+use Prim.Native.Nat.{◌+◌}
 use native.Mathlib.Omega.{arith}
 use lib.ListN.{length}
-use Rattle.blocks.specs.Sums.{column, largest}
+use Rattle.blocks.specs.Sums.{column}
 use Rattle.blocks.specs.SumLaws.{largest-next}
 use Rattle.lists.specs.Lists.{ranges}
 use Rattle.positions.specs.Search.{bound_all}

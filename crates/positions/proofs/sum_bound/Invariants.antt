@@ -1,11 +1,7 @@
-use mathlib.Core.Path.{◌≡◌, refl, ◌∙◌}
+use mathlib.Core.Path.{◌≡◌}
 use Prim.Native.Nat.{◌≤◌, ◌<◌, ◌-◌, ◌+◌, ◌^◌}
-use native.Mathlib.Omega.{arith}
 use lib.ListN.{length}
 use Rattle.blocks.specs.Sums.{column, largest}
-use Rattle.blocks.specs.SumLaws.{largest-next}
-use Rattle.lists.specs.Lists.{ranges}
-use Rattle.positions.specs.Search.{bound_all}
 use Rattle.positions.proofs.sum_bound.Given as goal
 
 -- `positions::sum_bound` meets its contract: the walk has seen the first k loops. Assumes nothing.

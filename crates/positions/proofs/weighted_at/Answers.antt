@@ -3,7 +3,6 @@ use Prim.Native.Nat.{ℕ, ◌*◌, ◌^◌}
 use native.Mathlib.Omega.{arith}
 use Rattle.lists.specs.Below.{weighted}
 use Rattle.positions.specs.Search.{weight-product}
-use borrow.Author.Rules.{rules}
 use Rattle.positions.proofs.weighted_at.Goals as goal
 
 -- `positions::weighted_at` meets its contract: a weight of at most 65,536 times a length below 2^32. Assumes nothing.
@@ -13,8 +12,7 @@ overflow_mul-result c =
 
 pub returns : goal.returns
 unfolding weighted
-returns c =
-    (
-      ap₂ (λ (x y : ℕ). x * y) c.wide.ensures.0 c.clipped.ensures.0,
-      weight-product c.wide.result c.clipped.result (2 ^ 32) (omega (arith, c.requires.0.small c.args.k)) c.clipped.ensures.1,
-    )
+returns c = (
+  ap₂ (λ (x y : ℕ). x * y) c.wide.ensures.0 c.clipped.ensures.0,
+  weight-product c.wide.result c.clipped.result (2 ^ 32) (omega (arith, c.requires.0.small c.args.k)) c.clipped.ensures.1,
+)

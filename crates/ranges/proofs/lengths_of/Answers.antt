@@ -1,13 +1,11 @@
-use Prim.Native.Nat.{ℕ, ◌-◌, ◌≤◌, ◌<◌}
+use Prim.Native.Nat.{ℕ, ◌<◌}
 use native.Mathlib.Omega.{arith}
 use mathlib.Core.Path.{◌≡◌, refl, ap, ◌∙◌}
 use Rattle.reader.specs.Store.{loops_in}
-use Rattle.blocks.specs.declared.Axis.{Axis}
 use Rattle.lists.proofs.BelowLaws.{indices_in}
-use Rattle.plans.specs.Code.{Laid}
-use Rattle.ranges.specs.Code.{range_of, Along}
+use Rattle.ranges.specs.Code.{range_of}
 use Rattle.ranges.specs.Listed.{few-loops, lengths-in}
-use Rattle.ranges.proofs.Laws.{Summed, summed-next}
+use Rattle.ranges.proofs.Laws.{summed-next}
 use Rattle.ranges.proofs.lengths_of.Goals as goal
 
 pub loops_in-loops-requires : goal.loops_in-loops-requires
@@ -84,7 +82,10 @@ returns c = let a = c.args in
     let l = c.loop-k in
     let e : l.k ≡ loops_in st = omega (arith, c.loops_in-loops.ensures, c.loop-k-test.false) in
     let s = l.invariant.1 p.0 p.1 p.3 in
-    let few = few-loops p.0 st p.1 in record { fused_bound = (omega (arith, s.0.small), omega (arith, s.1.small)); measures = λ x h y. record {
+    let few = few-loops p.0 st p.1 in record {
+      fused_bound = (omega (arith, s.0.small), omega (arith, s.1.small));
+      measures = λ x h y. record {
         fused-is = (l.invariant.1 x h y).0.sum_is ∙ ap (λ (n : ℕ). indices_in n (range_of 0 x st a.b)) e ∙ lengths-in x st h 0 a.b;
         peeled-is = (l.invariant.1 x h y).1.sum_is ∙ ap (λ (n : ℕ). indices_in n (range_of 1 x st a.b)) e ∙ lengths-in x st h 1 a.b;
-      } }
+      };
+    }

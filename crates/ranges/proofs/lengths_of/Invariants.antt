@@ -1,13 +1,8 @@
-use Prim.Native.Nat.{ℕ, ◌-◌, ◌≤◌, ◌<◌}
-use native.Mathlib.Omega.{arith}
-use mathlib.Core.Path.{◌≡◌, refl, ap, ◌∙◌}
-use Rattle.reader.specs.Store.{loops_in}
+use Prim.Native.Nat.{◌-◌, ◌≤◌}
 use Rattle.blocks.specs.declared.Axis.{Axis}
-use Rattle.lists.proofs.BelowLaws.{indices_in}
 use Rattle.plans.specs.Code.{Laid}
-use Rattle.ranges.specs.Code.{range_of, Along}
-use Rattle.ranges.specs.Listed.{few-loops, lengths-in}
-use Rattle.ranges.proofs.Laws.{Summed, summed-next}
+use Rattle.ranges.specs.Code.{Along}
+use Rattle.ranges.proofs.Laws.{Summed}
 use Rattle.ranges.proofs.lengths_of.Given as goal
 
 abbrev pub invariant-loop-k : goal.invariant-loop-k

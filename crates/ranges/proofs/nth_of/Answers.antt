@@ -1,5 +1,4 @@
 use Rattle.ranges.proofs.Laws.{fused-asks, fused-is, peeled-is}
-use borrow.Author.Rules.{rules}
 use Rattle.ranges.proofs.nth_of.Goals as goal
 
 pub fused_nth-requires : goal.fused_nth-requires

@@ -2,7 +2,6 @@ use Prim.Native.Nat.{ℕ, zero, suc}
 use mathlib.Core.Path.{◌≡◌, refl}
 use Rattle.blocks.specs.declared.Part.TheVariants.{Peeled}
 use Rattle.ranges.specs.Code.{part_in}
-use borrow.Author.Rules.{rules}
 use Rattle.ranges.proofs.part_in.Goals as goal
 
 late : (n : ℕ) → (n ≡ 0 → ⊥) → Peeled ≡ part_in n

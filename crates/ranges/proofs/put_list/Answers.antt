@@ -1,4 +1,4 @@
-use Prim.Native.Nat.{ℕ, ◌-◌, ◌≤◌, ◌<◌}
+use Prim.Native.Nat.{ℕ, ◌<◌}
 use native.Mathlib.Omega.{arith}
 use mathlib.Core.Path.{◌≡◌, refl, ap, ◌∙◌}
 use Rattle.reader.specs.Store.{loops_in}
@@ -7,7 +7,7 @@ use Rattle.blocks.specs.Sums.{column}
 use Rattle.lists.proofs.BelowLaws.{indices_in}
 use Rattle.ranges.specs.Code.{range_of}
 use Rattle.ranges.specs.Listed.{few-loops, block-asks, range_small, lengths-in}
-use Rattle.ranges.proofs.Laws.{Filled, filled_none, filled_next}
+use Rattle.ranges.proofs.Laws.{filled_none, filled_next}
 use Rattle.ranges.proofs.put_list.Goals as goal
 
 pub block_of-blk-requires : goal.block_of-blk-requires
@@ -109,7 +109,11 @@ returns c =
     let l = c.loop-k in
     let st = a.store.now in
     let e : l.k ≡ loops_in st = omega (arith, c.loops_in-loops.ensures) in
-    let f = l.invariant.1 in record { value = (
+    let f = l.invariant.1 in record {
+      value = (
         f.sum_is ∙ ap (λ (n : ℕ). indices_in n (range_of a.phase a.a st a.b)) e ∙ lengths-in a.a st p.0 a.phase a.b,
         omega (arith, f.small, few-loops a.a st p.0),
-      ); ranges_kept = rw (← e) f.kept; apart = f.apart }
+      );
+      ranges_kept = rw (← e) f.kept;
+      apart = f.apart;
+    }

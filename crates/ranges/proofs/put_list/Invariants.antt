@@ -1,13 +1,7 @@
-use Prim.Native.Nat.{ℕ, ◌-◌, ◌≤◌, ◌<◌}
-use native.Mathlib.Omega.{arith}
-use mathlib.Core.Path.{◌≡◌, refl, ap, ◌∙◌}
-use Rattle.reader.specs.Store.{loops_in}
-use Rattle.blocks.specs.declared.Range.{Range}
+use Prim.Native.Nat.{◌-◌, ◌≤◌}
 use Rattle.blocks.specs.Sums.{column}
-use Rattle.lists.proofs.BelowLaws.{indices_in}
 use Rattle.ranges.specs.Code.{range_of}
-use Rattle.ranges.specs.Listed.{few-loops, block-asks, range_small, lengths-in}
-use Rattle.ranges.proofs.Laws.{Filled, filled_none, filled_next}
+use Rattle.ranges.proofs.Laws.{Filled}
 use Rattle.ranges.proofs.put_list.Given as goal
 
 abbrev pub invariant-loop-k : goal.invariant-loop-k

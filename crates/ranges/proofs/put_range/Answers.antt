@@ -1,6 +1,5 @@
 use native.Mathlib.Omega.{arith}
 use lib.ListN.{length-set}
-use borrow.Author.Rules.{rules}
 use Rattle.ranges.proofs.put_range.Goals as goal
 
 pub bounds-lists-at-2 : goal.bounds-lists-at-2

@@ -4,7 +4,6 @@ use Rattle.reader.specs.Store.{kept, rows_after, ArrayFits}
 use Rattle.records.specs.declared.Record.{Record}
 use Rattle.records.specs.Clear.{Room}
 use Prim.Native.Nat.{◌≤◌}
-use borrow.Author.Rules.{rules}
 use Rattle.reader.proofs.keep.Goals as goal
 
 pub put_bounds-requires : goal.put_bounds-requires

@@ -3,7 +3,6 @@ use mathlib.Core.Path.{sym, ap, ◌∙◌}
 use native.Mathlib.Numerals.{add-one}
 use Rattle.reader.specs.Store.{start_at}
 use Rattle.reader.specs.Held.{count_held, few-loops, rows-rise}
-use Rattle.reader.specs.Rows.{NoneBehind}
 use Rattle.reader.specs.RowLaws.{behind-last, behind-few, behind-before, last_found, first_found}
 use Rattle.reader.proofs.last_destination.Goals as goal
 

@@ -1,6 +1,5 @@
 use mathlib.Core.Path.{refl}
 use Rattle.reader.specs.Store.{with_bounds}
-use borrow.Author.Rules.{rules}
 use Rattle.reader.proofs.put_bounds.Goals as goal
 
 pub returns : goal.returns

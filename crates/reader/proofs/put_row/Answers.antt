@@ -1,6 +1,5 @@
 use mathlib.Core.Path.{refl}
 use Rattle.reader.specs.Store.{with_row}
-use borrow.Author.Rules.{rules}
 use Rattle.reader.proofs.put_row.Goals as goal
 
 pub returns : goal.returns

@@ -1,9 +1,7 @@
 use native.Mathlib.Omega.{arith}
-use lib.ListN.{length, set, length-set}
+use lib.ListN.{set, length-set}
 use lib.Seq.{get_or-set_same}
-use Prim.Native.Nat.{◌-◌}
-use Rattle.reader.proofs.Turns.{Inv, start, places, turn-refused, turn-tail, turn-ended, passed-room, further, passed-places, turn-passed}
-use borrow.Author.Rules.{rules}
+use Rattle.reader.proofs.Turns.{start, places, turn-refused, turn-tail, turn-ended, passed-room, further, passed-places, turn-passed}
 use Rattle.reader.proofs.read_table.Goals as goal
 
 pub loop-r-init : goal.loop-r-init
@@ -26,15 +24,16 @@ returns-in-Refused c =
 
 pub keep-rows-requires : goal.keep-rows-requires
 keep-rows-requires c =
-    
     let l = c.loop-r in
-    let s = c.args.s.now in record { room = passed-room s l.store l.t l.at l.rows l.invariant c.read_record-found.result c.read_record-found.ensures c.in-Passed.x
-          c.in-Passed.n c.in-Passed.is; places = passed-places s l.store l.t l.at l.rows l.invariant c.read_record-found.result c.read_record-found.ensures
-          c.in-Passed.x c.in-Passed.n c.in-Passed.is }
+    let s = c.args.s.now in record {
+      room = passed-room s l.store l.t l.at l.rows l.invariant c.read_record-found.result c.read_record-found.ensures c.in-Passed.x
+          c.in-Passed.n c.in-Passed.is;
+      places = passed-places s l.store l.t l.at l.rows l.invariant c.read_record-found.result c.read_record-found.ensures
+          c.in-Passed.x c.in-Passed.n c.in-Passed.is;
+    }
 
 pub advance-t-requires : goal.advance-t-requires
 advance-t-requires c =
-    
     let l = c.loop-r in
     let s = c.args.s.now in
     passed-room s l.store l.t l.at l.rows l.invariant c.read_record-found.result c.read_record-found.ensures c.in-Passed.x
@@ -42,14 +41,12 @@ advance-t-requires c =
 
 pub loop-r-smaller : goal.loop-r-smaller
 loop-r-smaller c =
-    
     let l = c.loop-r in
     let s = c.args.s.now in
     omega (arith, further s l.store l.t l.at l.rows l.invariant c.read_record-found.result c.read_record-found.ensures c.in-Passed.x c.in-Passed.n c.in-Passed.is)
 
 pub loop-r-preserved : goal.loop-r-preserved
 loop-r-preserved c =
-    
     let l = c.loop-r in
     let s = c.args.s.now in
     turn-passed s l.store l.t l.at l.rows l.invariant c.read_record-found.result c.read_record-found.ensures c.in-Passed.x
@@ -58,7 +55,6 @@ loop-r-preserved c =
 
 pub returns-then-n-s : goal.returns-then-n-s
 returns-then-n-s c =
-    
     let l = c.loop-r in
     let s = c.args.s.now in
     rw c.met.ensures
@@ -67,7 +63,6 @@ returns-then-n-s c =
 
 pub returns-in-Ended : goal.returns-in-Ended
 returns-in-Ended c =
-    
     let l = c.loop-r in
     let s = c.args.s.now in
     let x = c.read_record-found in

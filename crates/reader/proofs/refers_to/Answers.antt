@@ -1,7 +1,5 @@
 use mathlib.Core.Path.{sym, ◌∙◌}
-use lib.ListN.{get_or}
 use Rattle.reader.specs.RowLaws.{head_read, head-stored}
-use borrow.Author.Rules.{rules}
 use Rattle.reader.proofs.refers_to.Goals as goal
 
 pub returns-then-head-q : goal.returns-then-head-q

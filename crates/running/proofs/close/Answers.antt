@@ -1,12 +1,7 @@
 use native.Mathlib.Omega.{arith}
 use mathlib.Core.Path.{sym, ◌∙◌}
-use Rattle.model.specs.declared.Iteration.{Iteration}
-use Rattle.turns.specs.Turn.{Work}
-use Rattle.turns.specs.Reachable.{Reachable}
-use Rattle.running.specs.Code.{Step, Calling}
 use Rattle.running.proofs.Calls.{phased, lent_at}
-use Rattle.running.proofs.Closing.{Closing, closing-start, closing-next, closing-stop, closing_end}
-use borrow.Author.Rules.{rules}
+use Rattle.running.proofs.Closing.{closing-start, closing-next, closing-stop, closing_end}
 use Rattle.running.proofs.close.Goals as goal
 
 pub loop-left-init : goal.loop-left-init

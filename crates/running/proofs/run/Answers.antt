@@ -1,6 +1,5 @@
 use Rattle.plans.proofs.CodeLaws.{made-laid}
 use Rattle.running.proofs.Laws.{runs-refused}
-use borrow.Author.Rules.{rules}
 use Rattle.running.proofs.run.Goals as goal
 
 pub returns-then-r-ne0 : goal.returns-then-r-ne0

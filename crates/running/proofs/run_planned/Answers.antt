@@ -7,7 +7,6 @@ use Rattle.layouts.specs.Layout.{work_in}
 use Rattle.stepping.specs.Step.{step}
 use Rattle.steps.specs.Laid.{loaded-in}
 use Rattle.running.proofs.Laws.{calling-in, calling-some, runs-unlike, runs-made}
-use borrow.Author.Rules.{rules}
 use Rattle.running.proofs.run_planned.Goals as goal
 
 pub returns-then-memory-wide : goal.returns-then-memory-wide

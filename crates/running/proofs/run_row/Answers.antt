@@ -1,7 +1,6 @@
 use native.Mathlib.Omega.{arith}
 use Rattle.running.proofs.Calls.{phased}
 use Rattle.running.proofs.Closing.{rowed}
-use borrow.Author.Rules.{rules}
 use Rattle.running.proofs.run_row.Goals as goal
 
 pub listed-most-requires : goal.listed-most-requires

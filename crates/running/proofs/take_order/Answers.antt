@@ -1,13 +1,7 @@
-use Prim.Native.Nat.{◌-◌}
 use native.Mathlib.Omega.{arith}
 use mathlib.Core.Path.{sym, ◌∙◌}
-use lib.ListN.{length}
-use Rattle.model.specs.declared.Iteration.{Iteration}
-use Rattle.turns.specs.Turn.{Work}
-use Rattle.running.specs.Code.{Step, Calling}
 use Rattle.running.proofs.Calls.{idling-small, lent_at}
-use Rattle.running.proofs.Order.{Going, going_start, going_next, going_end}
-use borrow.Author.Rules.{rules}
+use Rattle.running.proofs.Order.{going_start, going_next, going_end}
 use Rattle.running.proofs.take_order.Goals as goal
 
 pub loop-k-init : goal.loop-k-init

@@ -1,8 +1,6 @@
 use native.Mathlib.Omega.{arith}
-use Prim.Native.Nat.{◌-◌}
 use Rattle.reader.specs.Held.{few-loops, count_held}
-use Rattle.serial.proofs.Walks.{LoopInv, loops-start, there, loop-passed, loop-collides, loops-done}
-use borrow.Author.Rules.{rules}
+use Rattle.serial.proofs.Walks.{loops-start, there, loop-passed, loop-collides, loops-done}
 use Rattle.serial.proofs.check_loops.Goals as goal
 
 pub loop-k-init : goal.loop-k-init

@@ -2,7 +2,6 @@ use native.Mathlib.Omega.{arith}
 use mathlib.Core.Path.{sym, ◌∙◌}
 use Rattle.overlap.specs.Booleans.{either_true}
 use Rattle.serial.proofs.Walks.{other-array, same-offset, neither-stores, touching}
-use borrow.Author.Rules.{rules}
 use Rattle.serial.proofs.collide.Goals as goal
 
 pub returns-then-x-y : goal.returns-then-x-y

@@ -1,9 +1,9 @@
-use Prim.Native.Nat.{◌+◌, ◌-◌, ◌≤◌, ◌<◌}
+use Prim.Native.Nat.{◌≤◌, ◌<◌}
 use native.Mathlib.Omega.{arith}
 use native.Mathlib.Numerals.{add-one}
 use mathlib.Core.Path.{ap}
 use Rattle.reader.specs.Store.{start_at}
-use Rattle.serial.proofs.Walks.{rows-known, row-known, loop-found, loop-nothing, Lower, lower-start, lower-next}
+use Rattle.serial.proofs.Walks.{rows-known, row-known, loop-found, loop-nothing, lower-start, lower-next}
 use Rattle.serial.proofs.first_pair.Goals as goal
 use Rattle.serial.proofs.first_pair.Goals.{After-last_destination-end}
 

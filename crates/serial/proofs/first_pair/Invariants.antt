@@ -1,9 +1,5 @@
-use Prim.Native.Nat.{◌+◌, ◌-◌, ◌≤◌, ◌<◌}
-use native.Mathlib.Omega.{arith}
-use native.Mathlib.Numerals.{add-one}
-use mathlib.Core.Path.{ap}
-use Rattle.reader.specs.Store.{start_at}
-use Rattle.serial.proofs.Walks.{rows-known, row-known, loop-found, loop-nothing, Lower, lower-start, lower-next}
+use Prim.Native.Nat.{◌+◌, ◌-◌}
+use Rattle.serial.proofs.Walks.{Lower}
 use Rattle.serial.proofs.first_pair.Given as goal
 
 -- `first_pair` meets its contract. The invariant: no row before `row` has a partner.

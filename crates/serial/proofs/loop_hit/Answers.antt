@@ -1,7 +1,5 @@
-use Prim.Native.Nat.{◌+◌, ◌≤◌, ◌<◌}
 use native.Mathlib.Omega.{arith}
-use mathlib.Core.Path.{sym, ◌∙◌}
-use Rattle.reader.specs.Store.{start_at}
+use mathlib.Core.Path.{◌∙◌}
 use Rattle.reader.specs.Held.{opening-held}
 use Rattle.serial.proofs.Walks.{rows-known, row-known, loop-alone, loop-first}
 use Rattle.serial.proofs.loop_hit.Goals as goal

@@ -1,8 +1,8 @@
 use native.Mathlib.Omega.{arith}
 use mathlib.Core.Path.{sym, ap, ◌∙◌}
-use Prim.Native.Nat.{◌+◌, ◌-◌}
+use Prim.Native.Nat.{◌+◌}
 use Rattle.model.specs.declared.Reference.{Reference}
-use Rattle.serial.proofs.Walks.{Passed, passed_start, passed-next, partner-other, partner-none, partner-found}
+use Rattle.serial.proofs.Walks.{passed_start, passed-next, partner-other, partner-none, partner-found}
 use Rattle.serial.proofs.partner.Goals as goal
 
 pub kind_at-requires : goal.kind_at-requires

@@ -1,8 +1,5 @@
-use native.Mathlib.Omega.{arith}
-use mathlib.Core.Path.{sym, ap, ◌∙◌}
 use Prim.Native.Nat.{◌+◌, ◌-◌}
-use Rattle.model.specs.declared.Reference.{Reference}
-use Rattle.serial.proofs.Walks.{Passed, passed_start, passed-next, partner-other, partner-none, partner-found}
+use Rattle.serial.proofs.Walks.{Passed}
 use Rattle.serial.proofs.partner.Given as goal
 
 -- `partner` meets its contract. The invariant: no row before `other` collides with the first one.

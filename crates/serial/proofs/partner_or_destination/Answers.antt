@@ -1,8 +1,7 @@
 use native.Mathlib.Omega.{arith}
 use mathlib.Core.Path.{sym, ap, ◌∙◌}
-use Prim.Native.Nat.{◌-◌}
 use Rattle.model.specs.declared.Reference.{Reference}
-use Rattle.serial.proofs.Walks.{Alone, alone-start, alone-next, alone-destination, alone-found, alone-end}
+use Rattle.serial.proofs.Walks.{alone-start, alone-next, alone-destination, alone-found, alone-end}
 use Rattle.serial.proofs.partner_or_destination.Goals as goal
 
 pub loop-other-init : goal.loop-other-init

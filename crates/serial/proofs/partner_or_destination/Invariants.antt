@@ -1,8 +1,5 @@
-use native.Mathlib.Omega.{arith}
-use mathlib.Core.Path.{sym, ap, ◌∙◌}
 use Prim.Native.Nat.{◌-◌}
-use Rattle.model.specs.declared.Reference.{Reference}
-use Rattle.serial.proofs.Walks.{Alone, alone-start, alone-next, alone-destination, alone-found, alone-end}
+use Rattle.serial.proofs.Walks.{Alone}
 use Rattle.serial.proofs.partner_or_destination.Given as goal
 
 -- `partner_or_destination` meets its contract. The invariant: the rows before `other` are reads that do not collide with the first one.

@@ -1,6 +1,5 @@
 use mathlib.Core.Path.{sym, ◌∙◌}
 use Rattle.serial.proofs.Offsets.{offset-put, offset-kept}
-use borrow.Author.Rules.{rules}
 use Rattle.serial.proofs.put_offset.Goals as goal
 
 pub returns-then-kind_at-ne-DESTINATION : goal.returns-then-kind_at-ne-DESTINATION

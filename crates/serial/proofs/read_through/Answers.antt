@@ -1,5 +1,4 @@
 use Rattle.serial.proofs.Walks.{checked, refused-reading}
-use borrow.Author.Rules.{rules}
 use Rattle.serial.proofs.read_through.Goals as goal
 
 pub returns-then-r-ne0 : goal.returns-then-r-ne0

@@ -1,6 +1,5 @@
 use native.Mathlib.Omega.{arith}
-use Prim.Native.Nat.{◌-◌}
-use Rattle.serial.proofs.Walks.{Counted, counted_start, counted-reference, counted-other, counted-end}
+use Rattle.serial.proofs.Walks.{counted_start, counted-reference, counted-other, counted-end}
 use Rattle.serial.proofs.references_in.Goals as goal
 use Rattle.serial.proofs.references_in.Goals.{then-kind_at-lt-CONSTANT, else-kind_at-lt-CONSTANT}
 
@@ -22,10 +21,10 @@ loop-row-preserved c =
     let l = c.loop-row in
     let k = c.kind_at.ensures in
     elim c.if-kind_at-lt-CONSTANT.branch [
-      then-kind_at-lt-CONSTANT w ↦
-        rw w.n-is (counted-reference a.store.now a.from a.past l.row l.n l.invariant c.loop-row-test.true (omega (arith, k, w.if-kind_at-lt-CONSTANT.true)))
-    | else-kind_at-lt-CONSTANT w ↦
-        rw w.n-is (counted-other a.store.now a.from a.past l.row l.n l.invariant c.loop-row-test.true (omega (arith, k, w.if-kind_at-lt-CONSTANT.false)))
+      | then-kind_at-lt-CONSTANT w ↦
+          rw w.n-is (counted-reference a.store.now a.from a.past l.row l.n l.invariant c.loop-row-test.true (omega (arith, k, w.if-kind_at-lt-CONSTANT.true)))
+      | else-kind_at-lt-CONSTANT w ↦
+          rw w.n-is (counted-other a.store.now a.from a.past l.row l.n l.invariant c.loop-row-test.true (omega (arith, k, w.if-kind_at-lt-CONSTANT.false)))
     ]
 
 pub returns : goal.returns

@@ -1,7 +1,5 @@
-use native.Mathlib.Omega.{arith}
-use mathlib.Core.Logic.{⊎_elim}
 use Prim.Native.Nat.{◌-◌}
-use Rattle.serial.proofs.Walks.{Counted, counted_start, counted-reference, counted-other, counted-end}
+use Rattle.serial.proofs.Walks.{Counted}
 use Rattle.serial.proofs.references_in.Given as goal
 
 abbrev pub invariant-loop-row : goal.invariant-loop-row

@@ -2,7 +2,6 @@ use native.Mathlib.Omega.{arith}
 use mathlib.Core.Path.{ap, ◌∙◌}
 use Rattle.model.specs.declared.Reference.{Reference}
 use Rattle.serial.proofs.Walks.{row_apart, row_other, row-reference-is}
-use borrow.Author.Rules.{rules}
 use Rattle.serial.proofs.row_collides.Goals as goal
 
 pub returns-then-wide-x : goal.returns-then-wide-x

@@ -2,7 +2,6 @@ use Prim.Native.Nat.{ℕ}
 use mathlib.Core.Path.{sym, ap, ◌∙◌}
 use lib.ListN.{get_or}
 use lib.Dec.{ltb}
-use borrow.Author.Rules.{rules}
 use Rattle.serial.proofs.Offsets.{none-differs, same_differs, kind-differs}
 use Rattle.serial.proofs.row_differs.Goals as goal
 

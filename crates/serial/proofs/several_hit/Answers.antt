@@ -1,8 +1,6 @@
-use Prim.Native.Nat.{◌+◌, ◌≤◌, ◌<◌}
 use native.Mathlib.Omega.{arith}
 use mathlib.Core.Path.{refl, sym, ◌∙◌}
-use borrow.Author.Rules.{rules}
-use Rattle.reader.specs.Store.{first_at, last_at, start_at}
+use Rattle.reader.specs.Store.{first_at, last_at}
 use Rattle.serial.proofs.Walks.{rows-known, row-known, loop-apart}
 use Rattle.serial.proofs.Offsets.{none-collide}
 use Rattle.serial.proofs.several_hit.Goals as goal

@@ -1,7 +1,5 @@
-use native.Mathlib.Omega.{arith}
 use mathlib.Core.Path.{sym, ◌∙◌}
-use Prim.Native.Nat.{◌-◌}
-use Rattle.serial.proofs.Offsets.{Agreeing, agreeing-start, agreeing-next, agreeing-found, agreeing-end}
+use Rattle.serial.proofs.Offsets.{agreeing-start, agreeing-next, agreeing-found, agreeing-end}
 use Rattle.serial.proofs.some_differs.Goals as goal
 
 pub loop-row-init : goal.loop-row-init

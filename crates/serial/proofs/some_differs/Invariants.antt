@@ -1,7 +1,5 @@
-use native.Mathlib.Omega.{arith}
-use mathlib.Core.Path.{sym, ◌∙◌}
 use Prim.Native.Nat.{◌-◌}
-use Rattle.serial.proofs.Offsets.{Agreeing, agreeing-start, agreeing-next, agreeing-found, agreeing-end}
+use Rattle.serial.proofs.Offsets.{Agreeing}
 use Rattle.serial.proofs.some_differs.Given as goal
 
 -- `some_differs` meets its contract. The invariant: no row before `row` differs.

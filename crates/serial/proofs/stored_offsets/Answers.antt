@@ -1,6 +1,4 @@
 use native.Mathlib.Omega.{arith}
-use Prim.Native.Nat.{◌-◌, ◌≤◌}
-use Rattle.serial.specs.Rows.{StoredAt}
 use Rattle.serial.proofs.Offsets.{stored-start, stored_next, stored-end}
 use Rattle.serial.proofs.stored_offsets.Goals as goal
 

@@ -1,7 +1,5 @@
-use native.Mathlib.Omega.{arith}
 use Prim.Native.Nat.{◌-◌, ◌≤◌}
 use Rattle.serial.specs.Rows.{StoredAt}
-use Rattle.serial.proofs.Offsets.{stored-start, stored_next, stored-end}
 use Rattle.serial.proofs.stored_offsets.Given as goal
 
 -- `stored_offsets` meets its contract. The invariant: the offsets are those of the rows before `row`.

@@ -4,7 +4,6 @@ use mathlib.Core.Path.{sym, ap, ◌∙◌}
 use lib.ListN.{get_or}
 use Rattle.barriers.specs.Code.{phase_by, before_by}
 use Rattle.steps.proofs.Next.{used, says-waits, says-ends, nth-asks, nth-says}
-use borrow.Author.Rules.{rules}
 use Rattle.steps.proofs.next_of.Goals as goal
 
 pub returns-then-is_closed : goal.returns-then-is_closed

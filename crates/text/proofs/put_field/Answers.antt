@@ -1,5 +1,4 @@
 use Rattle.text.proofs.Laws.{field_put}
-use borrow.Author.Rules.{rules}
 use Rattle.text.proofs.put_field.Goals as goal
 
 pub returns : goal.returns

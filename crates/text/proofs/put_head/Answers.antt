@@ -1,5 +1,4 @@
 use Rattle.text.proofs.Laws.{head-put}
-use borrow.Author.Rules.{rules}
 use Rattle.text.proofs.put_head.Goals as goal
 
 pub returns : goal.returns

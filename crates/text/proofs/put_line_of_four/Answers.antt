@@ -1,5 +1,4 @@
 use Rattle.text.proofs.Laws.{four-put}
-use borrow.Author.Rules.{rules}
 use Rattle.text.proofs.put_line_of_four.Goals as goal
 
 pub returns : goal.returns

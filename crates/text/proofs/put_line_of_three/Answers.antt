@@ -1,5 +1,4 @@
 use Rattle.text.proofs.Laws.{three-put}
-use borrow.Author.Rules.{rules}
 use Rattle.text.proofs.put_line_of_three.Goals as goal
 
 pub returns : goal.returns

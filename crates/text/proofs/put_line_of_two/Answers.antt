@@ -1,5 +1,4 @@
 use Rattle.text.proofs.Laws.{two-put}
-use borrow.Author.Rules.{rules}
 use Rattle.text.proofs.put_line_of_two.Goals as goal
 
 pub returns : goal.returns

@@ -1,7 +1,5 @@
 use native.Mathlib.Omega.{arith}
-use Prim.Native.Nat.{◌-◌}
-use lib.ListN.{length}
-use Rattle.text.proofs.Laws.{WordInv, word-start, word_next, word_end}
+use Rattle.text.proofs.Laws.{word-start, word_next, word_end}
 use Rattle.text.specs.Written.{put-length}
 use Rattle.text.proofs.put_word.Goals as goal
 

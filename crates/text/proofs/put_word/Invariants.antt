@@ -1,8 +1,6 @@
-use native.Mathlib.Omega.{arith}
 use Prim.Native.Nat.{◌-◌}
 use lib.ListN.{length}
-use Rattle.text.proofs.Laws.{WordInv, word-start, word_next, word_end}
-use Rattle.text.specs.Written.{put-length}
+use Rattle.text.proofs.Laws.{WordInv}
 use Rattle.text.proofs.put_word.Given as goal
 
 abbrev pub invariant-loop-i : goal.invariant-loop-i

@@ -1,5 +1,4 @@
 use Rattle.told.specs.Answers.{refusal_in}
-use borrow.Author.Rules.{rules}
 use Rattle.told.proofs.refusal_in.Goals as goal
 
 pub returns-in-Refused : goal.returns-in-Refused

@@ -2,7 +2,6 @@ use Rattle.told.specs.Answers.{reported, ReportFits}
 use native.Mathlib.Omega.{arith}
 use mathlib.Core.Path.{subst}
 use Rattle.stepping.specs.declared.Report.{Report}
-use borrow.Author.Rules.{rules}
 use Rattle.told.proofs.tell_report.Goals as goal
 
 pub overflow_cast-number : goal.overflow_cast-number

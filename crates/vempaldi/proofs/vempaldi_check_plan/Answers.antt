@@ -1,5 +1,4 @@
 use mathlib.Core.Path.{ap}
-use borrow.Author.Rules.{rules}
 use Rattle.plans.specs.declared.Asked.{Asked}
 use Rattle.vempaldi.proofs.vempaldi_check_plan.Goals as goal
 

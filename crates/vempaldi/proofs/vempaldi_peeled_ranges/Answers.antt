@@ -1,5 +1,4 @@
 use Rattle.vempaldi.proofs.Laws.{gives-told}
-use borrow.Author.Rules.{rules}
 use Rattle.vempaldi.proofs.vempaldi_peeled_ranges.Goals as goal
 
 pub returns : goal.returns

@@ -1,4 +1,3 @@
-use borrow.Author.Rules.{rules}
 use Rattle.vempaldi.proofs.vempaldi_run.Goals as goal
 
 pub returns : goal.returns

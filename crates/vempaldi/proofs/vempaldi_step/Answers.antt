@@ -2,7 +2,6 @@ use mathlib.Core.Path.{ap, ◌∙◌}
 use Rattle.stepping.specs.declared.Report.{Report}
 use Rattle.told.specs.Answers.{reported}
 use Rattle.vempaldi.proofs.Laws.{report-small}
-use borrow.Author.Rules.{rules}
 use Rattle.vempaldi.proofs.vempaldi_step.Goals as goal
 
 pub tell_report-requires : goal.tell_report-requires

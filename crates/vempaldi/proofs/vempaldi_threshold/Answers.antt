@@ -1,5 +1,4 @@
 use Rattle.vempaldi.proofs.Laws.{gives-told}
-use borrow.Author.Rules.{rules}
 use Rattle.vempaldi.proofs.vempaldi_threshold.Goals as goal
 
 pub returns : goal.returns

@@ -1,8 +1,7 @@
 use mathlib.Core.Path.{◌≡◌}
 use lib.ListN.{length}
 use native.Mathlib.Omega.{arith}
-use Prim.Native.Nat.{◌-◌}
-use Rattle.bodies.proofs.Work.{RowsLeft, rows_start, rows-ready, rows_next, rows-met, rows_end}
+use Rattle.bodies.proofs.Work.{rows_start, rows-ready, rows_next, rows-met, rows_end}
 use borrow.Author.Rules.{rules}
 use Rattle.bodies.proofs.Waiting.work_rows.Goals as goal
 
@@ -26,9 +25,12 @@ value_at-value-requires c = omega (arith, c.requires.from_le_past.1, c.loop-row-
 pub work_row-step-requires : goal.work_row-step-requires
 work_row-step-requires c =
     let a = c.args in
-    let l = c.loop-row in record { i_bound = (c.requires.from_le_past.2, l.invariant.long); ready = rw (c.value_at-value.ensures, c.array_at-array.ensures, c.kind_at-kind.ensures)
+    let l = c.loop-row in record {
+      i_bound = (c.requires.from_le_past.2, l.invariant.long);
+      ready = rw (c.value_at-value.ensures, c.array_at-array.ensures, c.kind_at-kind.ensures)
           (rows-ready a.bases.now a.i a.memory.now a.store.now a.from a.past a.self l.row
-          (record { values = l.values; count = l.n }) l.invariant c.loop-row-test.true) }
+          (record { values = l.values; count = l.n }) l.invariant c.loop-row-test.true);
+    }
 
 pub overflow_add-row : goal.overflow_add-row
 overflow_add-row c = omega (arith, c.requires.from_le_past.1, c.loop-row-test.true)

@@ -1,9 +1,5 @@
-use mathlib.Core.Path.{◌≡◌}
-use lib.ListN.{length}
-use native.Mathlib.Omega.{arith}
 use Prim.Native.Nat.{◌-◌}
-use Rattle.bodies.proofs.Work.{RowsLeft, rows_start, rows-ready, rows_next, rows-met, rows_end}
-use borrow.Author.Rules.{rules}
+use Rattle.bodies.proofs.Work.{RowsLeft}
 use Rattle.bodies.proofs.Waiting.work_rows.Given as goal
 
 abbrev pub invariant-loop-row : goal.invariant-loop-row

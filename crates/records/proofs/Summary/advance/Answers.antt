@@ -4,7 +4,6 @@ use Rattle.records.specs.declared.Record.{Record}
 use Rattle.records.specs.Clear.{Room}
 use mathlib.Core.Path.{subst}
 use Rattle.records.proofs.Ways.{operands-one}
-use borrow.Author.Rules.{rules}
 use Rattle.records.proofs.Summary.advance.Goals as goal
 
 pub with_array-requires : goal.with_array-requires

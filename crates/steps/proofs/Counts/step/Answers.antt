@@ -1,5 +1,4 @@
 use Rattle.steps.proofs.Laws.{steps-refused, laid-named, steps-made}
-use borrow.Author.Rules.{rules}
 use Rattle.steps.proofs.Counts.step.Goals as goal
 
 pub returns-then-r-ne0 : goal.returns-then-r-ne0

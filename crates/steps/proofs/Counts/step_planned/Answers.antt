@@ -7,7 +7,6 @@ use Rattle.iterations.specs.LoadedLaws.{loaded-total}
 use Rattle.layouts.specs.Layout.{work_in}
 use Rattle.steps.specs.Laid.{loaded-in, lent-in}
 use Rattle.steps.proofs.Laws.{leaves-unlike, leaves-wrong, leaves-called}
-use borrow.Author.Rules.{rules}
 use Rattle.steps.proofs.Counts.step_planned.Goals as goal
 
 pub returns-then-memory-wide : goal.returns-then-memory-wide
