@@ -1,7 +1,7 @@
--- Where a ground holds and none before it, it is given. So what is accepted meets none. 19 and 20 come before 10.
+-- Where a ground holds and none before it, it is given. 19 and 20 come before 10.
 use Rattle.std.specs.Prelude.{ℕ, ◌*◌, ◌≤◌, ◌≡◌, Bool, ◌||◌, List, eqb, length, Float}
 use Rattle.std.proofs.Math.Path.{refl}
-use Rattle.std.proofs.Common.{sym, subst, ◌∙◌}
+use Rattle.std.proofs.Common.{◌∙◌}
 use Rattle.std.proofs.Math.Bool.{true, false, not}
 use Rattle.std.proofs.lemmas.Bool.{false≢true}
 use Rattle.std.proofs.Math.Decide.{ℕ_discrete}
@@ -10,32 +10,22 @@ use borrow.Author.Tests.{lt-ltb, eq-eqb, ne_eqb}
 use Rattle.refusals.specs.declared.Refusal.{Refusal}
 use Rattle.refusals.specs.Refusals.{met, naming}
 use Rattle.refusals.specs.Answers.{AnswerOf, accepted, refused, ◌if◌else◌, after}
-use Rattle.refusals.proofs.AnswerLaws.{not-both}
 use Rattle.model.specs.Table.{Table, count}
 use Rattle.serial.specs.Serial.{table}
 use Rattle.outputs.specs.Given.{fitted}
 use Rattle.tables.proofs.Nine.{valid}
-use Rattle.chains.specs.TableGraph.{graph}
-use Rattle.chains.specs.Legal.{LegalPlan}
-use Rattle.chains.proofs.UnmetLaws.{legal-met}
 use Rattle.blocks.specs.SumLaws.{neither}
 use Rattle.amounts.specs.declared.Amounts.{Amounts}
 use Rattle.legality.specs.Written.{amounts_in}
 use Rattle.legality.specs.ByHand.{too_large, first_unmet, judged, by_hand}
-use Rattle.plans.specs.Plans.{Settings, Planned, own, bad_processors, bad_number, bad_line, amounts_for, fitting, planned, planned_for}
-use Rattle.plans.proofs.Accepted.{planned-accepts}
-use Rattle.plans.proofs.FromBytes.{plan-by-hand}
+use Rattle.plans.specs.Plans.{Settings, Planned, own, bad_processors, bad_number, amounts_for, fitting, planned, planned_for}
 use Rattle.iterations.specs.Memory.{remembered}
 use Rattle.turns.specs.Turn.{refuses, stays, stepped}
 use Rattle.stepping.specs.Step.{elements, stepped_by, step}
-use Rattle.answers.specs.Statements.{Given, NotAPlan, NotMet, FirstNotMet, BadProcessors, BadNumber, BadLine, Short, OtherLength, NoRoom, BadState}
-use Rattle.answers.proofs.HandTests.{numbers, nineteen-is, not-unmet, twenty-given, twenty-is}
-use Rattle.answers.proofs.Tests.{Decides, below, ten, ten-named, eleven, fifteen, seventeen}
-
--- a statement that does not hold is decided against
-refuted : (x : Bool) {A : Type 0} → Decides x A → (A → ⊥) → x ≡ false
-refuted true d n = absurd (n (d.0 refl))
-refuted false d n = refl
+use Rattle.answers.specs.Statements.{Given, NotAPlan, FirstNotMet, BadProcessors, BadNumber, BadLine, Short, OtherLength, NoRoom, BadState}
+use Rattle.answers.proofs.HandTests.{numbers, nineteen-is, twenty-given, twenty-is}
+use Rattle.answers.proofs.Tests.{below, ten, ten-named, fifteen}
+use Rattle.answers.proofs.Fitting.{refuted, fitting-ten, fitting-seventeen, fitting-eleven}
 
 -- 19 and 20, of a table that was read, where a plan by hand is given
 module _ (s : List ℕ) (w : Settings) (t : Table) (read : table s ≡ accepted t) (given : Given w) where
@@ -87,41 +77,29 @@ module _ (s : List ℕ) (w : Settings) (t : Table) (read : table s ≡ accepted 
 
 -- 10, 17 and 11, of a table that was read, with the shifts and peels that are meant
 module _ (s : List ℕ) (w : Settings) (t : Table) (read : table s ≡ accepted t) (a : Amounts) (meant : amounts_for w t ≡ accepted a) where
-  fitting-ten : (wrong : Bool) → wrong ≡ true → fitting wrong w (table s) ≡ refused (met 10 0)
-  unfolding fitting
-  fitting-ten wrong e = rw (read, meant, e)
-
-  fitting-seventeen : (wrong : Bool) → wrong ≡ false → BadLine w → fitting wrong w (table s) ≡ refused (met 17 0)
-  unfolding fitting
-  fitting-seventeen wrong e h = rw (read, meant, e, (seventeen w).1 h)
-
-  fitting-eleven : (wrong : Bool) → wrong ≡ false → (BadLine w → ⊥) → Short t a w → fitting wrong w (table s) ≡ refused (met 11 0)
-  unfolding fitting
-  fitting-eleven wrong e n h = rw (read, meant, e, refuted (bad_line w) (seventeen w) n, (eleven t a w).1 h)
-
   pub ten-where : BadProcessors w → planned s w ≡ refused (met 10 0)
   unfolding planned
-  ten-where h = fitting-ten (bad_processors w) ((ten w).1 h)
+  ten-where h = fitting-ten s w t read a meant (bad_processors w) ((ten w).1 h)
 
   pub ten-named-where : (b : ℕ) → BadNumber w b → planned_for s w b ≡ refused (met 10 0)
   unfolding planned_for
-  ten-named-where b h = fitting-ten (bad_number w b) ((ten-named w b).1 h)
+  ten-named-where b h = fitting-ten s w t read a meant (bad_number w b) ((ten-named w b).1 h)
 
   pub seventeen-where : (BadProcessors w → ⊥) → BadLine w → planned s w ≡ refused (met 17 0)
   unfolding planned
-  seventeen-where n h = fitting-seventeen (bad_processors w) (refuted (bad_processors w) (ten w) n) h
+  seventeen-where n h = fitting-seventeen s w t read a meant (bad_processors w) (refuted (bad_processors w) (ten w) n) h
 
   pub seventeen-named-where : (b : ℕ) → (BadNumber w b → ⊥) → BadLine w → planned_for s w b ≡ refused (met 17 0)
   unfolding planned_for
-  seventeen-named-where b n h = fitting-seventeen (bad_number w b) (refuted (bad_number w b) (ten-named w b) n) h
+  seventeen-named-where b n h = fitting-seventeen s w t read a meant (bad_number w b) (refuted (bad_number w b) (ten-named w b) n) h
 
   pub eleven-where : (BadProcessors w → ⊥) → (BadLine w → ⊥) → Short t a w → planned s w ≡ refused (met 11 0)
   unfolding planned
-  eleven-where n m h = fitting-eleven (bad_processors w) (refuted (bad_processors w) (ten w) n) m h
+  eleven-where n m h = fitting-eleven s w t read a meant (bad_processors w) (refuted (bad_processors w) (ten w) n) m h
 
   pub eleven-named-where : (b : ℕ) → (BadNumber w b → ⊥) → (BadLine w → ⊥) → Short t a w → planned_for s w b ≡ refused (met 11 0)
   unfolding planned_for
-  eleven-named-where b n m h = fitting-eleven (bad_number w b) (refuted (bad_number w b) (ten-named w b) n) m h
+  eleven-named-where b n m h = fitting-eleven s w t read a meant (bad_number w b) (refuted (bad_number w b) (ten-named w b) n) m h
 
 -- the shifts and peels that are meant: without a plan by hand the table's own; else its numbers, where neither 19 nor 20 holds
 pub own-meant : (w : Settings) (t : Table) → (Given w → ⊥) → amounts_for w t ≡ accepted (own t)
@@ -140,28 +118,6 @@ hand-meant s w t read given n m =
     let b : ltb (first_unmet t (numbers t (few s w t read given) w)) 256 ≡ false =
     refuted _ (below _ 256) (λ l. m _ _ (twenty-given t (few s w t read given) w l)) in
     hand-is s w t read given ∙ rw (sized, fine, b)
-
--- an accepted plan meets none of them: 10, 17, 11 by its own threshold; and one by hand neither 19 nor 20
-pub planned-free : (s : List ℕ) (w : Settings) (q : Planned) → planned s w ≡ accepted q
-    → (BadProcessors w → ⊥) × (BadLine w → ⊥) × ((a : Amounts) → amounts_for w q.table ≡ accepted a → Short q.table a w → ⊥)
-planned-free s w q e =
-    let law = planned-accepts s w q e in (
-      λ h. false≢true (sym law.not-ten ∙ (ten w).1 h),
-      λ h. false≢true (sym law.not-seventeen ∙ (seventeen w).1 h),
-      λ a m h. not-both (sym (eleven-where s w q.table law.read a m
-          (λ i. false≢true (sym law.not-ten ∙ (ten w).1 i)) (λ i. false≢true (sym law.not-seventeen ∙ (seventeen w).1 i)) h) ∙ e),
-    )
-
-pub planned-met : (s : List ℕ) (w : Settings) (q : Planned) → planned s w ≡ accepted q → Given w
-    → (NotAPlan q.table w → ⊥) × ((j k : ℕ) → NotMet q.table w j k → ⊥)
-planned-met s w q e given =
-    let law = planned-accepts s w q e in
-    let h = plan-by-hand s w q e given in
-    let a = amounts_in 2 0 (count q.table) w.plan in
-    let legal = subst (λ (x : Amounts). LegalPlan (graph q.table) x.shifts x.peels) h.read h.legal in (
-      λ n. not-both (sym (nineteen-where s w q.table law.read given n) ∙ e),
-      λ j k n. legal-met (graph q.table) a.shifts a.peels legal j k (not-unmet q.table (valid s q.table law.read).few-loops w j k n),
-    )
 
 -- 12 and 13, after any answer that accepts
 module _ {T : Type 0} (a : AnswerOf T) (t : T) (e : a ≡ accepted t) where

@@ -1,5 +1,5 @@
 -- The table's own shifts and peels, as the call that gives them writes them, are a plan by hand that is accepted and is the same plan: so its blocks,
--- lists, steps and runs are the same. And of a plan by hand only as many bytes are looked at as it has. Laws alone.
+-- lists, steps and runs are the same. Laws alone.
 use Rattle.std.specs.Prelude.{ℕ, zero, suc, ◌+◌, ◌*◌, ◌/◌, ◌%◌, ◌≤◌, ◌<◌, ◌≡◌, ◌≢◌, Bool, get_or, ltb}
 use Rattle.std.proofs.Common.{arith, ap, ◌∙◌}
 use Rattle.std.proofs.Math.Decide.{ℕ_discrete, dec_lt}
@@ -10,11 +10,10 @@ use Rattle.std.proofs.Math.ListN.{length, get_or-eq_default}
 use Rattle.std.proofs.Math.Dec.{eqb}
 use borrow.Author.Tests.{eq-eqb, ne_eqb}
 use Rattle.refusals.specs.Refusals.{met}
-use Rattle.refusals.specs.Answers.{accepted, refused}
+use Rattle.refusals.specs.Answers.{accepted}
 use Rattle.refusals.proofs.AnswerLaws.{if-accepted, after-accepted}
 use Rattle.model.specs.Table.{Table, count}
 use Rattle.serial.specs.Serial.{table}
-use Rattle.reader.specs.Reading.{Answer}
 use Rattle.grounds.specs.Accepted.{Valid}
 use Rattle.tables.proofs.Nine.{valid}
 use Rattle.records.specs.Bytes.{two, four}
@@ -27,7 +26,7 @@ use Rattle.chains.specs.Dependence.{backward, forward}
 use Rattle.chains.specs.TableGraph.{graph}
 use Rattle.amounts.specs.declared.Amounts.{Amounts}
 use Rattle.legality.specs.Written.{number_at, amounts_in}
-use Rattle.legality.proofs.WrittenLaws.{filled-same, row-filled}
+use Rattle.legality.proofs.WrittenLaws.{row-filled}
 use Rattle.legality.specs.ByHand.{judged, by_hand}
 use Rattle.legality.proofs.ByHandLaws.{legal-judged, within-fine}
 use Rattle.plans.specs.Plans.{Settings, shift_of, peel_of, own, bad_processors, bad_number, without_plan, amounts_for, fitting, planned, planned_for}
@@ -72,7 +71,7 @@ number-back (x ∷ xs) more (suc n) l f =
     ap (λ (bs : List ℕ). four bs (4 * suc n)) (append_assoc (written x) (encoded xs) more)
     ∙ ap (four (written x ++ (encoded xs ++ more))) e ∙ written_behind x (encoded xs ++ more) (4 * n) ∙ number-back xs more n (omega arith) (λ i. f (suc i))
 
-same : (a b : Amounts) → a.shifts ≡ b.shifts → a.peels ≡ b.peels → a ≡ b
+pub same : (a b : Amounts) → a.shifts ≡ b.shifts → a.peels ≡ b.peels → a ≡ b
 same a b e f =
     ap (λ (xs : List ℕ). record { shifts = xs; peels = a.peels }) e ∙ ap (λ (xs : List ℕ). record { shifts = b.shifts; peels = xs }) f
 
@@ -152,39 +151,3 @@ module _ (s bs more : List ℕ) (room g : ℕ) (given : g ≢ 0) (w : Settings) 
   pub own-plan-same-named : (b : ℕ) → planned_for s (by_hand_of g bs more w) b ≡ planned_for s (without_plan w) b
   unfolding planned_for
   own-plan-same-named b = same-fitting (bad_number w b)
-
--- OF A PLAN BY HAND only as many bytes are looked at as it has; without one, none
-module _ (s : List ℕ) (w : Settings) (bs : List ℕ) (alike : (i : ℕ) → i < w.size → get_or w.plan i 0 ≡ get_or bs i 0) where
-  abbrev pub other_bytes : Settings
-  other_bytes = record { processors = w.processors; line = w.line; given = w.given; size = w.size; plan = bs }
-
-  number-alike : (n : ℕ) → 4 * n + 3 < w.size → number_at w.plan n ≡ number_at bs n
-  unfolding four two
-  number-alike n l = rw (alike (4 * n) (omega arith), alike (4 * n + 1) (omega arith), alike (4 * n + 2) (omega arith), alike (4 * n + 2 + 1) (omega arith))
-
-  hand-alike : (t : Table) → by_hand t w.size w.plan ≡ by_hand t w.size bs
-  unfolding by_hand
-  hand-alike t = go (ℕ_discrete w.size (8 * count t))
-    where
-      go : Dec (w.size ≡ 8 * count t) → by_hand t w.size w.plan ≡ by_hand t w.size bs
-      go (no n) = rw (ne_eqb w.size (8 * count t) n)
-      go (yes e) =
-          rw (eq-eqb w.size (8 * count t) e)
-          (ap (judged t) (same (amounts_in 2 0 (count t) w.plan) (amounts_in 2 0 (count t) bs)
-          (filled-same (count t) _ _ (λ k l. number-alike (2 * k + 0) (omega arith))) (filled-same (count t) _ _ (λ k l. number-alike (2 * k + 0 + 1) (omega arith)))))
-
-  fitting-alike : (wrong : Bool) → fitting wrong w (table s) ≡ fitting wrong other_bytes (table s)
-  unfolding fitting amounts_for
-  fitting-alike wrong = go (table s)
-    where
-      go : (a : Answer) → fitting wrong w a ≡ fitting wrong other_bytes a
-      go (refused r) = refl
-      go (accepted t) = rw (hand-alike t)
-
-  pub bytes-behind : planned s w ≡ planned s other_bytes
-  unfolding planned
-  bytes-behind = fitting-alike (bad_processors w)
-
-  pub bytes-behind-named : (b : ℕ) → planned_for s w b ≡ planned_for s other_bytes b
-  unfolding planned_for
-  bytes-behind-named b = fitting-alike (bad_number w b)
