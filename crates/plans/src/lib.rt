@@ -15,7 +15,6 @@ ghost use Rattle.plans.specs.Code.{Offered, Gives, Plans, refusing};
 ghost use Rattle.plans.specs.Checking.{asked};
 
 use amounts::Amounts;
-use arithmetic::{greater, lesser, minus};
 use blocks::{Axis, Span};
 use legality::Hand;
 use records::{STORE, Store};
@@ -64,10 +63,7 @@ fn refused(r: Refusal) -> Plan
 fn outside(most: u32, n: u32) -> bool
     ensures { result ≡ plans.outside most n }
 {
-    if n == 0 {
-        return true;
-    }
-    most < n
+    !(1..=most).contains(&n)
 }
 
 // Ground 10: P outside 1 to 64.
@@ -81,10 +77,7 @@ fn bad_processors(w: Settings) -> bool
 fn bad_number(w: Settings, processor: u32) -> bool
     ensures { result ≡ bad_number w processor }
 {
-    if bad_processors(w) {
-        return true;
-    }
-    w.processors <= processor
+    bad_processors(w) || w.processors <= processor
 }
 
 // Ground 17: W outside 1 to 64.
@@ -99,18 +92,15 @@ fn span_of(store: &Store) -> Span
     requires { Held store.now × Valid (table_in store.now) }
     ensures { result ≡ table_span (table_in store.now) }
 {
-    let loops = reader::loops_in(store);
     let mut low = reader::first_at(store, 0);
     let mut high: u32 = 0;
-    let mut k: usize = 0;
-    while k < loops {
-        low = lesser(low, reader::first_at(store, k));
-        high = greater(high, reader::last_at(store, k));
-        k += 1;
+    for k in 0..reader::loops_in(store) {
+        low = low.min(reader::first_at(store, k));
+        high = high.max(reader::last_at(store, k));
     }
     Span {
         first: low,
-        count: minus(high + 1, low),
+        count: (high + 1).saturating_sub(low),
     }
 }
 
