@@ -85,8 +85,7 @@ fn lacks_row(store: &Store, a: &Amounts, x: Reference, k: usize, r: usize) -> bo
     if reader::array_at(store, r) as usize != x.array {
         return false;
     }
-    reader::kind_at(store, r) < reader::CONSTANT
-        && lacks_between(store, a, x, reader::reference_at(store, k, r))
+    reader::is_reference(store, r) && lacks_between(store, a, x, reader::reference_at(store, k, r))
 }
 
 // The same of x, a destination, and any reference of loop k, which is another loop.
@@ -108,8 +107,7 @@ fn lacks_destination(store: &Store, a: &Amounts, j: usize, r: usize, k: usize) -
     requires j_bound { (j < count (table_in store.now)) × (r < start_at store.now (j + 1)) × (k < count (table_in store.now)) × (j ≢ k) }
     ensures { result ≡ destination_row store.now a.now j r k }
 {
-    reader::kind_at(store, r) == reader::DESTINATION
-        && lacks_loop(store, a, reader::reference_at(store, j, r), k)
+    reader::is_destination(store, r) && lacks_loop(store, a, reader::reference_at(store, j, r), k)
 }
 
 // The same of any destination of loop j, the last of which stands in row `last`, and any reference of loop k, which is another loop. In a loop of

@@ -1,6 +1,6 @@
 use mathlib.Core.Path.{◌∙◌, sym}
 use native.Mathlib.Omega.{arith}
-use borrow.Author.Tests.{le-ltb}
+use borrow.Author.Tests.{ltb-true, ltb-false}
 use Rattle.reader.specs.Store.{table_in}
 use Rattle.amounts.specs.Rows.{past-few}
 use Rattle.legality.specs.Code.{between}
@@ -15,8 +15,8 @@ returns-then-array_at-x c =
     let a = c.args in
     row_apart a.store.now a.a.now a.x a.k a.r (λ e. c.if-array_at-x.true (c.array_at.ensures ∙ sym e))
 
-pub kind_at-requires : goal.kind_at-requires
-kind_at-requires c = let p = c.requires in omega (arith, p.storing.1, past-few p.held _ p.storing.0.there)
+pub is_reference-requires : goal.is_reference-requires
+is_reference-requires c = let p = c.requires in omega (arith, p.storing.1, past-few p.held _ p.storing.0.there)
 
 pub reference_at-requires : goal.reference_at-requires
 reference_at-requires c = let p = c.requires in omega (arith, p.storing.1, past-few p.held _ p.storing.0.there)
@@ -30,19 +30,20 @@ lacks_between-requires c =
       held = p.held;
       reference_fits = (
         p.storing.0.fits,
-        reference-fits p.held a.k p.storing.0.there a.r p.storing.1 (omega (arith, c.kind_at.ensures, c.if-kind_at-lt-CONSTANT.true)),
+        reference-fits p.held a.k p.storing.0.there a.r p.storing.1 (ltb-true _ 2 (sym c.is_reference.ensures ∙ c.if-is_reference.true)),
         p.storing.0.other,
         touch-stores a.x _ p.storing.0.stores array,
       );
     }
 
-pub returns-then-kind_at-lt-CONSTANT : goal.returns-then-kind_at-lt-CONSTANT
-returns-then-kind_at-lt-CONSTANT c =
+pub returns-then-is_reference : goal.returns-then-is_reference
+returns-then-is_reference c =
     let a = c.args in
     row_here a.store.now (between (table_in a.store.now) a.a.now a.x) a.k a.r _
-    (omega (arith, c.kind_at.ensures, c.if-kind_at-lt-CONSTANT.true)) (rw c.reference_at.ensures at c.lacks_between.ensures)
+    (ltb-true _ 2 (sym c.is_reference.ensures ∙ c.if-is_reference.true)) (rw c.reference_at.ensures at c.lacks_between.ensures)
 
-pub returns-else-kind_at-lt-CONSTANT : goal.returns-else-kind_at-lt-CONSTANT
-returns-else-kind_at-lt-CONSTANT c =
+pub returns-else-is_reference : goal.returns-else-is_reference
+returns-else-is_reference c =
     let a = c.args in
-    rw (le-ltb c.kind_at.result 2 c.if-kind_at-lt-CONSTANT.false) (row-empty a.store.now (between (table_in a.store.now) a.a.now a.x) a.k a.r (omega (arith, c.kind_at.ensures, c.if-kind_at-lt-CONSTANT.false)))
+    rw c.if-is_reference.false
+    (row-empty a.store.now (between (table_in a.store.now) a.a.now a.x) a.k a.r (ltb-false _ 2 (sym c.is_reference.ensures ∙ c.if-is_reference.false)))
