@@ -4,6 +4,3 @@ use Rattle.serial.proofs.check_loops.Given as goal
 
 abbrev pub invariant-loop-k : goal.invariant-loop-k
 invariant-loop-k l = LoopInv l.store l.loops l.k
-
-abbrev pub decreases-loop-k : goal.decreases-loop-k
-decreases-loop-k l = l.loops - l.k

@@ -4,6 +4,3 @@ use Rattle.serial.proofs.references_in.Given as goal
 
 abbrev pub invariant-loop-row : goal.invariant-loop-row
 invariant-loop-row l = Counted l.store l.from l.past l.row l.n
-
-abbrev pub decreases-loop-row : goal.decreases-loop-row
-decreases-loop-row l = l.past - l.row
