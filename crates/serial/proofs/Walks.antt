@@ -32,7 +32,7 @@ use Rattle.reader.specs.ReadInto.{ReadInto}
 use Rattle.reader.specs.Held.{Held, count_held, few-loops, few-rows, rows-rise, row-held, opening-held, loop-held}
 use Rattle.reader.specs.Rows.{ref_in, row_refs, refs_from, refs_in, LastDestination}
 use Rattle.reader.specs.RowLaws.{row-reference, row-none, body-refers, refs-next, refs_end, refs-split, refs-up}
-use Rattle.std.specs.Prelude.{Option, None, Some, Result, Ok, Err}
+use Rattle.std.specs.Prelude.{None, Some, Result, Ok, Err}
 use Rattle.serial.specs.Serial.{Collision, pair, collides, hit, or_else, pair_hit, loop_hit, after_loop, serial_from, through, table}
 use Rattle.serial.specs.Rows.{collides_row, Partner, PartnerOrDestination}
 

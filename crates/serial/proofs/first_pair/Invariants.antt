@@ -1,4 +1,3 @@
-use Prim.Native.Nat.{◌+◌, ◌-◌}
 use Rattle.serial.proofs.Walks.{Lower}
 use Rattle.serial.proofs.first_pair.Given as goal
 

@@ -1,4 +1,4 @@
-use Prim.Native.Nat.{◌+◌, ◌-◌}
+use Prim.Native.Nat.{◌+◌}
 use Rattle.serial.proofs.Walks.{Passed}
 use Rattle.serial.proofs.partner.Given as goal
 

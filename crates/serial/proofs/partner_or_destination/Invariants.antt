@@ -1,4 +1,3 @@
-use Prim.Native.Nat.{◌-◌}
 use Rattle.serial.proofs.Walks.{Alone}
 use Rattle.serial.proofs.partner_or_destination.Given as goal
 
