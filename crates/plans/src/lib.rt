@@ -2,8 +2,7 @@
 // grounds 10, 17 and 11.
 #![tactic(auto)]
 
-ghost use Rattle.std.specs.Prelude.{◌≡◌, ◌≤◌, length, false, ◌<◌};
-ghost use Rattle.legality.specs.ByHand.{by_hand};
+ghost use Rattle.std.specs.Prelude.{◌≡◌, false, ◌<◌};
 ghost use Rattle.reader.specs.Store.{Sized, table_in};
 ghost use Rattle.reader.specs.Held.{Held};
 ghost use Rattle.serial.specs.Serial.{table};
@@ -81,18 +80,6 @@ fn span_of(store: &Store) -> Span
     }
 }
 
-// What a plan by hand tells, as a Result: until legality answers one.
-fn by_hand(bytes: &[u8], used: u32, store: &Store) -> Result<Amounts, Refusal>
-    requires { Held store.now × (128 ≤ length bytes.now) }
-    ensures { result ≡ result_of (λ a. a) (by_hand (table_in store.now) used bytes.now) }
-{
-    let h = legality::by_hand(bytes, used, store);
-    if h.refusal.ground != 0 {
-        return Err(h.refusal);
-    }
-    Ok(h.amounts)
-}
-
 // The plan by hand, if one is given, or what it is refused with. Where none is given, the numbers are not asked for.
 fn given(w: Settings, store: &Store) -> Result<Option<Amounts>, Refusal>
     requires { Held store.now }
@@ -101,7 +88,7 @@ fn given(w: Settings, store: &Store) -> Result<Option<Amounts>, Refusal>
     if w.given == 0 {
         return Ok(None);
     }
-    let amounts = by_hand(&w.plan, w.size, store)?;
+    let amounts = legality::by_hand(&w.plan, w.size, store)?;
     Ok(Some(amounts))
 }
 
