@@ -76,10 +76,6 @@ taken-touching t x y s p s' p' made (e, f) = rw (e, f, add-one made)
 pub taken-apart : (t : Table) (x y : Reference) (s p : List ℕ) (made : ℕ) → touch x y ≡ false → numbers_in s p (made + 1) ≡ take_up (graph t) x y (numbers_in s p made)
 taken-apart t x y s p made e = taken-touching t x y s p s p made (sym (raised-untouched t backward x y s e), sym (raised-untouched t forward x y p e))
 
--- a number that fits, with an amount, is no large one
-pub small-sum : (s : List ℕ) (j w d : ℕ) → Small 510 s → j < 16 → w ≡ get_or s j 0 → d ≤ 510 → w + d < 4294967296
-small-sum s j w d small few e l = omega (arith, small j)
-
 -- what a pair leaves fits
 pub raised-bounded : (t : Table) (x y : Reference) (s p : List ℕ) → x.offset ≤ 510 → ReferenceFits t y → Bounded s p
     → Bounded (raised_by (graph t) backward x y s) (raised_by (graph t) forward x y p)
