@@ -15,7 +15,7 @@ use Rattle.records.specs.History.{summary, lengths, advanced, blank}
 use Rattle.records.specs.Grounds.{tested}
 use Rattle.records.specs.Clear.{Room}
 use Rattle.records.proofs.ClearLaws.{clear_room}
-use Rattle.records.proofs.Outcome.{Whole, refused-ground, passed-whole, tested-same}
+use Rattle.records.proofs.Outcome.{Whole, passed-whole, tested-same}
 use Rattle.refusals.specs.declared.Refusal.{Refusal}
 use Rattle.std.specs.Prelude.{Ok, Err}
 use Rattle.refusals.specs.Refusals.{met}

@@ -1,12 +1,8 @@
 -- Laws of what reading into a store tells and leaves, by either arm of what is told.
 use Rattle.std.specs.Prelude.{ℕ, ◌≡◌, List, Result, Ok, Err}
-use Rattle.std.specs.Result.{MatchResult}
-use Rattle.std.proofs.Common.{sym, ap, ◌∙◌}
 use Rattle.refusals.specs.declared.Refusal.{Refusal}
-use Rattle.refusals.specs.Answers.{accepted, refused, result_of}
+use Rattle.refusals.specs.Answers.{result_of}
 use Rattle.reader.specs.Reading.{Answer}
-use Rattle.reader.specs.Store.{table_in}
-use Rattle.reader.specs.Held.{Held}
 use Rattle.reader.specs.ReadInto.{ReadInto}
 
 -- what is told is the answer's own

@@ -1,5 +1,3 @@
-use native.Mathlib.Omega.{arith}
-use Rattle.reader.specs.Held.{few-loops, count_held}
 use Rattle.serial.proofs.Walks.{loops-start, there, loop-passed, loop-collides, loops-done}
 use Rattle.serial.proofs.check_loops.Goals as goal
 

@@ -1,4 +1,3 @@
-use Prim.Native.Nat.{◌-◌}
 use Rattle.serial.proofs.Walks.{LoopInv}
 use Rattle.serial.proofs.check_loops.Given as goal
 

@@ -1,4 +1,3 @@
-use Prim.Native.Nat.{◌-◌}
 use Rattle.serial.proofs.Walks.{Counted}
 use Rattle.serial.proofs.references_in.Given as goal
 

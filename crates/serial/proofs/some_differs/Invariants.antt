@@ -1,4 +1,3 @@
-use Prim.Native.Nat.{◌-◌}
 use Rattle.serial.proofs.Offsets.{Agreeing}
 use Rattle.serial.proofs.some_differs.Given as goal
 

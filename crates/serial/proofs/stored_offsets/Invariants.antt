@@ -1,4 +1,4 @@
-use Prim.Native.Nat.{◌-◌, ◌≤◌}
+use Prim.Native.Nat.{◌≤◌}
 use Rattle.serial.specs.Rows.{StoredAt}
 use Rattle.serial.proofs.stored_offsets.Given as goal
 
