@@ -128,6 +128,7 @@ fn take_later(store: &Store, y: Reference, from: usize, walk: &mut Progress)
 
 // The walk past row r of loop k: a read's row and a destination's are a reference, other rows are none. There are `from` references in earlier
 // loops.
+#[tactic(auto, using(crate::proofs::Laws::row_bounds))]
 fn walk_row(store: &Store, k: usize, r: usize, from: usize, walk: &mut Progress)
     requires held { Held store.now × (k < count (table_in store.now)) × (from ≡ length (joined k (refs (table_in store.now)))) }
     requires k_bound { (start_at store.now k ≤ r) × (r < start_at store.now (k + 1)) }
@@ -140,6 +141,7 @@ fn walk_row(store: &Store, k: usize, r: usize, from: usize, walk: &mut Progress)
 }
 
 // The walk past the references of loop k, row by row. Of the shifts and peels it changes those of loop k.
+#[tactic(auto, using(crate::proofs::Laws::row_bounds))]
 fn walk_loop(store: &Store, k: usize, walk: &mut Progress)
     requires held { Held store.now × (k < count (table_in store.now)) }
     requires walked { WalkedTo (table_in store.now) (joined k (refs (table_in store.now))) walk.old }
