@@ -15,8 +15,8 @@ ghost use Rattle.outputs.specs.Gives.{Gives};
 ghost use Rattle.facts.specs.Facts.{facts_of, facts_given};
 
 use numbers::PAIR;
-use outputs::{Outcome, refused, short, written};
 use records::{STORE, Store};
+use refusals::Refusal;
 use text::Writer;
 
 // How many bytes the three counts have.
@@ -68,27 +68,23 @@ fn write_facts(out: &mut [u8], bases: &[u32; 17], store: &Store) -> usize
 }
 
 // The facts of the table in a store, or 13.
-fn give_facts(out: &mut [u8], store: &Store) -> Outcome
+fn give_facts(out: &mut [u8], store: &Store) -> Result<usize, Refusal>
     requires { Held store.now × Valid (table_in store.now) }
     ensures { Gives (fitted (length out.old) (encoded (facts_of (table_in store.now)))) out.old out.new result }
 {
     let pairs = reader::arrays_in(store) + reader::loops_in(store);
     if out.len() < COUNTS + PAIR * pairs {
-        return short();
+        return Err(outputs::short());
     }
     let bases = iterations::bases_of(store).firsts;
-    let n = write_facts(out, &bases, store);
-    written(n)
+    Ok(write_facts(out, &bases, store))
 }
 
 // Facts of a table.
-pub fn facts(s: &[u8], out: &mut [u8]) -> Outcome
+pub fn facts(s: &[u8], out: &mut [u8]) -> Result<usize, Refusal>
     ensures { Gives (facts_given s.now (length out.old)) out.old out.new result }
 {
     let mut store = [0u32; STORE];
-    let r = serial::read_through(s, &mut store);
-    if r.ground != 0 {
-        return refused(r);
-    }
+    serial::read_through(s, &mut store)?;
     give_facts(out, &store)
 }

@@ -18,11 +18,11 @@ use records::Store;
 use text::Writer;
 
 // Block b, its first and its last index.
-fn put_block(out: &mut Writer, a: Axis, b: u32)
-    requires { (out.old.at < 2 ^ 32) × (b < a.blocks) × Cuttable a }
-    ensures { Puts out.old (block_line b (block_in a b)) 100 out.new }
+fn put_block(out: &mut Writer, a: &Axis, b: u32)
+    requires { (out.old.at < 2 ^ 32) × (b < a.now.blocks) × Cuttable a.now }
+    ensures { Puts out.old (block_line b (block_in a.now b)) 100 out.new }
 {
-    let r = blocks::block_of(a.first, a.count, a.line, a.blocks, b);
+    let r = a.block(b);
     let last = r.past.saturating_sub(1);
     out.put_line(b"block", &[b as usize, r.from as usize, last as usize]);
 }
@@ -41,10 +41,10 @@ fn put_range(out: &mut Writer, phase: u32, b: u32, k: usize, r: Range)
 }
 
 // The range of loop k in block b, whose indices are `blk`.
-fn put_part(out: &mut Writer, phase: u32, a: Axis, blk: Range, b: u32, k: usize, store: &Store)
+fn put_part(out: &mut Writer, phase: u32, a: &Axis, blk: Range, b: u32, k: usize, store: &Store)
     requires at_bound { out.old.at < 2 ^ 32 }
-    requires k_bound { (k < 16) × (b < a.blocks) × (last_at store.now k < 2 ^ 31) × (blk.from + column a.peels k < 2 ^ 32) × (blk.past + column a.peels k < 2 ^ 32) }
-    ensures { Puts out.old (range_line (phase_name phase) b k (part_at (part_in phase) a store.now blk b k)) 100 out.new }
+    requires k_bound { (k < 16) × (b < a.now.blocks) × (last_at store.now k < 2 ^ 31) × (blk.from + column a.now.peels k < 2 ^ 32) × (blk.past + column a.now.peels k < 2 ^ 32) }
+    ensures { Puts out.old (range_line (phase_name phase) b k (part_at (part_in phase) a.now store.now blk b k)) 100 out.new }
 {
     let part = ranges::part_in(phase);
     let r = ranges::range_at(part, a, blk, b, k, store);
@@ -52,20 +52,20 @@ fn put_part(out: &mut Writer, phase: u32, a: Axis, blk: Range, b: u32, k: usize,
 }
 
 // The ranges of the loops in block b.
-fn put_block_parts(out: &mut Writer, phase: u32, a: Axis, b: u32, store: &Store)
-    requires { (out.old.at < 2 ^ 31) × (b < a.blocks) × Laid a store.now }
-    ensures { Puts out.old (each (loops_in store.now) (λ k. range_line (phase_name phase) b k (range_of phase a store.now b k))) 1600 out.new }
+fn put_block_parts(out: &mut Writer, phase: u32, a: &Axis, b: u32, store: &Store)
+    requires { (out.old.at < 2 ^ 31) × (b < a.now.blocks) × Laid a.now store.now }
+    ensures { Puts out.old (each (loops_in store.now) (λ k. range_line (phase_name phase) b k (range_of phase a.now store.now b k))) 1600 out.new }
 {
-    let blk = blocks::block_of(a.first, a.count, a.line, a.blocks, b);
+    let blk = a.block(b);
     for k in 0..reader::loops_in(store) {
         put_part(out, phase, a, blk, b, k, store);
     }
 }
 
 // The ranges of a phase, by block and within it by loop.
-fn put_parts(out: &mut Writer, phase: u32, a: Axis, store: &Store)
-    requires { (out.old.at < 2 ^ 30) × Laid a store.now }
-    ensures { Puts out.old (range_lines (phase_name phase) a.blocks (loops_in store.now) (range_of phase a store.now)) 102400 out.new }
+fn put_parts(out: &mut Writer, phase: u32, a: &Axis, store: &Store)
+    requires { (out.old.at < 2 ^ 30) × Laid a.now store.now }
+    ensures { Puts out.old (range_lines (phase_name phase) a.now.blocks (loops_in store.now) (range_of phase a.now store.now)) 102400 out.new }
 {
     for b in 0..a.blocks {
         put_block_parts(out, phase, a, b, store);
@@ -73,9 +73,9 @@ fn put_parts(out: &mut Writer, phase: u32, a: Axis, store: &Store)
 }
 
 // The loops, with their shifts and their peels.
-fn put_loops(out: &mut Writer, a: Axis, store: &Store)
-    requires { (out.old.at < 2 ^ 30) × Laid a store.now }
-    ensures { Puts out.old (each (loops_in store.now) (λ k. loop_line k (column a.shifts k) (column a.peels k))) 1600 out.new }
+fn put_loops(out: &mut Writer, a: &Axis, store: &Store)
+    requires { (out.old.at < 2 ^ 30) × Laid a.now store.now }
+    ensures { Puts out.old (each (loops_in store.now) (λ k. loop_line k (column a.now.shifts k) (column a.now.peels k))) 1600 out.new }
 {
     for k in 0..reader::loops_in(store) {
         out.put_line(b"loop", &[k, a.shifts[k] as usize, a.peels[k] as usize]);
@@ -83,9 +83,9 @@ fn put_loops(out: &mut Writer, a: Axis, store: &Store)
 }
 
 // The blocks.
-fn put_blocks(out: &mut Writer, a: Axis)
-    requires { (out.old.at < 2 ^ 30) × (a.blocks ≤ 64) × Cuttable a }
-    ensures { Puts out.old (each a.blocks (λ b. block_line b (block_in a b))) 6400 out.new }
+fn put_blocks(out: &mut Writer, a: &Axis)
+    requires { (out.old.at < 2 ^ 30) × (a.now.blocks ≤ 64) × Cuttable a.now }
+    ensures { Puts out.old (each a.now.blocks (λ b. block_line b (block_in a.now b))) 6400 out.new }
 {
     for b in 0..a.blocks {
         put_block(out, a, b);
@@ -93,9 +93,9 @@ fn put_blocks(out: &mut Writer, a: Axis)
 }
 
 // The listing of a plan, for the table in the store, and the two counts of sweeps.
-pub fn write_listing(out: &mut [u8], axis: Axis, store: &Store, before: u32, after: u32) -> usize
-    requires { Laid axis store.now }
-    ensures { Whole out.old (listing (table_in store.now) (fusion_in axis) before after) 212900 out.new result }
+pub fn write_listing(out: &mut [u8], axis: &Axis, store: &Store, before: u32, after: u32) -> usize
+    requires { Laid axis.now store.now }
+    ensures { Whole out.old (listing (table_in store.now) (fusion_in axis.now) before after) 212900 out.new result }
 {
     let mut lines = Writer::new(out);
     put_loops(&mut lines, axis, store);

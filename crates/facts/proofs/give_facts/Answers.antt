@@ -17,4 +17,4 @@ returns c =
     let st = a.store.now in
     let size = facts-size st c.requires.0 _ _ c.arrays_in.ensures c.loops_in.ensures in
     rw c.written.ensures
-    (numbers-put (facts_of (table_in st)) a.out.now _ size c.if-out-pairs.false c.write_facts-n.ensures)
+    (numbers-put (facts_of (table_in st)) a.out.now _ size c.if-out-pairs.false c.write_facts.ensures)
