@@ -16,5 +16,4 @@ returns c =
     let a = c.args in
     let st = a.store.now in
     let size = facts-size st c.requires.0 _ _ c.arrays_in.ensures c.loops_in.ensures in
-    rw c.written.ensures
-    (numbers-put (facts_of (table_in st)) a.out.now _ size c.if-out-pairs.false c.write_facts.ensures)
+    numbers-put (facts_of (table_in st)) a.out.now _ size c.if-out-pairs.false c.write_facts.ensures
