@@ -1,3 +1,4 @@
+use Rattle.std.proofs.lemmas.Result.{err_from_is_err_and}
 use Rattle.serial.specs.Serial.{table}
 use Rattle.entries.specs.Entries.{amounts, amounts_of}
 use Rattle.numbers.specs.AskedLaws.{entry-refused, entry-given}
@@ -5,7 +6,9 @@ use Rattle.entries.proofs.shifts_and_peels.Goals as goal
 
 pub returns-in_err-read_through : goal.returns-in_err-read_through
 unfolding amounts
-returns-in_err-read_through c = entry-refused (table c.args.s.now) amounts_of c.args.out.now _ c.in_err-read_through.ensures
+returns-in_err-read_through c =
+    let p = err_from_is_err_and c.from_residual.result c.from_residual.ensures.1 in
+    rw (p.1, p.2) (entry-refused (table c.args.s.now) amounts_of c.args.out.now _ c.in_err-read_through.ensures)
 
 pub returns : goal.returns
 unfolding amounts

@@ -1,3 +1,4 @@
+use Rattle.std.proofs.lemmas.Result.{err_from_is_err_and}
 use Rattle.serial.specs.Serial.{table}
 use mathlib.Core.List.{[], ◌∷◌}
 use Rattle.sweeps.specs.Sweeps.{before, after}
@@ -7,7 +8,9 @@ use Rattle.entries.proofs.sweeps.Goals as goal
 
 pub returns-in_err-read_through : goal.returns-in_err-read_through
 unfolding sweeps_given
-returns-in_err-read_through c = entry-refused (table c.args.s.now) (λ t. before t ∷ after t ∷ []) c.args.out.now _ c.in_err-read_through.ensures
+returns-in_err-read_through c =
+    let p = err_from_is_err_and c.from_residual.result c.from_residual.ensures.1 in
+    rw (p.1, p.2) (entry-refused (table c.args.s.now) (λ t. before t ∷ after t ∷ []) c.args.out.now _ c.in_err-read_through.ensures)
 
 pub returns : goal.returns
 unfolding sweeps_given
