@@ -19,7 +19,7 @@ use amounts::Amounts;
 use arithmetic::{above, narrow, wide};
 use model::Reference;
 use records::Store;
-use refusals::{PLAN, Refusal, UNMET};
+use refusals::{Ground, Refusal};
 
 // No shift and no peel of a plan by hand is above it.
 const MOST: u32 = 10000;
@@ -304,13 +304,13 @@ fn judged(a: Amounts, store: &Store) -> Refusal
     ensures { result ≡ refusal_of (judged_in (table_in store.now) a) }
 {
     if too_large(a) {
-        return Refusal::met(PLAN, 0);
+        return Refusal::met(Ground::Plan, 0);
     }
     let ss = a.shifts;
     let ps = a.peels;
     let n = least_unmet(store, &ss, &ps);
     if n < NO_PAIR {
-        return Refusal::naming(UNMET, n / 16, n % 16, 0);
+        return Refusal::naming(Ground::Unmet, n / 16, n % 16, 0);
     }
     Refusal::none()
 }
@@ -322,7 +322,7 @@ pub fn by_hand(bytes: &[u8], used: u32, store: &Store) -> Hand
 {
     let loops = reader::loops_in(store);
     if wide(used) != 8 * loops {
-        return without(Refusal::met(PLAN, 0));
+        return without(Refusal::met(Ground::Plan, 0));
     }
     let a = read_amounts(bytes, 2, 0, loops);
     let r = judged(a, store);

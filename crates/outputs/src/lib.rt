@@ -5,7 +5,7 @@ ghost use Rattle.std.specs.Prelude.{◌≡◌};
 ghost use Rattle.refusals.specs.Refusals.{met};
 ghost use Rattle.outputs.specs.Gives.{refusing, writing};
 
-use refusals::{BUFFER, Refusal};
+use refusals::{Ground, Refusal};
 
 // The refusal, and how many bytes are written.
 #[derive(Clone, Copy)]
@@ -28,7 +28,7 @@ pub fn refused(r: Refusal) -> Outcome
 pub fn short() -> Outcome
     ensures { result ≡ refusing (met 13 0) }
 {
-    refused(Refusal::met(BUFFER, 0))
+    refused(Refusal::met(Ground::Buffer, 0))
 }
 
 // No refusal, and n bytes.

@@ -19,7 +19,7 @@ use arithmetic::{greater, lesser, minus};
 use blocks::{Axis, Span};
 use legality::Hand;
 use records::{STORE, Store};
-use refusals::{LINE, PROCESSORS, Refusal, SHORT};
+use refusals::{Ground, Refusal};
 
 const MOST_PROCESSORS: u32 = 64;
 
@@ -146,7 +146,7 @@ fn plan_read(w: Settings, hand: Amounts, store: &Store) -> Plan
     let span = span_of(store);
     let threshold = amounts::threshold_of(found) as u32;
     if blocks::short(span.count, w.line, w.processors, threshold) {
-        return refused(Refusal::met(SHORT, 0));
+        return refused(Refusal::met(Ground::Short, 0));
     }
     let shifts = found.shifts;
     let peels = found.peels;
@@ -178,10 +178,10 @@ fn plan_unless(s: &[u8], wrong: bool, w: Settings, store: &mut Store) -> Plan
         return refused(hand.refusal);
     }
     if wrong {
-        return refused(Refusal::met(PROCESSORS, 0));
+        return refused(Refusal::met(Ground::Processors, 0));
     }
     if bad_line(w) {
-        return refused(Refusal::met(LINE, 0));
+        return refused(Refusal::met(Ground::Line, 0));
     }
     plan_read(w, hand.amounts, store)
 }

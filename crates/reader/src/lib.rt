@@ -13,7 +13,7 @@ ghost use Rattle.reader.specs.ReadInto.{ReadInto};
 use arithmetic::{narrow, wide};
 use model::Reference;
 use records::{MOST_ROWS, ROW, ROWS_AT, Record, Store, Summary, Tested};
-use refusals::{Refusal, TAIL};
+use refusals::{Ground, Refusal};
 
 // The places of a store's parts.
 const FIRSTS_AT: usize = 16;
@@ -221,7 +221,7 @@ pub fn read_table(s: &[u8], store: &mut Store) -> Refusal
             }
             Tested::Ended(n) => {
                 if n < s.len() {
-                    return Refusal::met(TAIL, n);
+                    return Refusal::met(Ground::Tail, n);
                 }
                 put_counts(t.arrays, t.loops, store);
                 return Refusal::none();

@@ -22,7 +22,7 @@ use layouts::{ALL_LISTS, LISTS};
 use plans::Settings;
 use ranges::PHASES;
 use records::{STORE, Store};
-use refusals::{MEMORY, Refusal};
+use refusals::{Ground, Refusal};
 use stepping::Report;
 use steps::Counts;
 
@@ -139,7 +139,7 @@ fn run_planned(a: Axis, order: &[u8], store: &Store, memory: &mut [f64]) -> Ran
     let b = iterations::bases_of(store);
     let bases = b.firsts;
     if memory.len() != wide(bases[16]) {
-        let r = Refusal::met(MEMORY, 0);
+        let r = Refusal::met(Ground::Memory, 0);
         return Ran {
             refusal: r,
             idle: 0,

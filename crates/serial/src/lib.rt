@@ -17,7 +17,7 @@ use arithmetic::wide;
 use model::Reference;
 use overlap::overlaps;
 use records::{STORE, Store};
-use refusals::{Refusal, SERIAL};
+use refusals::{Ground, Refusal};
 
 // Whether two references of a loop meet in two different iterations, one of them storing; and which: their numbers among the loop's references,
 // which are counted from 0 in byte order, the lower one first.
@@ -254,7 +254,7 @@ fn check_loops(store: &Store) -> Refusal
         let hit = loop_hit(k, store);
         match hit {
             Collision::Nothing => k += 1,
-            Collision::Pair(m, n) => return Refusal::naming(SERIAL, k, m, n),
+            Collision::Pair(m, n) => return Refusal::naming(Ground::Serial, k, m, n),
         }
     }
     Refusal::none()

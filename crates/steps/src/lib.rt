@@ -23,7 +23,7 @@ use layouts::LISTS;
 use plans::Settings;
 use ranges::{PHASE, PHASES};
 use records::{STORE, Store};
-use refusals::{MEMORY, PROCESSORS, Refusal, STATE};
+use refusals::{Ground, Refusal};
 use stepping::Report;
 
 // How many iterations each processor has done.
@@ -98,7 +98,7 @@ impl Counts {
         ensures { (w : Work Iteration) → Lent w processors b ends.now lists.now at store.now bases.now → Leaves (called w (table_in store.now) b self.done memory.old) result.counts.done memory.new result.report }
     {
         if processors <= b {
-            return self.refused(Refusal::met(PROCESSORS, 0));
+            return self.refused(Refusal::met(Ground::Processors, 0));
         }
         let report = next_of(&self.done, b, processors, ends, lists, at, store);
         if let Report::Performed { number, index } = report {
@@ -119,12 +119,12 @@ impl Counts {
         let bases = iterations::bases_of(store);
         let firsts = bases.firsts;
         if memory.len() != wide(firsts[16]) {
-            return self.refused(Refusal::met(MEMORY, 0));
+            return self.refused(Refusal::met(Ground::Memory, 0));
         }
         let mut ends = [0u32; ENDS];
         layouts::put_ends(a, store, &mut ends);
         if barriers::wrong_state(&self.done, &ends, a.blocks, PHASES) {
-            return self.refused(Refusal::met(STATE, 0));
+            return self.refused(Refusal::met(Ground::State, 0));
         }
         let mut lists = [0u32; LISTS];
         layouts::put_lists(a, b, store, &mut lists[..], 0);
