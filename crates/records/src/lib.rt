@@ -79,6 +79,7 @@ pub enum Tested {
 }
 
 // How many numbers an operation takes.
+#[tactic(auto, unfolding(crate::specs::History::operands))]
 pub fn operands_of(o: u32) -> u32
     ensures { result ≡ operands o }
 {
@@ -87,6 +88,7 @@ pub fn operands_of(o: u32) -> u32
 
 impl Summary {
     // Before the first record: no body is unfinished, and no loop has room.
+    #[tactic(auto, unfolding(crate::specs::History::blank))]
     pub fn blank() -> Self
         ensures { result ≡ blank }
     {
@@ -102,6 +104,7 @@ impl Summary {
         }
     }
 
+    #[tactic(auto, unfolding(crate::specs::History::with_array))]
     fn with_array(self, n: u32) -> Self
         requires { (self.arrays < 16) × (self.elements + n ≤ 262144) }
         ensures { result ≡ with_array n self }
@@ -113,6 +116,7 @@ impl Summary {
         }
     }
 
+    #[tactic(auto, unfolding(crate::specs::History::with_loop))]
     fn with_loop(self, first: u32, last: u32) -> Self
         requires { self.loops < 16 }
         ensures { result ≡ with_loop first last self }
@@ -128,6 +132,7 @@ impl Summary {
         }
     }
 
+    #[tactic(auto, unfolding(crate::specs::History::with_item))]
     fn with_item(self, waiting: u32) -> Self
         requires { self.items < 32 }
         ensures { result ≡ with_item waiting self }
@@ -139,6 +144,7 @@ impl Summary {
         }
     }
 
+    #[tactic(auto, unfolding(crate::specs::History::with_statement))]
     fn with_statement(self) -> Self
         requires { self.statements < 4 }
         ensures { result ≡ with_statement self }
