@@ -54,22 +54,6 @@ fn offset_at(s: &[u8], at: usize) -> u32
     u32::from(two_at(s, at).wrapping_add(255))
 }
 
-#[tactic(auto, unfolding(records::specs::Bytes::kind_of))]
-fn kind_of(b: u8) -> Kind
-    ensures { result ≡ kind_of b }
-{
-    match b {
-        1 => Kind::Array,
-        2 => Kind::Loop,
-        3 => Kind::Read,
-        4 => Kind::Constant,
-        5 => Kind::Operation,
-        6 => Kind::End,
-        7 => Kind::Statement,
-        _ => Kind::Unknown,
-    }
-}
-
 // The body lengths, by kind: bytes, since the compiler puts them on the stack for each record.
 const BODY_LENGTHS: [u8; 8] = [0, 4, 11, 3, 4, 1, 0, 3];
 
@@ -77,10 +61,9 @@ const BODY_LENGTHS: [u8; 8] = [0, 4, 11, 3, 4, 1, 0, 3];
 fn body_length(b: u8) -> usize
     ensures { result ≡ body_length b }
 {
-    match BODY_LENGTHS.get(b as usize) {
-        Some(n) => *n as usize,
-        None => 0,
-    }
+    BODY_LENGTHS
+        .get(usize::from(b))
+        .map_or(0, |n| usize::from(*n))
 }
 
 // The grounds that need no body: 2, 6 for a body left unfinished, and 4.
@@ -332,7 +315,7 @@ fn record_at(s: &[u8], at: usize, t: Summary, lens: &Store) -> Result<(Record, u
     let Some(b) = s.get(at) else {
         return Err(Ground::Torn);
     };
-    let k = kind_of(*b);
+    let k = Kind::from(*b);
     early_ground(k, t)?;
     let n = body_length(*b);
     if s.len() < at + 1 + n {

@@ -3,6 +3,7 @@
 
 ghost use Rattle.std.specs.Prelude.{◌≡◌, ◌+◌, ◌<◌, ◌≤◌};
 ghost use Rattle.records.specs.History.{operands, with_array, with_loop, with_item, with_statement, advanced, blank};
+ghost use Rattle.records.specs.Bytes.{kind_of};
 ghost use Rattle.records.specs.Clear.{Room};
 
 use refusals::Refusal;
@@ -30,6 +31,25 @@ pub enum Kind {
     Operation,
     End,
     Statement,
+}
+
+// The kind that a byte stands for.
+impl From<u8> for Kind {
+    ghost from_gives = { λ b k. k ≡ kind_of b };
+
+    #[tactic(auto, unfolding(crate::specs::Bytes::kind_of))]
+    fn from(b: u8) -> Kind {
+        match b {
+            1 => Kind::Array,
+            2 => Kind::Loop,
+            3 => Kind::Read,
+            4 => Kind::Constant,
+            5 => Kind::Operation,
+            6 => Kind::End,
+            7 => Kind::Statement,
+            _ => Kind::Unknown,
+        }
+    }
 }
 
 // A record with its fields. An offset o is kept as o + 255.
