@@ -82,11 +82,11 @@ fn sets_of(k: usize, store: &Store) -> Sets
         written: 0,
     };
     for row in reader::start_at(store, k)..reader::start_at(store, k + 1) {
-        let kind = reader::kind_at(store, row);
+        let q = reader::array_at(store, row) as usize;
         s = s.with_row(
-            kind < reader::CONSTANT,
-            kind == reader::DESTINATION,
-            reader::array_at(store, row) as usize,
+            reader::is_reference(store, row),
+            reader::is_destination(store, row),
+            q,
         );
     }
     s

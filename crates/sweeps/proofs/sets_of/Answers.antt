@@ -20,20 +20,24 @@ start_at-row-end-requires c = omega (arith, loop-few c.requires.0 c.args.k c.req
 pub loop-row-init : goal.loop-row-init
 loop-row-init c = rw c.start_at-row.ensures (sets-start c.args.store.now c.args.k c.requires.0 c.requires.1)
 
-pub kind_at-kind-requires : goal.kind_at-kind-requires
-kind_at-kind-requires c =
+pub is_reference-requires : goal.is_reference-requires
+is_reference-requires c =
     omega (arith, (rows-past c.requires.0 c.args.k c.requires.1 c.start_at-row-end.result c.start_at-row-end.ensures).0, c.loop-row-test.true)
 
-pub array_at-requires : goal.array_at-requires
-array_at-requires c =
+pub array_at-q-requires : goal.array_at-q-requires
+array_at-q-requires c =
+    omega (arith, (rows-past c.requires.0 c.args.k c.requires.1 c.start_at-row-end.result c.start_at-row-end.ensures).0, c.loop-row-test.true)
+
+pub is_destination-requires : goal.is_destination-requires
+is_destination-requires c =
     omega (arith, (rows-past c.requires.0 c.args.k c.requires.1 c.start_at-row-end.result c.start_at-row-end.ensures).0, c.loop-row-test.true)
 
 pub loop-row-preserved : goal.loop-row-preserved
 loop-row-preserved c =
     let l = c.loop-row in
     let s = c.args.store.now in
-    let e = rw (c.array_at.ensures, c.kind_at-kind.ensures) at c.with_row-s.ensures.touches in
-    let f = rw (c.array_at.ensures, c.kind_at-kind.ensures) at c.with_row-s.ensures.writes in
+    let e = rw (c.array_at-q.ensures, c.is_reference.ensures) at c.with_row-s.ensures.touches in
+    let f = rw (c.array_at-q.ensures, c.is_destination.ensures) at c.with_row-s.ensures.writes in
     sets-next s c.args.k l.row l.s l.invariant
     (omega (arith, (rows-past c.requires.0 c.args.k c.requires.1 c.start_at-row-end.result c.start_at-row-end.ensures).1, c.loop-row-test.true))
     c.with_row-s.result e (λ q. f q ∙ ap (λ (b : Bool). marked l.s.written q || b) (stored (kind_at s l.row) (eqb q (array_at s l.row))))
