@@ -2,16 +2,14 @@
 // grounds 10, 17 and 11.
 #![tactic(auto)]
 
-ghost use Rattle.std.specs.Prelude.{◌≡◌, ◌≤◌, length, false, ◌<◌, MatchResult};
-ghost use Rattle.legality.specs.ByHand.{by_hand};
-ghost use Rattle.plans.specs.declared.Settings.{Settings};
+ghost use Rattle.std.specs.Prelude.{◌≡◌, false, ◌<◌};
 ghost use Rattle.reader.specs.Store.{Sized, table_in};
 ghost use Rattle.reader.specs.Held.{Held};
 ghost use Rattle.serial.specs.Serial.{table};
 ghost use Rattle.grounds.specs.Accepted.{Valid};
 ghost use Rattle.blocks.specs.Span.{table_span};
 ghost use Rattle.plans.specs.Plans as plans;
-ghost use Rattle.refusals.specs.Answers.{accepted, refused, after, result_of};
+ghost use Rattle.refusals.specs.Answers.{accepted, after, result_of};
 ghost use Rattle.plans.specs.Plans.{bad_processors, bad_number, bad_line, amounts_for, fits, fitting, planned, planned_for};
 ghost use Rattle.plans.specs.Code.{Offered, Gives, Plans};
 ghost use Rattle.plans.specs.Checking.{plan_threshold};
@@ -82,29 +80,6 @@ fn span_of(store: &Store) -> Span
     }
 }
 
-// What reading tells, as a Result, and what a plan by hand tells: until serial and legality answer one.
-fn read_through(s: &[u8], store: &mut Store) -> Result<(), Refusal>
-    requires { Sized store.old }
-    ensures { MatchResult result (λ _. (table s.now ≡ accepted (table_in store.new)) × Held store.new) (λ e. table s.now ≡ refused e) }
-{
-    let r = serial::read_through(s, store);
-    if r.ground != 0 {
-        return Err(r);
-    }
-    Ok(())
-}
-
-fn by_hand(bytes: &[u8], used: u32, store: &Store) -> Result<Amounts, Refusal>
-    requires { Held store.now × (128 ≤ length bytes.now) }
-    ensures { result ≡ result_of (λ a. a) (by_hand (table_in store.now) used bytes.now) }
-{
-    let h = legality::by_hand(bytes, used, store);
-    if h.refusal.ground != 0 {
-        return Err(h.refusal);
-    }
-    Ok(h.amounts)
-}
-
 // The plan by hand, if one is given, or what it is refused with. Where none is given, the numbers are not asked for.
 fn given(w: Settings, store: &Store) -> Result<Option<Amounts>, Refusal>
     requires { Held store.now }
@@ -113,7 +88,7 @@ fn given(w: Settings, store: &Store) -> Result<Option<Amounts>, Refusal>
     if w.given == 0 {
         return Ok(None);
     }
-    let amounts = by_hand(&w.plan, w.size, store)?;
+    let amounts = legality::by_hand(&w.plan, w.size, store)?;
     Ok(Some(amounts))
 }
 
@@ -155,7 +130,7 @@ fn plan_unless(s: &[u8], wrong: bool, w: Settings, store: &mut Store) -> Result<
     requires { Sized store.old }
     ensures { Plans (fitting wrong w (table s.now)) result store.new }
 {
-    read_through(s, store)?;
+    serial::read_through(s, store)?;
     let hand = given(w, store)?;
     if wrong {
         return Err(Refusal::met(Ground::Processors, 0));

@@ -18,9 +18,6 @@ use overlap::overlaps;
 use records::{STORE, Store};
 use refusals::{Ground, Refusal};
 
-// No offset: each is at most 510.
-const NONE: u32 = 511;
-
 // Two references of a loop from first to last.
 fn collide(first: u32, last: u32, x: Reference, y: Reference) -> bool
     requires { (x.offset < 65536) × (y.offset < 65536) }
@@ -110,7 +107,7 @@ fn partner_or_destination(
 }
 
 // The offsets with one row more: a destination's sets that of its array.
-fn put_offset(store: &Store, row: usize, offsets: &mut [u32; 16])
+fn put_offset(store: &Store, row: usize, offsets: &mut [Option<u32>; 16])
     requires { row < 576 }
     ensures { offsets.new ≡ with_offset store.now row offsets.old }
 {
@@ -118,15 +115,15 @@ fn put_offset(store: &Store, row: usize, offsets: &mut [u32; 16])
         return;
     }
     let q = reader::array_at(store, row) as usize;
-    offsets[q] = reader::value_at(store, row);
+    offsets[q] = Some(reader::value_at(store, row));
 }
 
-// For each array an offset at which one of the rows from `from` up to `past` stores it, and NONE where none of them does.
-fn stored_offsets(store: &Store, from: usize, past: usize) -> [u32; 16]
+// For each array an offset at which one of the rows from `from` up to `past` stores it, if one of them does.
+fn stored_offsets(store: &Store, from: usize, past: usize) -> [Option<u32>; 16]
     requires { (from ≤ past) × (past ≤ 576) × ((r : ℕ) → r < past → Row store.now r) }
     ensures { StoredAt store.now from past result }
 {
-    let mut offsets = [NONE; 16];
+    let mut offsets = [None; 16];
     for row in from..past {
         put_offset(store, row, &mut offsets);
     }
@@ -134,19 +131,18 @@ fn stored_offsets(store: &Store, from: usize, past: usize) -> [u32; 16]
 }
 
 // Row `row` is a reference to an array that is stored, at another offset than that.
-fn row_differs(store: &Store, offsets: &[u32; 16], row: usize) -> bool
+fn row_differs(store: &Store, offsets: &[Option<u32>; 16], row: usize) -> bool
     requires { row < 576 }
     ensures { result ≡ differs store.now offsets.now row }
 {
-    let o = offsets[reader::array_at(store, row) as usize];
-    if o == NONE {
-        return false;
+    match offsets[reader::array_at(store, row) as usize] {
+        Some(o) => o != reader::value_at(store, row) && reader::is_reference(store, row),
+        None => false,
     }
-    o != reader::value_at(store, row) && reader::is_reference(store, row)
 }
 
 // Some row from `from` up to `past` is one.
-fn some_differs(store: &Store, offsets: &[u32; 16], from: usize, past: usize) -> bool
+fn some_differs(store: &Store, offsets: &[Option<u32>; 16], from: usize, past: usize) -> bool
     requires { (from ≤ past) × (past ≤ 576) }
     ensures { result ≡ some_from (differs store.now offsets.now) from (past - from) }
 {
