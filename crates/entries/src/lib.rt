@@ -210,7 +210,13 @@ fn write_ranges(out: &mut [u8], phase: u32, a: &Axis, b: u32, store: &Store) -> 
 }
 
 // The ranges of processor b in a phase, or 13.
-fn give_ranges(out: &mut [u8], phase: u32, a: &Axis, b: u32, store: &Store) -> Result<usize, Refusal>
+fn give_ranges(
+    out: &mut [u8],
+    phase: u32,
+    a: &Axis,
+    b: u32,
+    store: &Store,
+) -> Result<usize, Refusal>
     requires { Laid a.now store.now × (b < a.now.blocks) }
     ensures { Gives (fitted (length out.old) (encoded (ranges_of phase b (planned_in a.now store.now)))) out.old out.new result }
 {

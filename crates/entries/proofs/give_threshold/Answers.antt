@@ -16,14 +16,15 @@ returns-then-out-lt-NUMBER c =
 pub overflow_cast-x : goal.overflow_cast-x
 overflow_cast-x c =
     let m = c.amounts_of-a.ensures in
-    threshold-fits c.args.store.now _ _ c.requires.0 m.shifts_value m.peels_value c.requires.1 _ c.threshold_of.ensures
+    let l = threshold-fits c.args.store.now _ _ c.requires.0 m.shifts_value m.peels_value c.requires.1 _ c.threshold_of-x.ensures in
+    search rules
 
 pub returns : goal.returns
 returns c =
     let a = c.args in
     let x = threshold_of (table_in a.store.now) in
     let m = c.amounts_of-a.ensures in
-    let e = threshold-is a.store.now _ _ c.requires.0 m.shifts_value m.peels_value _ c.threshold_of.ensures in
+    let e = threshold-is a.store.now _ _ c.requires.0 m.shifts_value m.peels_value _ c.threshold_of-x.ensures in
     let p = one-put e (puts-first c.new-row.ensures.bytes c.new-row.ensures.place c.put_number.ensures) in
     let w = numbers-put (x ∷ []) a.out.now _ (one_size x) c.if-out-lt-NUMBER.false p in
     search rules

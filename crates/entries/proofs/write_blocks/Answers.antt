@@ -7,7 +7,7 @@ pub loop-b-init : goal.loop-b-init
 loop-b-init c = rowed-none
 
 pub loop-b-preserved : goal.loop-b-preserved
-loop-b-preserved c = rowed-next c.loop-b.invariant c.loop-b-test.true (rw c.block-r.ensures at c.put_pair.ensures)
+loop-b-preserved c = rowed-next c.loop-b.invariant c.loop-b-test.true (rw c.block-r.ensures at (rw c.saturating_sub-last.ensures at c.put_pair.ensures))
 
 pub returns : goal.returns
 returns c =

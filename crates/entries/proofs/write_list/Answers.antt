@@ -2,7 +2,7 @@ use native.Mathlib.Omega.{arith}
 use borrow.Author.Rules.{rules}
 use Rattle.text.specs.Puts.{puts-first}
 use Rattle.ranges.specs.Code.{list_of}
-use Rattle.numbers.specs.Pairs.{rowed-none, rowed-next, rowed-at, rowed-end}
+use Rattle.numbers.specs.Pairs.{rowed-none, rowed-next, rowed-end}
 use Rattle.entries.proofs.Laws.{list_put}
 use Rattle.entries.proofs.write_list.Goals as goal
 

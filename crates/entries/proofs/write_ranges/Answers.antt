@@ -2,7 +2,7 @@ use native.Mathlib.Omega.{arith}
 use Rattle.std.proofs.Common.{rules}
 use Rattle.text.specs.Puts.{puts-first}
 use Rattle.numbers.specs.Pairs.{rowed-none, rowed-next, rowed-end}
-use Rattle.ranges.specs.Listed.{few-loops, block-asks, part-asks}
+use Rattle.ranges.specs.Listed.{block-asks, part-asks}
 use Rattle.entries.proofs.write_ranges.Goals as goal
 
 pub block-blk-requires : goal.block-blk-requires
