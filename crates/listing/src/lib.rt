@@ -3,14 +3,14 @@
 #![tactic(auto)]
 
 ghost use Rattle.std.specs.Prelude.{◌+◌, ◌^◌, ◌≤◌, ◌<◌};
-ghost use Rattle.reader.specs.Store.{loops_in, last_at, table_in};
+ghost use Rattle.reader.specs.Store.{loops_in, table_in};
 ghost use Rattle.blocks.specs.Sums.{column};
 ghost use Rattle.blocks.specs.Code.{block_in, Cuttable};
 ghost use Rattle.lists.specs.Fusion.{fusion_in};
 ghost use Rattle.text.specs.Lent.{Whole};
 ghost use Rattle.text.specs.Puts.{Puts};
 ghost use Rattle.plans.specs.Code.{Laid};
-ghost use Rattle.ranges.specs.Code.{part_in, part_at, range_of};
+ghost use Rattle.ranges.specs.Code.{range_of};
 ghost use Rattle.listing.specs.Listing.{loop_line, block_line, range_line, each, range_lines, phase_name, listing, refusal_line};
 
 use blocks::{Axis, Range};
@@ -40,25 +40,16 @@ fn put_range(out: &mut Writer, phase: u32, b: u32, k: usize, r: Range)
     out.put_line(word, &[b as usize, k, r.from as usize, last as usize]);
 }
 
-// The range of loop k in block b, whose indices are `blk`.
-fn put_part(out: &mut Writer, phase: u32, a: &Axis, blk: Range, b: u32, k: usize, store: &Store)
-    requires at_bound { out.old.at < 2 ^ 32 }
-    requires k_bound { (k < 16) × (b < a.now.blocks) × (last_at store.now k < 2 ^ 31) × (blk.from + column a.now.peels k < 2 ^ 32) × (blk.past + column a.now.peels k < 2 ^ 32) }
-    ensures { Puts out.old (range_line (phase_name phase) b k (part_at (part_in phase) a.now store.now blk b k)) 100 out.new }
-{
-    let part = ranges::part_in(phase);
-    let r = ranges::range_at(part, a, blk, b, k, store);
-    put_range(out, phase, b, k, r);
-}
-
 // The ranges of the loops in block b.
 fn put_block_parts(out: &mut Writer, phase: u32, a: &Axis, b: u32, store: &Store)
     requires { (out.old.at < 2 ^ 31) × (b < a.now.blocks) × Laid a.now store.now }
     ensures { Puts out.old (each (loops_in store.now) (λ k. range_line (phase_name phase) b k (range_of phase a.now store.now b k))) 1600 out.new }
 {
+    let part = ranges::part_in(phase);
     let blk = a.block(b);
     for k in 0..reader::loops_in(store) {
-        put_part(out, phase, a, blk, b, k, store);
+        let r = ranges::range_at(part, a, blk, b, k, store);
+        put_range(out, phase, b, k, r);
     }
 }
 

@@ -9,20 +9,20 @@ block-blk-requires c = block-asks c.args.a.now c.args.store.now c.requires.2 c.a
 pub loop-k-init : goal.loop-k-init
 loop-k-init c = lines_start
 
-pub put_part-requires : goal.put_part-requires
-put_part-requires c =
+pub range_at-r-requires : goal.range_at-r-requires
+range_at-r-requires c =
     let a = c.args in
-    let p = c.requires in
-    let l = c.loop-k.invariant.puts.put in
     let n = c.loops_in-k-end.ensures in
-    let i = c.loop-k-test.true in
-    let few = few-loops a.a.now a.store.now p.2 in
-    record {
-      at_bound = omega (arith, l.place, l.few, p.0);
-      k_bound = part-asks a.a.now a.store.now p.2 a.b c.loop-k.k _ p.1 (omega arith) c.block-blk.ensures;
-    }
+    part-asks a.a.now a.store.now c.requires.2 a.b c.loop-k.k _ c.requires.1 (omega (arith, c.loop-k-test.true)) c.block-blk.ensures
+
+pub put_range-requires : goal.put_range-requires
+put_range-requires c =
+    let l = c.loop-k.invariant.puts.put in
+    let few = few-loops c.args.a.now c.args.store.now c.requires.2 in
+    omega (arith, l.place, l.few, c.requires.0, c.loops_in-k-end.ensures, c.loop-k-test.true)
 
 pub loop-k-preserved : goal.loop-k-preserved
 loop-k-preserved c =
     let n = c.loops_in-k-end.ensures in
-    lines_next c.loop-k.invariant (omega (arith, c.loop-k-test.true)) (rw c.block-blk.ensures at c.put_part.ensures)
+    let e = rw c.block-blk.ensures at (rw c.part_in-part.ensures at c.range_at-r.ensures) in
+    lines_next c.loop-k.invariant (omega (arith, c.loop-k-test.true)) (rw e at c.put_range.ensures)
