@@ -1,5 +1,5 @@
 -- What the code's walks make of the definitions: what is found with the last open phase, and the lowest that passes.
-use Prim.Native.Nat.{ℕ, suc, ◌+◌, ◌<◌}
+use Prim.Native.Nat.{ℕ, suc, ◌+◌, ◌≤◌, ◌<◌}
 use native.Mathlib.Omega.{arith}
 use native.Mathlib.Decide.{dec_lt}
 use native.Mathlib.Numerals.{add-one}
@@ -45,6 +45,21 @@ module _ (n : ℕ) (f : ℕ → Bool) where
       go : Dec (lowest n f < n) → is_some (below n (lowest n f)) ≡ some n f
       go (yes l) = rw (lt-ltb (lowest n f) n l) (sym (some-here n (lowest n f) f l (lowest-holds n f l)))
       go (no l) = rw (le-ltb (lowest n f) n (omega arith)) (sym (some-none n f (λ k i. lowest-none n k f (omega arith) i)))
+
+-- what is found is it
+pub below-some : (n m b : ℕ) → Some b ≡ below n m → (b ≡ m) × (b < n)
+below-some n m b e = go (dec_lt m n)
+  where
+    go : Dec (m < n) → (b ≡ m) × (b < n)
+    go (yes l) = let q : Some b ≡ Some m = rw (lt-ltb m n l) at e in let z : b ≡ m = cc in (z, omega arith)
+    go (no l) = let q : Some b ≡ None = rw (le-ltb m n (omega arith)) at e in absurd (let z : ◌≡◌ {A = ℕ} 0 1 = cc in omega (arith, z))
+
+pub below-none : (n m : ℕ) → None ≡ below n m → n ≤ m
+below-none n m e = go (dec_lt m n)
+  where
+    go : Dec (m < n) → n ≤ m
+    go (yes l) = let q : None ≡ Some m = rw (lt-ltb m n l) at e in absurd (let z : ◌≡◌ {A = ℕ} 0 1 = cc in omega (arith, z))
+    go (no l) = omega arith
 
 -- no count is below 0, so that no barrier stands before phase 0
 pub first-open : (P : ℕ) (counts : List ℕ) → false ≡ some P (λ b. ltb (column counts b) 0)

@@ -35,10 +35,10 @@ pub record Lent (w : Work Iteration) (P b : ℕ) (ends xs : List ℕ) (at : ℕ)
 -- as the code keeps it: P, the ends, the lists, the store and where the arrays begin are those of a layout
 module _ (w : Work Iteration) where
   abbrev pub PhasedIn : Layout → Type 0
-  PhasedIn l = Phased w l.barriers.processors l.barriers.ends.now
+  PhasedIn l = Phased w l.barriers.now.processors l.barriers.now.ends.now
 
   abbrev pub ListedIn : ℕ → Layout → ℕ → Type 0
   ListedIn b l at = Listed w b l.lists.now at l.store.now
 
   abbrev pub LentIn : ℕ → Layout → ℕ → Type 0
-  LentIn b l at = Lent w l.barriers.processors b l.barriers.ends.now l.lists.now at l.store.now l.bases.now
+  LentIn b l at = Lent w l.barriers.now.processors b l.barriers.now.ends.now l.lists.now at l.store.now l.bases.now

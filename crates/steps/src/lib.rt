@@ -40,11 +40,11 @@ pub struct Stepped {
 // A plan that is laid out, for all steps of a run: where its phases end, the lists of its processors, and its table with where each array begins.
 #[derive(Clone, Copy)]
 pub struct Layout<'a> {
-    pub barriers: Barriers<'a>,
+    pub barriers: &'a Barriers<'a>,
     pub lists: &'a [u32],
     pub store: &'a Store,
     pub bases: &'a [u32; 17],
-    ghost in_two_phases: { barriers.phases ≡ 2 },
+    ghost in_two_phases: { barriers.now.phases ≡ 2 },
 }
 
 impl Layout<'_> {
@@ -52,7 +52,7 @@ impl Layout<'_> {
 
     // What processor b's next call reports. Its lists stand from `at` on.
     fn next_of(&self, counts: &[u32; 64], b: u32, at: usize) -> Report
-        requires { ((w : Work Iteration) × PhasedIn w self.now × ListedIn w b self.now at) × (b < self.now.barriers.processors) }
+        requires { ((w : Work Iteration) × PhasedIn w self.now × ListedIn w b self.now at) × (b < self.now.barriers.now.processors) }
         ensures { (w : Work Iteration) → PhasedIn w self.now → ListedIn w b self.now at → result ≡ report_of (turns.next (iteration 0 0) w b counts.now) }
     {
         let barriers = self.barriers;
@@ -130,7 +130,7 @@ impl Counts {
         let mut lists = [0u32; LISTS];
         layouts::put_lists(a, b, store, &mut lists[..], 0);
         let layout = Layout {
-            barriers,
+            barriers: &barriers,
             lists: &lists[..],
             store,
             bases: &bases,

@@ -16,7 +16,7 @@ pub next_of-report-requires : goal.next_of-report-requires
 next_of-report-requires c =
     let a = c.args in
     let p = c.requires in
-    let l : a.b < a.layout.now.barriers.processors = omega (arith, c.if-layout-b.false) in
+    let l : a.b < a.layout.now.barriers.now.processors = omega (arith, c.if-layout-b.false) in
     ((p.0.0, p.0.1.phased, p.0.1.listed l), l)
 
 pub iterate-requires : goal.iterate-requires
@@ -24,7 +24,7 @@ iterate-requires c =
     let a = c.args in
     let p = c.requires in
     let h = p.0.1 in
-    let l : a.b < a.layout.now.barriers.processors = omega (arith, c.if-layout-b.false) in
+    let l : a.b < a.layout.now.barriers.now.processors = omega (arith, c.if-layout-b.false) in
     let x = c.next_of-report in
     let i = c.in-Performed in (
       table_in a.layout.now.store.now,
@@ -38,7 +38,7 @@ overflow_add-self c =
     let a = c.args in
     let p = c.requires in
     let h = p.0.1 in
-    let l : a.b < a.layout.now.barriers.processors = omega (arith, c.if-layout-b.false) in
+    let l : a.b < a.layout.now.barriers.now.processors = omega (arith, c.if-layout-b.false) in
     let x = c.next_of-report in
     let i = c.in-Performed in
     omega (arith, (performed-inside h l a.self.done x.result (x.ensures p.0.0 h.phased (h.listed l)) i.number i.index i.is).1)
@@ -46,7 +46,7 @@ overflow_add-self c =
 pub returns-in-Performed : goal.returns-in-Performed
 returns-in-Performed c =
     let a = c.args in
-    let l : a.b < a.layout.now.barriers.processors = omega (arith, c.if-layout-b.false) in
+    let l : a.b < a.layout.now.barriers.now.processors = omega (arith, c.if-layout-b.false) in
     let x = c.next_of-report in
     let i = c.in-Performed in
     λ w h. let told = x.ensures w h.phased (h.listed l) in
@@ -56,7 +56,7 @@ returns-in-Performed c =
 pub returns-in_default : goal.returns-in_default
 returns-in_default c =
     let a = c.args in
-    let l : a.b < a.layout.now.barriers.processors = omega (arith, c.if-layout-b.false) in
+    let l : a.b < a.layout.now.barriers.now.processors = omega (arith, c.if-layout-b.false) in
     let x = c.next_of-report in
     λ w h. leaves-other h l a.self.done x.result (x.ensures w h.phased (h.listed l)) a.memory.now
     (λ k i q. c.in_default.not-Performed k i q)

@@ -8,11 +8,11 @@ use Rattle.steps.proofs.Layout.next_of.Goals as goal
 use Rattle.steps.proofs.Layout.next_of.Goals.{After-phase_of-phase}
 
 -- the phase that its processor has come to
-come : (c : After-phase_of-phase) → c.phase_of-phase.result ≡ phase_by c.args.self.now.barriers.ends.now 2 c.args.b (column c.args.counts.now c.args.b)
+come : (c : After-phase_of-phase) → c.phase_of-phase.result ≡ phase_by c.args.self.now.barriers.now.ends.now 2 c.args.b (column c.args.counts.now c.args.b)
 come c =
     let a = c.args in
     c.phase_of-phase.ensures.is
-    ∙ ap (λ (k : ℕ). phase_by a.self.now.barriers.ends.now k a.b (column a.counts.now a.b)) a.self.now.in_two_phases
+    ∙ ap (λ (k : ℕ). phase_by a.self.now.barriers.now.ends.now k a.b (column a.counts.now a.b)) a.self.now.in_two_phases
 
 within : (c : After-phase_of-phase) → c.phase_of-phase.result < 2
 within c = omega (arith, c.phase_of-phase.ensures.within, c.args.self.now.in_two_phases)
