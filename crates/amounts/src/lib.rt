@@ -146,7 +146,7 @@ fn take_later(
     columns::put_reference(n, y, columns);
 }
 
-// The walk past row r of loop k: a read's row and a destination's, which are of the kinds below a constant's, are a reference, other rows are
+// The walk past row r of loop k: a read's row and a destination's are a reference, other rows are
 // none. There are `from` references in earlier loops and n before the row; answers how many there are then.
 fn walk_row(
     store: &Store,
@@ -164,7 +164,7 @@ fn walk_row(
     requires walked { Walked (table_in store.now) (past_row store.now k r) n columns.old (numbers_in shifts.old peels.old made.old) }
     ensures { Walked (table_in store.now) (past_row store.now k (r + 1)) result columns.new (numbers_in shifts.new peels.new made.new) }
 {
-    if reader::kind_at(store, r) < reader::CONSTANT {
+    if reader::is_reference(store, r) {
         let y = reader::reference_at(store, k, r);
         take_later(store, y, from, n, columns, made, shifts, peels);
         return n + 1;

@@ -1,18 +1,25 @@
 // How the indices are cut into blocks, which part of a loop each block has, and when a block is too short.
 #![tactic(auto)]
 
-ghost use Rattle.std.specs.Prelude.{◌≡◌, cond, suc, ◌+◌, ◌-◌, ◌*◌, ◌/◌, ◌%◌, ◌^◌, ◌≤◌, ◌<◌, min, max, eqb};
-ghost use Rattle.blocks.specs.Blocks.{lines, start, before, block, is_short};
-ghost use Rattle.blocks.specs.Parts.{fused_part, peeled_part};
-ghost use Rattle.blocks.specs.Code.{part_of};
-
-use arithmetic::{greater, lesser, minus};
+ghost use Rattle.std.specs.Prelude.{◌≡◌, ◌+◌, ◌-◌, ◌^◌, ◌≤◌, ◌<◌};
+ghost use Rattle.blocks.specs.Blocks.{lines, start, before, is_short};
+ghost use Rattle.blocks.specs.Sums.{column};
+ghost use Rattle.blocks.specs.Code.{part_of, block_in};
 
 // The indices from `from` up to `past`, `past` not among them.
 #[derive(Clone, Copy)]
 pub struct Range {
     pub from: u32,
     pub past: u32,
+}
+
+impl Range {
+    // How many indices it has.
+    pub fn length(self) -> u32
+        ensures { result ≡ self.past - self.from }
+    {
+        self.past.saturating_sub(self.from)
+    }
 }
 
 // `count` indices from `first` on.
@@ -33,6 +40,13 @@ pub struct Axis {
     pub peels: [u32; 16],
 }
 
+// Which part of a loop is meant.
+#[derive(Clone, Copy, Debug, PartialEq, Eq)]
+pub enum Part {
+    Fused,
+    Peeled,
+}
+
 // How many lines `count` indices have, the last one perhaps not full.
 fn lines_of(count: u32, line: u32) -> u32
     requires { (0 < line) × (count + line < 2 ^ 32) }
@@ -46,7 +60,7 @@ fn start_of(n: u32, blocks: u32, b: u32) -> u32
     requires { (0 < blocks) × (b ≤ blocks) }
     ensures { (result ≡ start n blocks b) × (result ≤ n) }
 {
-    b * (n / blocks) + lesser(b, n % blocks)
+    b * (n / blocks) + b.min(n % blocks)
 }
 
 // How many of `count` indices stand before block b of `blocks`.
@@ -55,18 +69,7 @@ fn before_of(count: u32, line: u32, blocks: u32, b: u32) -> u32
     ensures { (result ≡ before count line blocks b) × (result ≤ count) }
 {
     let n = start_of(lines_of(count, line), blocks, b);
-    lesser(line * n, count)
-}
-
-// Block b of `blocks` of the `count` indices from `first` on.
-pub fn block_of(first: u32, count: u32, line: u32, blocks: u32, b: u32) -> Range
-    requires { (b < blocks) × (0 < line) × (first + count + line < 2 ^ 32) }
-    ensures { result ≡ block first count line blocks b }
-{
-    Range {
-        from: first + before_of(count, line, blocks, b),
-        past: first + before_of(count, line, blocks, b + 1),
-    }
+    (line * n).min(count)
 }
 
 // Ground 11. The last block is the smallest, so it alone is held to the threshold.
@@ -74,106 +77,50 @@ pub fn short(count: u32, line: u32, blocks: u32, threshold: u32) -> bool
     requires { (0 < line) × (count + line < 2 ^ 32) }
     ensures { result ≡ is_short count line blocks threshold }
 {
-    if lines_of(count, line) < blocks {
-        return true;
-    }
-    if blocks < 2 {
-        return false;
-    }
-    count - before_of(count, line, blocks, blocks - 1) < threshold
+    lines_of(count, line) < blocks
+        || blocks >= 2 && count - before_of(count, line, blocks, blocks - 1) < threshold
 }
 
-fn fused_from(own: u32, from: u32, b: u32, peel: u32) -> u32
-    requires { from + peel < 2 ^ 32 }
-    ensures { result ≡ cond (eqb b 0) own (max (from + peel) own) }
-{
-    if b == 0 {
-        own
-    } else {
-        greater(from + peel, own)
-    }
-}
-
-fn fused_past(own: u32, past: u32, blocks: u32, b: u32, shift: u32) -> u32
-    requires { b < blocks }
-    ensures { result ≡ cond (eqb (b + 1) blocks) own (min (past - shift) own) }
-{
-    if b + 1 == blocks {
-        own
-    } else {
-        lesser(minus(past, shift), own)
-    }
-}
-
-// The fused part of a loop, with the bounds `own`, in block b of `blocks`.
-pub fn fused_part(own: Range, blk: Range, blocks: u32, b: u32, shift: u32, peel: u32) -> Range
-    requires { (b < blocks) × (blk.from + peel < 2 ^ 32) }
-    ensures { result ≡ fused_part own blk blocks b shift peel }
-{
-    Range {
-        from: fused_from(own.from, blk.from, b, peel),
-        past: fused_past(own.past, blk.past, blocks, b, shift),
-    }
-}
-
-// The part of a loop that block b of `blocks` peels.
-pub fn peeled_part(own: Range, blk: Range, blocks: u32, b: u32, shift: u32, peel: u32) -> Range
-    requires { (b < blocks) × (blk.past + peel < 2 ^ 32) }
-    ensures { result ≡ peeled_part own blk blocks b shift peel }
-{
-    if b + 1 == blocks {
-        Range { from: 0, past: 0 }
-    } else {
+impl Axis {
+    // The indices of block b.
+    pub fn block(&self, b: u32) -> Range
+        requires { (b < self.now.blocks) × (0 < self.now.line) × (self.now.first + self.now.count + self.now.line < 2 ^ 32) }
+        ensures { result ≡ block_in self.now b }
+    {
         Range {
-            from: greater(minus(blk.past, shift), own.from),
-            past: lesser(blk.past + peel, own.past),
+            from: self.first + before_of(self.count, self.line, self.blocks, b),
+            past: self.first + before_of(self.count, self.line, self.blocks, b + 1),
         }
     }
-}
 
-// Which part of a loop is meant.
-#[derive(Clone, Copy)]
-pub enum Part {
-    Fused,
-    Peeled,
-}
-
-// The part of a loop that block b has.
-fn part_of(
-    part: Part,
-    own: Range,
-    blk: Range,
-    processors: u32,
-    b: u32,
-    shift: u32,
-    peel: u32,
-) -> Range
-    requires { (b < processors) × (blk.from + peel < 2 ^ 32) × (blk.past + peel < 2 ^ 32) }
-    ensures { result ≡ part_of part own blk processors b shift peel }
-{
-    match part {
-        Part::Fused => fused_part(own, blk, processors, b, shift, peel),
-        Part::Peeled => peeled_part(own, blk, processors, b, shift, peel),
+    // The part of loop k, whose bounds are `own`, that block b has, whose indices are `blk`. The last block peels nothing.
+    pub fn part(&self, part: Part, own: Range, blk: Range, b: u32, k: usize) -> Range
+        requires block { b < self.now.blocks }
+        requires a_loop { k < 16 }
+        requires fits { (blk.from + column self.now.peels k < 2 ^ 32) × (blk.past + column self.now.peels k < 2 ^ 32) }
+        ensures { result ≡ part_of part own blk self.now.blocks b (column self.now.shifts k) (column self.now.peels k) }
+    {
+        let shift = self.shifts[k];
+        let peel = self.peels[k];
+        let last = b + 1 == self.blocks;
+        match part {
+            Part::Fused => Range {
+                from: if b == 0 {
+                    own.from
+                } else {
+                    (blk.from + peel).max(own.from)
+                },
+                past: if last {
+                    own.past
+                } else {
+                    blk.past.saturating_sub(shift).min(own.past)
+                },
+            },
+            Part::Peeled if last => Range { from: 0, past: 0 },
+            Part::Peeled => Range {
+                from: blk.past.saturating_sub(shift).max(own.from),
+                past: (blk.past + peel).min(own.past),
+            },
+        }
     }
-}
-
-// The same for a loop from first to last.
-pub fn part_between(
-    part: Part,
-    first: u32,
-    last: u32,
-    blk: Range,
-    processors: u32,
-    b: u32,
-    shift: u32,
-    peel: u32,
-) -> Range
-    requires { (b < processors) × (last < 2 ^ 31) × (blk.from + peel < 2 ^ 32) × (blk.past + peel < 2 ^ 32) }
-    ensures { result ≡ part_of part (record { from = first; past = suc last }) blk processors b shift peel }
-{
-    let own = Range {
-        from: first,
-        past: last + 1,
-    };
-    part_of(part, own, blk, processors, b, shift, peel)
 }

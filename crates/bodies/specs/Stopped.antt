@@ -1,18 +1,18 @@
 -- What working a row gives, and the row at which the items of a statement end.
-use Rattle.std.specs.Prelude.{ℕ, ◌-◌, ◌≤◌, ◌<◌, ◌≡◌, List, length, Float}
+use Rattle.std.specs.Prelude.{ℕ, ◌-◌, ◌≤◌, ◌<◌, ◌≡◌, Bool, true, false, List, length, Float}
 use Rattle.model.specs.Bodies.{worked}
-use Rattle.reader.specs.Store.{kind_at, item_of, statements_from}
-use Rattle.bodies.specs.declared.Step.{Step}
-use Rattle.bodies.specs.declared.Step.TheVariants.{Item, Destination}
-use Rattle.bodies.specs.Stack.{tops}
+use Rattle.reader.specs.Store.{kind_at, item_at, statements_from}
+use Rattle.bodies.specs.declared.Waiting.{Waiting}
+use Rattle.bodies.specs.Stack.{waiting}
 use Rattle.bodies.specs.Workable.{Based, next}
 
--- a row of kind k, array q and value v, in iteration i on the memory m: first the n lowest of the values vs wait, and then the values are `after`
-module _ (bs : List ℕ) (i : ℕ) (m : List Float) (k q v : ℕ) (vs : List Float) (n : ℕ) (after : List Float) where
-  abbrev pub Stepped : Step → Type 0
-  Stepped (Item e) =
-      (k ≡ 1 → ⊥) × (length after ≡ 8) × (e ≡ next (item_of k q v) n) × ((ns : List ℕ) → Based bs ns → tops after e ≡ worked ns i m (item_of k q v) (tops vs n))
-  Stepped Destination = (k ≡ 1) × (after ≡ vs)
+-- row r, in iteration i on the memory m, where w waits: an item is worked, and then `after` waits; a destination is none, and nothing is done
+module _ (bs : List ℕ) (i : ℕ) (m : List Float) (c : List ℕ) (r : ℕ) (w after : Waiting) where
+  abbrev pub Stepped : Bool → Type 0
+  Stepped true =
+      (kind_at c r ≡ 1 → ⊥) × (length after.values ≡ 8) × (after.count ≡ next (item_at c r) w.count)
+      × ((ns : List ℕ) → Based bs ns → waiting after ≡ worked ns i m (item_at c r) (waiting w))
+  Stepped false = (kind_at c r ≡ 1) × (after ≡ w)
 
 -- rows that begin with a destination's, if there are any
 abbrev pub Opens : List ℕ → ℕ → ℕ → Type 0

@@ -6,26 +6,20 @@ ghost use Rattle.std.specs.Float.{nan, binary64};
 ghost use Rattle.std.specs.Float.Ieee.{of_int};
 ghost use Rattle.records.specs.History.{operands};
 ghost use Rattle.model.specs.Bodies.{binary, negated, combined, applied, worked_all, value};
-ghost use Rattle.reader.specs.Store.{item_of, lead_from};
+ghost use Rattle.reader.specs.Store.{kind_at, item_at, lead_from};
 ghost use Rattle.grounds.specs.Accepted.{Works};
-ghost use Rattle.bodies.specs.Stack.{tops, waiting, Holds};
+ghost use Rattle.bodies.specs.Stack.{waiting, Holds};
 ghost use Rattle.bodies.specs.Workable.{Based, Element, ReadsWithin, Ready};
 ghost use Rattle.bodies.specs.Stopped.{Stepped, Stopped};
 
+use reader::RowKind;
 use records::Store;
 
 // The values waiting in a body, with their count.
-#[derive(Clone, Copy)]
+#[derive(Clone, Copy, Default)]
 pub struct Waiting {
     pub values: [f64; 8],
     pub count: usize,
-}
-
-// What then waits, and the row at which the items ended.
-#[derive(Clone, Copy)]
-pub struct Worked {
-    pub waiting: Waiting,
-    pub row: usize,
 }
 
 // The value of a body, and the row at which its items ended.
@@ -35,27 +29,17 @@ pub struct Valued {
     pub row: usize,
 }
 
-// What working a row did: an item leaves so many values waiting, and a destination nothing.
-#[derive(Clone, Copy)]
-enum Step {
-    Item(usize),
-    Destination,
-}
-
-// 1 add, 2 subtract, 3 multiply, 4 divide.
+// An operation goes by its number, as in a row and in the definitions: 1 add, 2 subtract, 3 multiply, 4 divide.
+#[tactic(auto, unfolding(model::specs::Bodies::binary))]
 fn operate(op: u32, x: f64, y: f64) -> f64
     ensures { result ≡ binary op x y }
 {
-    if op == 1 {
-        return x + y;
+    match op {
+        1 => x + y,
+        2 => x - y,
+        3 => x * y,
+        _ => x / y,
     }
-    if op == 2 {
-        return x - y;
-    }
-    if op == 3 {
-        return x * y;
-    }
-    x / y
 }
 
 // A constant becomes a float with nothing lost.
@@ -75,119 +59,100 @@ fn element(array: u32, offset: u32, bases: &[u32; 17], i: usize, memory: &[f64])
     memory[base + at]
 }
 
-// Puts x over the n values that wait; like each of the next four, it answers how many then wait.
-fn push(vs: &mut [f64; 8], n: usize, x: f64) -> usize
-    requires { (n < 8) × (length vs.old ≡ 8) }
-    ensures { Holds vs.new result (x ∷ tops vs.old n) (n + 1) }
-{
-    vs[n] = x;
-    n + 1
-}
-
-fn negate(vs: &mut [f64; 8], n: usize) -> usize
-    requires { (1 ≤ n) × (n ≤ 8) × (length vs.old ≡ 8) }
-    ensures { Holds vs.new result (negated (tops vs.old n)) n }
-{
-    vs[n - 1] = -vs[n - 1];
-    n
-}
-
-// The later value is the right operand.
-fn combine(vs: &mut [f64; 8], n: usize, op: u32) -> usize
-    requires { (2 ≤ n) × (n ≤ 8) × (length vs.old ≡ 8) }
-    ensures { Holds vs.new result (combined op (tops vs.old n)) (n - 1) }
-{
-    let x = vs[n - 2];
-    let y = vs[n - 1];
-    vs[n - 2] = operate(op, x, y);
-    n - 1
-}
-
-// One of the five operations: 5 is negate.
-fn apply(vs: &mut [f64; 8], n: usize, op: u32) -> usize
-    requires { (operands op ≤ n) × (n ≤ 8) × (length vs.old ≡ 8) }
-    ensures { Holds vs.new result (applied op (tops vs.old n)) (n - operands op + 1) }
-{
-    if op == 5 {
-        return negate(vs, n);
-    }
-    combine(vs, n, op)
-}
-
-// Works a row of its kind, in iteration i. Reads and operations are told apart first, since bodies have more of them than of constants.
-fn work_row(
-    vs: &mut [f64; 8],
-    n: usize,
-    kind: u32,
-    array: u32,
-    value: u32,
-    bases: &[u32; 17],
-    i: usize,
-    memory: &[f64],
-) -> Step
-    requires i_bound { (i < 2 ^ 32) × (length vs.old ≡ 8) }
-    requires ready { (kind ≡ 1 → ⊥) → Ready bases.now i (length memory.now) (item_of kind array value) n }
-    ensures { Stepped bases.now i memory.now kind array value vs.old n vs.new result }
-{
-    if kind == reader::READ {
-        return Step::Item(push(vs, n, element(array, value, bases, i, memory)));
-    }
-    if reader::CONSTANT < kind {
-        return Step::Item(apply(vs, n, value));
-    }
-    if kind == reader::CONSTANT {
-        return Step::Item(push(vs, n, constant(value)));
-    }
-    Step::Destination
-}
-
 impl Waiting {
-    pub fn none() -> Self
-        ensures { result.count ≡ 0 }
+    // Puts x over the values that wait.
+    fn push(&mut self, x: f64)
+        requires { (self.old.count < 8) × (length self.old.values ≡ 8) }
+        ensures { Holds self.new (x ∷ waiting self.old) (self.old.count + 1) }
     {
-        Waiting {
-            values: [0.0; 8],
-            count: 0,
+        self.values[self.count] = x;
+        self.count += 1;
+    }
+
+    fn negate(&mut self)
+        requires { (1 ≤ self.old.count) × (self.old.count ≤ 8) × (length self.old.values ≡ 8) }
+        ensures { Holds self.new (negated (waiting self.old)) self.old.count }
+    {
+        let top = self.count - 1;
+        self.values[top] = -self.values[top];
+    }
+
+    // The later value is the right operand.
+    fn combine(&mut self, op: u32)
+        requires { (2 ≤ self.old.count) × (self.old.count ≤ 8) × (length self.old.values ≡ 8) }
+        ensures { Holds self.new (combined op (waiting self.old)) (self.old.count - 1) }
+    {
+        let x = self.values[self.count - 2];
+        let y = self.values[self.count - 1];
+        self.count -= 1;
+        self.values[self.count - 1] = operate(op, x, y);
+    }
+
+    // One of the five operations: 5 is negate.
+    fn apply(&mut self, op: u32)
+        requires { (operands op ≤ self.old.count) × (self.old.count ≤ 8) × (length self.old.values ≡ 8) }
+        ensures { Holds self.new (applied op (waiting self.old)) (self.old.count - operands op + 1) }
+    {
+        if op == 5 {
+            return self.negate();
+        }
+        self.combine(op);
+    }
+
+    // Works a row, in iteration i, and says whether it is an item's: a destination's is left.
+    fn work_row(
+        &mut self,
+        store: &Store,
+        bases: &[u32; 17],
+        row: usize,
+        i: usize,
+        memory: &[f64],
+    ) -> bool
+        requires row_bound { (row < 576) × (i < 2 ^ 32) × (length self.old.values ≡ 8) }
+        requires ready { (kind_at store.now row ≡ 1 → ⊥) → Ready bases.now i (length memory.now) (item_at store.now row) self.old.count }
+        ensures { Stepped bases.now i memory.now store.now row self.old self.new result }
+    {
+        let array = reader::array_at(store, row);
+        let value = reader::value_at(store, row);
+        match reader::kind_at(store, row) {
+            RowKind::Read => {
+                self.push(element(array, value, bases, i, memory));
+                true
+            }
+            RowKind::Operation => {
+                self.apply(value);
+                true
+            }
+            RowKind::Constant => {
+                self.push(constant(value));
+                true
+            }
+            RowKind::Destination => false,
         }
     }
 
-    // Works the items of the rows from `from` up to the first destination's or up to `past`, in iteration i.
-    pub fn work_rows(
-        self,
+    // Works the items of the rows from `from` up to the first destination's or up to `past`, in iteration i; answers the row at which they ended.
+    fn work_rows(
+        &mut self,
         store: &Store,
         bases: &[u32; 17],
         from: usize,
         past: usize,
         i: usize,
         memory: &[f64],
-    ) -> Worked
-        requires from_le_past { (from ≤ past) × (past ≤ 576) × (i < 2 ^ 32) × (self.count ≤ 8) }
-        requires works { Works (lead_from store.now from (past - from) []) self.count }
+    ) -> usize
+        requires from_le_past { (from ≤ past) × (past ≤ 576) × (i < 2 ^ 32) × (self.old.count ≤ 8) × (length self.old.values ≡ 8) }
+        requires works { Works (lead_from store.now from (past - from) []) self.old.count }
         requires reads_within { ReadsWithin bases.now i (length memory.now) (lead_from store.now from (past - from) []) }
-        ensures count_value { (result.waiting.count ≡ 1) × Stopped store.now from past result.row }
-        ensures by_index { (ns : List ℕ) → Based bases.now ns → waiting result.waiting ≡ worked_all ns i memory.now (lead_from store.now from (past - from) []) (waiting self) }
+        ensures count_value { (self.new.count ≡ 1) × Stopped store.now from past result }
+        ensures by_index { (ns : List ℕ) → Based bases.now ns → waiting self.new ≡ worked_all ns i memory.now (lead_from store.now from (past - from) []) (waiting self.old) }
     {
-        let mut values = self.values;
-        let mut n = self.count;
-        let mut row = from;
-        while row < past {
-            let kind = reader::kind_at(store, row);
-            let array = reader::array_at(store, row);
-            let value = reader::value_at(store, row);
-            let step = work_row(&mut values, n, kind, array, value, bases, i, memory);
-            match step {
-                Step::Item(next) => {
-                    n = next;
-                    row += 1;
-                }
-                Step::Destination => {
-                    let waiting = Waiting { values, count: n };
-                    return Worked { waiting, row };
-                }
+        for row in from..past {
+            if !self.work_row(store, bases, row, i, memory) {
+                return row;
             }
         }
-        let waiting = Waiting { values, count: n };
-        Worked { waiting, row }
+        past
     }
 }
 
@@ -207,11 +172,10 @@ pub fn value_of(
     ensures stopped { Stopped store.now from past result.row }
     ensures by_index { (ns : List ℕ) → Based bases.now ns → result.value ≡ value ns i (lead_from store.now from (past - from) []) memory.now }
 {
-    let none = Waiting::none();
-    let worked = none.work_rows(store, bases, from, past, i, memory);
-    let w = worked.waiting;
+    let mut waiting = Waiting::default();
+    let row = waiting.work_rows(store, bases, from, past, i, memory);
     Valued {
-        value: w.values[0],
-        row: worked.row,
+        value: waiting.values[0],
+        row,
     }
 }

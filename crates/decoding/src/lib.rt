@@ -9,7 +9,22 @@ ghost use Rattle.records.specs.Clear.{span_of};
 
 use arithmetic::wide;
 use records::{Kind, Record, Store, Summary, Tested};
-use refusals::{ARRAY, BODY, CROWD, EDGE, FIELD, KIND, Refusal, TORN};
+use refusals::Refusal;
+
+// The grounds that a record can meet, by their numbers.
+const TORN: u32 = 1;
+
+const KIND: u32 = 2;
+
+const FIELD: u32 = 3;
+
+const CROWD: u32 = 4;
+
+const ARRAY: u32 = 5;
+
+const BODY: u32 = 6;
+
+const EDGE: u32 = 7;
 
 // The largest length of an array, count of elements in all, last index, offset (kept with 255 added) and count of a loop's items and
 // statements.
@@ -336,8 +351,12 @@ fn passing(r: Record, n: usize) -> Tested
 fn refused(ground: u32, at: usize) -> Tested
     ensures { result ≡ Tested.Refused (met ground at) }
 {
-    let r = Refusal::met(ground, at);
-    Tested::Refused(r)
+    Tested::Refused(Refusal {
+        ground,
+        place: at,
+        first: 0,
+        second: 0,
+    })
 }
 
 // Reads one record and tests it; the arrays' lengths are lent.

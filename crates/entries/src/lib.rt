@@ -23,7 +23,7 @@ ghost use Rattle.entries.specs.Code.{Fitting};
 
 use amounts::Amounts;
 use arithmetic::{minus, narrow, wide};
-use blocks::{Axis, Range, block_of as block_in};
+use blocks::{Axis, Range};
 use model::Iteration;
 use numbers::{NUMBER, PAIR};
 use outputs::{Outcome, refused, short, written};
@@ -128,7 +128,7 @@ fn put_block(out: &mut [u8], at: usize, a: Axis, b: u32) -> usize
     requires { (at < 2 ^ 32) × (b < a.blocks) × Cuttable a }
     ensures { Put out.old at (four (edge_in a b) ++ four (edge_in a (suc b) - 1)) 8 out.new result }
 {
-    let r = block_in(a.first, a.count, a.line, a.blocks, b);
+    let r = a.block(b);
     let last = minus(r.past, 1);
     numbers::put_pair(out, at, r.from, last)
 }
@@ -201,7 +201,7 @@ fn give_list(out: &mut [u8], phase: u32, a: Axis, b: u32, store: &Store) -> Outc
     ensures { Gives (fitted (length out.old) (encoded (pairs_of (work (table_in store.now) (fusion_in a) phase b)))) out.old out.new result }
 {
     let mut lists = [0u32; PHASE];
-    let size = ranges::put_list(phase, a, b, store, &mut lists, 0);
+    let size = ranges::put_list(phase, &a, b, store, &mut lists, 0);
     if out.len() < PAIR * size {
         return short();
     }
@@ -251,7 +251,7 @@ fn put_part(
     ensures { Put out.old at (four (empty_as_zero (part_at (part_in phase) a store.now blk b k)).from ++ four (empty_as_zero (part_at (part_in phase) a store.now blk b k)).past) 8 out.new result }
 {
     let part = ranges::part_in(phase);
-    let r = ranges::range_at(part, a, blk, b, k, store);
+    let r = ranges::range_at(part, &a, blk, b, k, store);
     put_range(out, at, r)
 }
 
@@ -260,7 +260,7 @@ fn write_ranges(out: &mut [u8], phase: u32, a: Axis, b: u32, store: &Store) -> u
     requires { Laid a store.now × (b < a.blocks) }
     ensures { Put out.old 0 (encoded (joined (loops_in store.now) (λ k. (empty_as_zero (range_in phase a store.now b k)).from ∷ (empty_as_zero (range_in phase a store.now b k)).past ∷ []))) (8 * loops_in store.now) out.new result }
 {
-    let blk = block_in(a.first, a.count, a.line, a.blocks, b);
+    let blk = a.block(b);
     let loops = reader::loops_in(store);
     let mut at: usize = 0;
     let mut k: usize = 0;

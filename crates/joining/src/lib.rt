@@ -14,7 +14,7 @@ ghost use Rattle.reader.specs.Held.{Held};
 
 use outputs::{Outcome, refused, short, written};
 use records::{STORE, Store};
-use refusals::{CROWD, Refusal, UNLIKE};
+use refusals::{Ground, Refusal};
 
 const MOST_LOOPS: usize = 16;
 
@@ -78,10 +78,10 @@ fn join_right(left: &[u8], right: &[u8], out: &mut [u8], ours: &Store) -> Outcom
     let like = same_lengths(ours, &theirs);
     let total = reader::loops_in(ours) + reader::loops_in(&theirs);
     if !like {
-        return refused(Refusal::met(UNLIKE, 0));
+        return refused(Refusal::met(Ground::Unlike, 0));
     }
     if MOST_LOOPS < total {
-        return refused(Refusal::met(CROWD, 0));
+        return refused(Refusal::met(Ground::Crowd, 0));
     }
     write(left, right, reader::arrays_in(ours), out)
 }

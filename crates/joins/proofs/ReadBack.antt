@@ -13,7 +13,7 @@ use Rattle.model.specs.Table.{Loop as LoopOf}
 use Rattle.refusals.specs.Answers.{accepted}
 use Rattle.reader.specs.Reading.{reading, table_of, loops_of}
 use Rattle.reader.specs.Accepting.{accepted-rest, arrays-counted, loops-counted}
-use Rattle.serial.specs.declared.Collision.TheVariants.{Nothing}
+use Rattle.std.specs.Prelude.{None}
 use Rattle.serial.specs.Serial.{table, loop_hit}
 use Rattle.serial.proofs.Parallel.{Parallel, parallel-accepted, accepted-parallel}
 use Rattle.joins.specs.Records.{records_of}
@@ -92,7 +92,7 @@ reading-joined left right t u e g same few =
 both-parallel : (t u : Table) → Parallel t → Parallel u → Parallel (together t u)
 both-parallel t u p r k l = go (dec_lt k (count t))
   where
-    go : Dec (k < count t) → loop_hit (loop (together t u) k) ≡ Nothing
+    go : Dec (k < count t) → loop_hit (loop (together t u) k) ≡ None
     go (yes h) = rw (get_or-append t.loops u.loops no_loop k h) (p k h)
     go (no h) =
         let j = k - count t in

@@ -1,7 +1,5 @@
--- What the code of a plan by hand leaves: what it tells of the answer, and where nothing is refused the numbers.
-use Rattle.std.specs.Prelude.{ℕ, ◌+◌, ◌≤◌, ◌<◌, ◌≡◌, ◌≢◌, Bool, true, ◌&&◌, ◌||◌, List, ltb, length, get_or, replicate}
-use Rattle.refusals.specs.declared.Refusal.{Refusal}
-use Rattle.refusals.specs.Answers.{AnswerOf, accepted, refusal_of}
+-- What the code of a plan by hand finds, of two references, of two loops and of all.
+use Rattle.std.specs.Prelude.{ℕ, ◌+◌, ◌/◌, ◌%◌, ◌≤◌, ◌<◌, ◌≡◌, ◌≢◌, Bool, true, ◌&&◌, ◌||◌, cond, Option, Some, None, List, ltb, length, get_or}
 use Rattle.model.specs.declared.Reference.{Reference}
 use Rattle.model.specs.Table.{Table, count}
 use Rattle.model.specs.References.{refs}
@@ -12,7 +10,6 @@ use Rattle.chains.specs.TableGraph.{graph}
 use Rattle.chains.specs.Unmet.{some_of, missed, lacks, unmet, least_unmet}
 use Rattle.amounts.specs.declared.Amounts.{Amounts}
 use Rattle.amounts.specs.Walked.{ReferenceFits}
-use Rattle.legality.specs.declared.Hand.{Hand}
 
 -- shifts and peels that are no larger than a plan by hand's may be
 pub record Within (shifts peels : List ℕ) : Type 0 where
@@ -27,14 +24,15 @@ pub record Near (x : Reference) : Type 0 where
   pub offset : x.offset ≤ 510
 
 -- `missed` of a table's graph
-abbrev pub missing : List ℕ → List ℕ → Reference → Reference → Bool
-missing s p x y =
-    ltb (get_or s y.number 0) (get_or s x.number 0 + backward x y) || ltb (get_or p y.number 0) (get_or p x.number 0 + forward x y)
+abbrev pub missing : Amounts → Reference → Reference → Bool
+missing amounts x y =
+    ltb (get_or amounts.shifts y.number 0) (get_or amounts.shifts x.number 0 + backward x y)
+    || ltb (get_or amounts.peels y.number 0) (get_or amounts.peels x.number 0 + forward x y)
 
--- of the table t, with the shifts s and peels p
-module _ (t : Table) (s p : List ℕ) where
+-- of the table t, with these shifts and peels
+module _ (t : Table) (amounts : Amounts) where
   abbrev pub lacking : Reference → Reference → Bool
-  lacking = lacks (graph t) (missed (graph t) s p)
+  lacking = lacks (graph t) (missed (graph t) amounts.shifts amounts.peels)
 
   -- the dependence between x and y, whichever is of the earlier loop, is not met
   abbrev pub between : Reference → Reference → Bool
@@ -53,10 +51,17 @@ module _ (t : Table) (s p : List ℕ) where
   destinations j k = some_of (stored_with k) (refs t j)
 
   abbrev pub unmet_in : ℕ → ℕ → Bool
-  unmet_in = unmet (graph t) (missed (graph t) s p)
+  unmet_in = unmet (graph t) (missed (graph t) amounts.shifts amounts.peels)
 
   abbrev pub least_unmet_in : ℕ
-  least_unmet_in = least_unmet (graph t) (missed (graph t) s p)
+  least_unmet_in = least_unmet (graph t) (missed (graph t) amounts.shifts amounts.peels)
+
+-- a loop by its number, and a pair of loops by 16 times the earlier and the later: none past the last
+abbrev pub loop_of : ℕ → Option ℕ
+loop_of n = cond (ltb n 16) (Some n) None
+
+abbrev pub pair_of : ℕ → Option (ℕ × ℕ)
+pair_of n = cond (ltb n 256) (Some (n / 16, n % 16)) None
 
 -- a destination of one of the table's loops, and another loop
 pub record Storing (t : Table) (x : Reference) (k : ℕ) : Type 0 where
@@ -70,20 +75,11 @@ pub record Lasts (c lasts : List ℕ) : Type 0 where
   pub long : length lasts ≡ 16
   pub each : (k : ℕ) → k < count (table_in c) → LastDestination c k (get_or lasts k 0)
 
-module _ (c s p : List ℕ) where
+module _ (c : List ℕ) (amounts : Amounts) where
   -- x and the reference in row r of loop k, if there is one in it
   abbrev pub with_row : Reference → ℕ → ℕ → Bool
-  with_row x k r = some_of (between (table_in c) s p x) (row_refs c k r)
+  with_row x k r = some_of (between (table_in c) amounts x) (row_refs c k r)
 
   -- the destination in row r of loop j, if there is one in it, and some reference of loop k
   abbrev pub destination_row : ℕ → ℕ → ℕ → Bool
-  destination_row j r k = some_of (stored_with (table_in c) s p k) (row_refs c j r)
-
--- a refusal, or nothing refused, without numbers
-abbrev pub numberless : Refusal → Hand
-numberless r = record { refusal = r; amounts = record { shifts = replicate 16 0; peels = replicate 16 0 } }
-
--- it tells the answer a
-pub record Tells (a : AnswerOf Amounts) (r : Hand) : Type 0 where
-  pub told : r.refusal ≡ refusal_of a
-  pub made : r.refusal.ground ≡ 0 → a ≡ accepted r.amounts
+  destination_row j r k = some_of (stored_with (table_in c) amounts k) (row_refs c j r)

@@ -30,7 +30,7 @@ fn put_block(out: &mut [u8], at: usize, a: Axis, b: u32) -> usize
     requires { (at < 2 ^ 32) × (b < a.blocks) × Cuttable a }
     ensures { Put out.old at (block_line b (block_in a b)) 100 out.new result }
 {
-    let r = blocks::block_of(a.first, a.count, a.line, a.blocks, b);
+    let r = a.block(b);
     let last = minus(r.past, 1);
     put_line_of_three(
         out,
@@ -92,7 +92,7 @@ fn put_part(
     ensures { Put out.old at (range_line (phase_name phase) b k (part_at (part_in phase) a store.now blk b k)) 100 out.new result }
 {
     let part = ranges::part_in(phase);
-    let r = ranges::range_at(part, a, blk, b, k, store);
+    let r = ranges::range_at(part, &a, blk, b, k, store);
     put_range(out, at, phase, b, k, r)
 }
 
@@ -101,7 +101,7 @@ fn put_block_parts(out: &mut [u8], at: usize, phase: u32, a: Axis, b: u32, store
     requires { (at < 2 ^ 31) × (b < a.blocks) × Laid a store.now }
     ensures { Put out.old at (each (loops_in store.now) (λ k. range_line (phase_name phase) b k (range_of phase a store.now b k))) 1600 out.new result }
 {
-    let blk = blocks::block_of(a.first, a.count, a.line, a.blocks, b);
+    let blk = a.block(b);
     let loops = reader::loops_in(store);
     let mut next = at;
     let mut k: usize = 0;

@@ -18,7 +18,7 @@ ghost use Rattle.plain.specs.Plain.{plain_answer, run_of, plain_memory};
 ghost use Rattle.plain.specs.Running.{Running};
 
 use records::{STORE, Store};
-use refusals::{MEMORY, Refusal};
+use refusals::{Ground, Refusal};
 
 // Iterations `first` to `last` of the statements in the rows from `from` up to `past`.
 pub fn run_range(
@@ -75,7 +75,7 @@ fn run_table(store: &Store, memory: &mut [f64]) -> Refusal
     let b = iterations::bases_of(store);
     let bases = b.firsts;
     if memory.len() != bases[16] as usize {
-        return Refusal::met(MEMORY, 0);
+        return Refusal::met(Ground::Memory, 0);
     }
     run_loops(store, &bases, memory);
     Refusal::none()

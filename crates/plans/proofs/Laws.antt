@@ -4,16 +4,14 @@ use native.Mathlib.Omega.{arith}
 use mathlib.Core.Path.{◌≡◌, refl, sym, ap, subst, ◌∙◌}
 use mathlib.Core.Bool.{Bool, true, false}
 use mathlib.Core.List.{List}
+use Rattle.std.specs.Prelude.{Option, None, Some, Result, Ok}
 use borrow.Author.Tests.{eq-eqb, ne_eqb}
 use Rattle.model.specs.Table.{Table, count, first, last}
 use Rattle.refusals.specs.declared.Refusal.{Refusal}
-use Rattle.refusals.specs.Refusals.{met, none}
-use Rattle.refusals.specs.Answers.{AnswerOf, accepted, refused, ◌if◌else◌, after, refusal_of}
-use Rattle.refusals.proofs.AnswerLaws.{told-refused}
+use Rattle.refusals.specs.Refusals.{met}
+use Rattle.refusals.specs.Answers.{AnswerOf, accepted, refused, ◌if◌else◌, after, result_of}
 use Rattle.reader.specs.Store.{first_at, last_at, loops_in, table_in}
 use Rattle.reader.specs.Held.{Held, count_held, first-held, last-held}
-use Rattle.reader.specs.ReadInto.{ReadInto}
-use Rattle.reader.specs.ReadIntoLaws.{into-told}
 use Rattle.serial.specs.Serial.{table}
 use Rattle.grounds.specs.Accepted.{Valid}
 use Rattle.grounds.proofs.AcceptedLaws.{valid-last}
@@ -21,22 +19,18 @@ use Rattle.amounts.specs.declared.Amounts.{Amounts}
 use Rattle.chains.specs.TableGraph.{graph}
 use Rattle.chains.specs.Walk.{shifts, peels}
 use Rattle.chains.specs.Threshold.{threshold}
+use Rattle.blocks.specs.declared.Axis.{Axis}
 use Rattle.blocks.specs.declared.Span.{Span}
 use Rattle.blocks.specs.Sums.{least, largest}
 use Rattle.blocks.specs.Span.{span_of, table_span}
 use Rattle.blocks.specs.SpanLaws.{span-found, span_same}
 use Rattle.blocks.specs.Blocks.{is_short}
-use Rattle.legality.specs.declared.Hand.{Hand}
 use Rattle.legality.specs.ByHand.{by_hand}
-use Rattle.legality.specs.Code.{numberless, Tells}
-use Rattle.plans.specs.declared.Plan.{Plan}
-use Rattle.plans.specs.declared.Asked.{Asked}
-use Rattle.plans.specs.Plans.{Settings, Planned, plan_of, short_for, bad_line, amounts_for, fits, fitting}
-use Rattle.tables.proofs.Nine.{valid}
+use Rattle.plans.specs.Plans.{Settings, Planned, own, plan_of, short_for, bad_line, amounts_for, fits, fitting}
 use Rattle.plans.specs.Accepted.{Chosen}
-use Rattle.plans.proofs.Accepted.{not-outside, amounts-chosen, amounts-some, chosen-threshold, span_small}
-use Rattle.plans.specs.Checking.{asked}
-use Rattle.plans.specs.Code.{Gives, Plans, refusing}
+use Rattle.plans.proofs.Accepted.{not-outside, amounts-chosen, chosen-threshold, span_small}
+use Rattle.plans.specs.Checking.{plan_threshold}
+use Rattle.plans.specs.Code.{Offered, Made, Plans}
 
 -- THE SPAN, over the loops of a store
 module _ (c : List ℕ) (h : Held c) (v : Valid (table_in c)) where
@@ -54,22 +48,10 @@ module _ (c : List ℕ) (h : Held c) (v : Valid (table_in c)) where
       ∙ span_same (loops_in c) (first (table_in c)) (last (table_in c)) (first_at c) (last_at c) some-loops
       (λ k i. first-held h k (omega (arith, count_held h))) (λ k i. last-held h k (omega (arith, count_held h))))
 
--- a refusal tells itself, and has no plan
-plans-refused : (a : AnswerOf Planned) (c : List ℕ) (r : Refusal) → a ≡ refused r → (r.ground ≡ 0 → ⊥) → Plans a (refusing r) c
-plans-refused a c r e some = record { tells = sym (ap refusal_of e); made = λ z. absurd (some z) }
-
--- THE PLAN BY HAND, if one is given
-pub nothing-given : (w : Settings) (t : Table) → w.given ≡ 0 → Gives w t (numberless none)
+-- THE PLAN BY HAND, if one is given, and else the table's own
+pub hand-given : (w : Settings) (t : Table) → (w.given ≡ 0 → ⊥) → amounts_for w t ≡ by_hand t w.size w.plan
 unfolding amounts_for
-nothing-given w t e =
-    let z = eq-eqb w.given 0 e in
-    record { told = sym (rw z); made = λ _ n. absurd (n e) }
-
-pub hand-given : (w : Settings) (t : Table) → (w.given ≡ 0 → ⊥) → (r : Hand) → Tells (by_hand t w.size w.plan) r → Gives w t r
-unfolding amounts_for
-hand-given w t n r h =
-    let z = ne_eqb w.given 0 n in
-    record { told = rw z h.told; made = λ e _. rw z (h.made e) }
+hand-given w t n = let z = ne_eqb w.given 0 n in rw z
 
 pub own-chosen-is : (w : Settings) (t : Table) → w.given ≡ 0 → (a : Amounts) → a.shifts ≡ shifts (graph t) → a.peels ≡ peels (graph t) → amounts_for w t ≡ accepted a
 unfolding amounts_for
@@ -101,76 +83,63 @@ module _ (w : Settings) (c : List ℕ) (h : Held c) (v : Valid (table_in c)) (a 
     chosen : {d : Bool} → b ≡ d → fitted ≡ (refused (met 11 0) if d else accepted (record { table = table_in c; plan = plan_of (table_in c) a w }))
     chosen e = rw (amounts-are, short-is ∙ e)
 
-    pub chosen-short : b ≡ true → Plans fitted (refusing (met 11 0)) c
-    chosen-short e = plans-refused fitted c (met 11 0) (chosen e) (λ z. omega (arith, z))
+    pub chosen-short : b ≡ true → fitted ≡ refused (met 11 0)
+    chosen-short e = chosen e
 
-    abbrev pub plan : Plan
-    plan = record { refusal = none; axis = record { first = x.first; count = x.count; line = w.line; blocks = w.processors; shifts = a.shifts; peels = a.peels } }
+    abbrev pub axis : Axis
+    axis = record { first = x.first; count = x.count; line = w.line; blocks = w.processors; shifts = a.shifts; peels = a.peels }
 
-    pub chosen-made : bad_line w ≡ false → b ≡ false → Plans fitted plan c
+    pub chosen-made : bad_line w ≡ false → b ≡ false → Made fitted axis c
     chosen-made fine e = record {
-      tells = sym (ap refusal_of (chosen e));
-      made = λ z. record {
-        is = chosen e ∙ ap accepted (sym (rw span-is));
-        held = h;
-        kept = record {
-          shifts-long = good.within.shifts-long;
-          peels-long = good.within.peels-long;
-          some-line = (not-outside 64 w.line fine).0;
-          short-line = (not-outside 64 w.line fine).1;
-        };
+      is = chosen e ∙ ap accepted (sym (rw span-is));
+      held = h;
+      kept = record {
+        shifts-long = good.within.shifts-long;
+        peels-long = good.within.peels-long;
+        some-line = (not-outside 64 w.line fine).0;
+        short-line = (not-outside 64 w.line fine).1;
       };
     }
 
 -- AFTER THE READING: 19, 20, 10, 17 and 11 are asked of an accepted table alone
-module _ (s : List ℕ) (wrong : Bool) (w : Settings) (v : Refusal) (c : List ℕ) (r : ReadInto (table s) v c) where
+module _ (s : List ℕ) (wrong : Bool) (w : Settings) where
   abbrev pub answer : AnswerOf Planned
   answer = fitting wrong w (table s)
 
-  pub read-refused : (v.ground ≡ 0 → ⊥) → Plans answer (refusing v) c
+  pub read-refused : (r : Refusal) → table s ≡ refused r → answer ≡ refused r
   unfolding fitting
-  read-refused some = plans-refused answer c v (ap (fitting wrong w) (into-told (table s) c v r some)) some
+  read-refused r e = ap (fitting wrong w) e
 
-  module _ (nothing : v.ground ≡ 0) where
-    pub read_held : Held c × Valid (table_in c)
-    read_held = let (e, h) = r.held nothing in (h, valid s (table_in c) e)
+  module _ (t : Table) (read : table s ≡ accepted t) where
+    pub hand-refused : (r : Refusal) → amounts_for w t ≡ refused r → answer ≡ refused r
+    unfolding fitting
+    hand-refused r e = rw (read, e)
 
-    module _ (g : Hand) (given : Gives w (table_in c) g) where
-      pub plans-unfit : (g.refusal.ground ≡ 0 → ⊥) → Plans answer (refusing g.refusal) c
+    -- where the plan by hand is none, or is accepted, some shifts and peels are
+    module _ (o : Option Amounts) (offered : Offered w t o) where
+      pub some-amounts : (a : Amounts) × (amounts_for w t ≡ accepted a)
+      some-amounts = go o offered
+        where
+          go : (x : Option Amounts) → Offered w t x → (a : Amounts) × (amounts_for w t ≡ accepted a)
+          go None e = (own t, own-chosen-is w t e (own t) refl refl)
+          go (Some a) e = (a, e)
+
+      found : {d f : Bool} → wrong ≡ d → bad_line w ≡ f
+          → answer ≡ (refused (met 10 0) if d else (refused (met 17 0) if f else after (amounts_for w t) (fits w t)))
       unfolding fitting
-      plans-unfit some =
-          let e = told-refused (amounts_for w (table_in c)) g.refusal given.told some in
-          plans-refused answer c g.refusal (rw ((r.held nothing).0, e)) some
+      found e m = let (a, z) = some-amounts in rw (read, e, m, z)
 
-      module _ (fine : g.refusal.ground ≡ 0) where
-        -- where nothing is refused, some shifts and peels are accepted
-        some-amounts : (a : Amounts) × (amounts_for w (table_in c) ≡ accepted a)
-        some-amounts = go (amounts_for w (table_in c)) refl
-          where
-            go : (x : AnswerOf Amounts) → amounts_for w (table_in c) ≡ x → (a : Amounts) × (amounts_for w (table_in c) ≡ accepted a)
-            go (accepted a) e = (a, e)
-            go (refused q) e = absurd (amounts-some w (table_in c) q e (ap (λ (z : Refusal). z.ground) (sym (given.told ∙ ap refusal_of e)) ∙ fine))
+      pub plans-ten : wrong ≡ true → answer ≡ refused (met 10 0)
+      plans-ten e = found e refl
 
-        found : {d f : Bool} → wrong ≡ d → bad_line w ≡ f
-            → answer ≡ (refused (met 10 0) if d else (refused (met 17 0) if f else after (amounts_for w (table_in c)) (fits w (table_in c))))
-        unfolding fitting
-        found e m = let (a, z) = some-amounts in rw ((r.held nothing).0, e, m, z)
+      pub plans-seventeen : wrong ≡ false → bad_line w ≡ true → answer ≡ refused (met 17 0)
+      plans-seventeen e m = found e m
 
-        pub plans-ten : wrong ≡ true → Plans answer (refusing (met 10 0)) c
-        plans-ten e = plans-refused answer c (met 10 0) (found e refl) (λ z. omega (arith, z))
-
-        pub plans-seventeen : wrong ≡ false → bad_line w ≡ true → Plans answer (refusing (met 17 0)) c
-        plans-seventeen e m = plans-refused answer c (met 17 0) (found e m) (λ z. omega (arith, z))
-
-        pub plans-chosen : wrong ≡ false → bad_line w ≡ false → (p : Plan) → Plans (after (amounts_for w (table_in c)) (fits w (table_in c))) p c → Plans answer p c
-        plans-chosen e m p h = subst (λ (a : AnswerOf Planned). Plans a p c) (sym (found e m)) h
+      pub plans-chosen : wrong ≡ false → bad_line w ≡ false → (r : Result Axis Refusal) (c : List ℕ) → Plans (after (amounts_for w t) (fits w t)) r c → Plans answer r c
+      plans-chosen e m r c h = subst (λ (a : AnswerOf Planned). Plans a r c) (sym (found e m)) h
 
 -- WHAT ASKING FOR A PLAN TELLS
-pub asked-refused : (a : AnswerOf Planned) (p : Plan) (c : List ℕ) → Plans a p c → (p.refusal.ground ≡ 0 → ⊥)
-    → ◌≡◌ {A = Asked} (record { refusal = p.refusal; threshold = 0 }) (asked a)
-asked-refused a p c h some = let e = told-refused a p.refusal h.tells some in rw (h.tells, e)
-
-pub asked-accepted : (a : AnswerOf Planned) (p : Plan) (c : List ℕ) → Plans a p c → p.refusal.ground ≡ 0 → (u : ℕ) → u ≡ threshold p.axis.shifts p.axis.peels
-    → ◌≡◌ {A = Asked} (record { refusal = p.refusal; threshold = u }) (asked a)
+pub asked-accepted : (a : AnswerOf Planned) (x : Axis) (c : List ℕ) → Made a x c → (u : ℕ) → u ≡ threshold x.shifts x.peels
+    → ◌≡◌ {A = Result ℕ Refusal} (Ok u) (result_of (λ q. plan_threshold q.plan) a)
 unfolding threshold
-asked-accepted a p c h z u e = let d = (h.made z).is in rw (h.tells, e, d)
+asked-accepted a x c h u e = let d = h.is in rw (e, d)

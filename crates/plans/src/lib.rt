@@ -9,17 +9,15 @@ ghost use Rattle.serial.specs.Serial.{table};
 ghost use Rattle.grounds.specs.Accepted.{Valid};
 ghost use Rattle.blocks.specs.Span.{table_span};
 ghost use Rattle.plans.specs.Plans as plans;
-ghost use Rattle.refusals.specs.Answers.{accepted, after};
+ghost use Rattle.refusals.specs.Answers.{accepted, after, result_of};
 ghost use Rattle.plans.specs.Plans.{bad_processors, bad_number, bad_line, amounts_for, fits, fitting, planned, planned_for};
-ghost use Rattle.plans.specs.Code.{Offered, Gives, Plans, refusing};
-ghost use Rattle.plans.specs.Checking.{asked};
+ghost use Rattle.plans.specs.Code.{Offered, Gives, Plans};
+ghost use Rattle.plans.specs.Checking.{plan_threshold};
 
 use amounts::Amounts;
-use arithmetic::{greater, lesser, minus};
 use blocks::{Axis, Span};
-use legality::Hand;
 use records::{STORE, Store};
-use refusals::{LINE, PROCESSORS, Refusal, SHORT};
+use refusals::{Ground, Refusal};
 
 const MOST_PROCESSORS: u32 = 64;
 
@@ -37,37 +35,11 @@ pub struct Settings {
     pub plan: [u8; 128],
 }
 
-// The plan: what is refused; and where nothing is, the plan along the index, for the table in the store.
-#[derive(Clone, Copy)]
-pub struct Plan {
-    pub refusal: Refusal,
-    pub axis: Axis,
-}
-
-fn refused(r: Refusal) -> Plan
-    ensures { result ≡ refusing r }
-{
-    Plan {
-        refusal: r,
-        axis: Axis {
-            first: 0,
-            count: 0,
-            line: 0,
-            blocks: 0,
-            shifts: [0u32; 16],
-            peels: [0u32; 16],
-        },
-    }
-}
-
 // Whether a number is outside 1 to the most.
 fn outside(most: u32, n: u32) -> bool
     ensures { result ≡ plans.outside most n }
 {
-    if n == 0 {
-        return true;
-    }
-    most < n
+    !(1..=most).contains(&n)
 }
 
 // Ground 10: P outside 1 to 64.
@@ -81,10 +53,7 @@ fn bad_processors(w: Settings) -> bool
 fn bad_number(w: Settings, processor: u32) -> bool
     ensures { result ≡ bad_number w processor }
 {
-    if bad_processors(w) {
-        return true;
-    }
-    w.processors <= processor
+    bad_processors(w) || w.processors <= processor
 }
 
 // Ground 17: W outside 1 to 64.
@@ -99,95 +68,81 @@ fn span_of(store: &Store) -> Span
     requires { Held store.now × Valid (table_in store.now) }
     ensures { result ≡ table_span (table_in store.now) }
 {
-    let loops = reader::loops_in(store);
     let mut low = reader::first_at(store, 0);
     let mut high: u32 = 0;
-    let mut k: usize = 0;
-    while k < loops {
-        low = lesser(low, reader::first_at(store, k));
-        high = greater(high, reader::last_at(store, k));
-        k += 1;
+    for k in 0..reader::loops_in(store) {
+        low = low.min(reader::first_at(store, k));
+        high = high.max(reader::last_at(store, k));
     }
     Span {
         first: low,
-        count: minus(high + 1, low),
+        count: (high + 1).saturating_sub(low),
     }
 }
 
 // The plan by hand, if one is given, or what it is refused with. Where none is given, the numbers are not asked for.
-fn given(w: Settings, store: &Store) -> Hand
+fn given(w: Settings, store: &Store) -> Result<Option<Amounts>, Refusal>
     requires { Held store.now }
     ensures { Gives w (table_in store.now) result }
 {
     if w.given == 0 {
-        return legality::nothing();
+        return Ok(None);
     }
-    let bytes = w.plan;
-    legality::by_hand(&bytes[..], w.size, store)
+    let amounts = legality::by_hand(&w.plan, w.size, store)?;
+    Ok(Some(amounts))
 }
 
 // The shifts and peels of the plan: those by hand, where they are given, and else those that are found.
-fn chosen(w: Settings, hand: Amounts, store: &Store) -> Amounts
-    requires { Held store.now × Offered w (table_in store.now) hand }
-    ensures { amounts_for w (table_in store.now) ≡ accepted result }
+fn chosen(hand: Option<Amounts>, store: &Store) -> Amounts
+    requires { Held store.now }
+    ensures { (w : Settings) → Offered w (table_in store.now) hand → amounts_for w (table_in store.now) ≡ accepted result }
 {
-    if w.given == 0 {
-        return amounts::amounts_of(store);
+    match hand {
+        Some(amounts) => amounts,
+        None => amounts::amounts_of(store),
     }
-    hand
 }
 
 // The plan of the table in a store, or 11.
-fn plan_read(w: Settings, hand: Amounts, store: &Store) -> Plan
+fn plan_read(w: Settings, hand: Option<Amounts>, store: &Store) -> Result<Axis, Refusal>
     requires { Held store.now × Valid (table_in store.now) × (bad_line w ≡ false) × Offered w (table_in store.now) hand }
     ensures { Plans (after (amounts_for w (table_in store.now)) (fits w (table_in store.now))) result store.now }
 {
-    let found = chosen(w, hand, store);
+    let found = chosen(hand, store);
     let span = span_of(store);
     let threshold = amounts::threshold_of(found) as u32;
     if blocks::short(span.count, w.line, w.processors, threshold) {
-        return refused(Refusal::met(SHORT, 0));
+        return Err(Refusal::met(Ground::Short, 0));
     }
-    let shifts = found.shifts;
-    let peels = found.peels;
-    let none = Refusal::none();
-    Plan {
-        refusal: none,
-        axis: Axis {
-            first: span.first,
-            count: span.count,
-            line: w.line,
-            blocks: w.processors,
-            shifts,
-            peels,
-        },
-    }
+    let Amounts { shifts, peels } = found;
+    Ok(Axis {
+        first: span.first,
+        count: span.count,
+        line: w.line,
+        blocks: w.processors,
+        shifts,
+        peels,
+    })
 }
 
 // The plan of a table for what settles the lists, if the processors are not wrong; the store is lent.
-fn plan_unless(s: &[u8], wrong: bool, w: Settings, store: &mut Store) -> Plan
+fn plan_unless(s: &[u8], wrong: bool, w: Settings, store: &mut Store) -> Result<Axis, Refusal>
     requires { Sized store.old }
     ensures { Plans (fitting wrong w (table s.now)) result store.new }
 {
-    let r = serial::read_through(s, store);
-    if r.ground != 0 {
-        return refused(r);
-    }
-    let hand = given(w, store);
-    if hand.refusal.ground != 0 {
-        return refused(hand.refusal);
-    }
+    serial::read_through(s, store)?;
+    let hand = given(w, store)?;
     if wrong {
-        return refused(Refusal::met(PROCESSORS, 0));
+        return Err(Refusal::met(Ground::Processors, 0));
     }
     if bad_line(w) {
-        return refused(Refusal::met(LINE, 0));
+        return Err(Refusal::met(Ground::Line, 0));
     }
-    plan_read(w, hand.amounts, store)
+    plan_read(w, hand, store)
 }
 
 // The plan of a table for what settles the lists; the store is lent.
-pub fn plan_table(s: &[u8], w: Settings, store: &mut Store) -> Plan
+pub fn plan_table(s: &[u8], w: Settings, store: &mut Store) -> Result<Axis, Refusal>
     requires { Sized store.old }
     ensures { Plans (planned s.now w) result store.new }
 {
@@ -196,7 +151,7 @@ pub fn plan_table(s: &[u8], w: Settings, store: &mut Store) -> Plan
 }
 
 // The same for a call that names a processor.
-pub fn plan_for(s: &[u8], w: Settings, processor: u32, store: &mut Store) -> Plan
+pub fn plan_for(s: &[u8], w: Settings, processor: u32, store: &mut Store) -> Result<Axis, Refusal>
     requires { Sized store.old }
     ensures { Plans (planned_for s.now w processor) result store.new }
 {
@@ -204,32 +159,11 @@ pub fn plan_for(s: &[u8], w: Settings, processor: u32, store: &mut Store) -> Pla
     plan_unless(s, wrong, w, store)
 }
 
-// What asking for a plan tells: what it is refused with, and where nothing is, the plan's threshold.
-#[derive(Clone, Copy)]
-pub struct Asked {
-    pub refusal: Refusal,
-    pub threshold: u64,
-}
-
-// Whether a plan is accepted: the one by hand, or the table's own.
-pub fn check_plan(s: &[u8], w: Settings) -> Asked
-    ensures { result ≡ asked (planned s.now w) }
+// Whether a plan is accepted, the one by hand or the table's own: its threshold, or what it is refused with.
+pub fn check_plan(s: &[u8], w: Settings) -> Result<usize, Refusal>
+    ensures { result ≡ result_of (λ q. plan_threshold q.plan) (planned s.now w) }
 {
     let mut store = [0u32; STORE];
-    let p = plan_table(s, w, &mut store);
-    let r = p.refusal;
-    if r.ground != 0 {
-        return Asked {
-            refusal: r,
-            threshold: 0,
-        };
-    }
-    let a = p.axis;
-    let shifts = a.shifts;
-    let peels = a.peels;
-    let found = amounts::threshold_of(Amounts { shifts, peels });
-    Asked {
-        refusal: r,
-        threshold: found as u64,
-    }
+    let Axis { shifts, peels, .. } = plan_table(s, w, &mut store)?;
+    Ok(amounts::threshold_of(Amounts { shifts, peels }))
 }

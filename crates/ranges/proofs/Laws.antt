@@ -1,5 +1,5 @@
 -- The walk over the loops that keeps their ranges, and the parts that the n-th iteration is found in.
-use Prim.Native.Nat.{ℕ, zero, suc, ◌+◌, ◌-◌, ◌*◌, ◌≤◌, ◌<◌, ◌^◌}
+use Prim.Native.Nat.{ℕ, zero, suc, ◌+◌, ◌-◌, ◌*◌, ◌≤◌, ◌<◌}
 use native.Mathlib.Omega.{arith}
 use native.Mathlib.Decide.{ℕ_discrete}
 use mathlib.Core.Path.{◌≡◌, refl, sym, ap, ◌∙◌}
@@ -9,17 +9,15 @@ use lib.Seq.{get_or-set_same, get_or-set_other}
 use Rattle.model.specs.Table.{iteration}
 use Rattle.model.specs.declared.Iteration.{Iteration}
 use Rattle.blocks.specs.declared.Axis.{Axis}
-use Rattle.blocks.specs.declared.Part.{Part}
 use Rattle.blocks.specs.declared.Range.{Range}
-use Rattle.blocks.specs.Code.{part_of}
-use Rattle.reader.specs.Store.{first_at, last_at, loops_in}
+use Rattle.reader.specs.Store.{loops_in}
 use Rattle.plans.specs.Code.{Laid}
 use Rattle.blocks.specs.SumLaws.{total-next}
 use Rattle.lists.proofs.BelowLaws.{indices_in}
 use Rattle.lists.specs.Lists.{fused_columns, peeled_columns}
 use Rattle.positions.specs.Search.{Aligned}
-use Rattle.ranges.specs.Code.{part_in, range_of, Along, cut, list_of, RangesKept, Apart}
-use Rattle.ranges.specs.Listed.{part-asks, range_small, kept-aligned}
+use Rattle.ranges.specs.Code.{range_of, cut, list_of, RangesKept, Apart}
+use Rattle.ranges.specs.Listed.{range_small, kept-aligned}
 
 -- the first k loops' ranges are kept, and `sum` counts their indices
 pub record Filled (old xs : List ℕ) (at k : ℕ) (f : ℕ → Range) (s : ℕ → ℕ) (sum : ℕ) : Type 0 where
@@ -90,33 +88,19 @@ module _ (old xs : List ℕ) (at k : ℕ) (f : ℕ → Range) (s : ℕ → ℕ) 
         now j l (yes y) place value here before = ap (λ (n : ℕ). get_or three (place n) 0) y ∙ here ∙ ap value (sym y)
         now j l (no y) place value here before = before (omega arith)
 
--- THE SUM of the first k loops' indices, the plan taken apart
+-- THE SUM of the first k loops' indices
 pub record Summed (a : Axis) (c : List ℕ) (n b k sum : ℕ) : Type 0 where
   pub sum_is : sum ≡ indices_in k (range_of n a c b)
   pub small : sum ≤ k * 65791
 
--- what a part's code finds is the loop's range
-pub along-range : {a : Axis} {blk : Range} {blocks b : ℕ} {ss ps : List ℕ} → Along a blk blocks b ss ps → (c : List ℕ) (n k first last : ℕ) (part : Part) (r : Range)
-    → part ≡ part_in n → first ≡ first_at c k → last ≡ last_at c k
-    → r ≡ part_of part (record { from = first; past = suc last }) blk blocks b (get_or ss k 0) (get_or ps k 0) → r ≡ range_of n a c b k
-along-range y c n k first last part r e f g z = rw (e, f, g, y.blocks-are, y.block-is, y.shifts-are, y.peels-are) at z
-
-module _ (a : Axis) (c : List ℕ) (h : Laid a c) (blk : Range) (blocks b : ℕ) (ss ps : List ℕ) (y : Along a blk blocks b ss ps) where
-  -- what a part's code asks
-  pub along-asks : b < a.blocks → (k last : ℕ) → k < loops_in c → last ≡ last_at c k
-      → (b < blocks) × (last < 2 ^ 31) × (blk.from + get_or ps k 0 < 2 ^ 32) × (blk.past + get_or ps k 0 < 2 ^ 32)
-  along-asks l k last i e =
-      let (z, p, q, r, t) = part-asks a c h b k blk l i y.block-is in
-      (omega (arith, y.blocks-are), omega (arith, e, q), rw y.peels-are r, rw y.peels-are t)
-
-  pub summed-next : (n k sum x : ℕ) (r : Range) → k < loops_in c → Summed a c n b k sum → r ≡ range_of n a c b k → x ≡ r.past - r.from
-      → Summed a c n b (k + 1) (sum + x)
-  summed-next n k sum x r l s e f =
-      let w : x ≡ (range_of n a c b k).past - (range_of n a c b k).from = f ∙ ap (λ (z : Range). z.past - z.from) e in
-      record {
-        sum_is = total-next k (λ j. (range_of n a c b j).past - (range_of n a c b j).from) sum x s.sum_is w;
-        small = omega (arith, s.small, range_small a c h n b k l);
-      }
+pub summed-next : (a : Axis) (c : List ℕ) (h : Laid a c) (n b k sum x : ℕ) (r : Range) → k < loops_in c → Summed a c n b k sum → r ≡ range_of n a c b k → x ≡ r.past - r.from
+    → Summed a c n b (k + 1) (sum + x)
+summed-next a c h n b k sum x r l s e f =
+    let w : x ≡ (range_of n a c b k).past - (range_of n a c b k).from = f ∙ ap (λ (z : Range). z.past - z.from) e in
+    record {
+      sum_is = total-next k (λ j. (range_of n a c b j).past - (range_of n a c b j).from) sum x s.sum_is w;
+      small = omega (arith, s.small, range_small a c h n b k l);
+    }
 
 -- THE PARTS
 module _ (xs : List ℕ) (at l n : ℕ) (few : l ≤ 16) (room : at + 48 ≤ length xs) where

@@ -27,13 +27,6 @@ part_at part a c blk b k =
 abbrev pub range_of : ℕ → Axis → List ℕ → ℕ → ℕ → Range
 range_of n a c b k = part_at (part_in n) a c (block_in a b) b k
 
--- the numbers that a block's ranges depend on, taken apart, are those of the plan in a: block b, its shifts and its peels
-pub record Along (a : Axis) (blk : Range) (blocks b : ℕ) (shifts peels : List ℕ) : Type 0 where
-  pub blocks-are : blocks ≡ a.blocks
-  pub block-is : blk ≡ block_in a b
-  pub shifts-are : shifts ≡ a.shifts
-  pub peels-are : peels ≡ a.peels
-
 -- block b's two lists have so many iterations
 pub record Measures (a : Axis) (c : List ℕ) (b : ℕ) (l : Lengths) : Type 0 where
   pub fused-is : l.fused ≡ length (work (table_in c) (fusion_in a) 0 b)

@@ -7,9 +7,8 @@ ghost use Rattle.reader.specs.Store.{last_at, loops_in, table_in};
 ghost use Rattle.blocks.specs.Sums.{column};
 ghost use Rattle.lists.specs.Fusion.{fusion_in, work};
 ghost use Rattle.plans.specs.Code.{Laid};
-ghost use Rattle.ranges.specs.Code.{part_in, part_at, range_of, Along, Measures, list_of, RangesKept, Apart};
+ghost use Rattle.ranges.specs.Code.{part_in, part_at, range_of, Measures, list_of, RangesKept, Apart};
 
-use arithmetic::{length_of, minus};
 use blocks::{Axis, Part, Range};
 use model::Iteration;
 use records::Store;
@@ -43,89 +42,56 @@ pub fn part_in(phase: u32) -> Part
 }
 
 // The part of loop k that block b has, whose indices are `blk`.
-pub fn range_at(part: Part, a: Axis, blk: Range, b: u32, k: usize, store: &Store) -> Range
-    requires { (k < 16) × (b < a.blocks) × (last_at store.now k < 2 ^ 31) × (blk.from + column a.peels k < 2 ^ 32) × (blk.past + column a.peels k < 2 ^ 32) }
-    ensures { result ≡ part_at part a store.now blk b k }
+pub fn range_at(part: Part, a: &Axis, blk: Range, b: u32, k: usize, store: &Store) -> Range
+    requires { (k < 16) × (b < a.now.blocks) × (last_at store.now k < 2 ^ 31) × (blk.from + column a.now.peels k < 2 ^ 32) × (blk.past + column a.now.peels k < 2 ^ 32) }
+    ensures { result ≡ part_at part a.now store.now blk b k }
 {
-    let first = reader::first_at(store, k);
-    let last = reader::last_at(store, k);
-    blocks::part_between(part, first, last, blk, a.blocks, b, a.shifts[k], a.peels[k])
+    let own = Range {
+        from: reader::first_at(store, k),
+        past: reader::last_at(store, k) + 1,
+    };
+    a.part(part, own, blk, b, k)
 }
 
-fn put_range(lists: &mut [u32], at: usize, from: u32, past: u32, shift: u32)
+fn put_range(lists: &mut [u32], at: usize, r: Range, shift: u32)
     requires { at + 32 < length lists.old }
-    ensures { lists.new ≡ set (set (set lists.old at from) (at + 16) past) (at + 32) shift }
+    ensures { lists.new ≡ set (set (set lists.old at r.from) (at + 16) r.past) (at + 32) shift }
 {
-    lists[at] = from;
-    lists[at + PASTS] = past;
+    lists[at] = r.from;
+    lists[at + PASTS] = r.past;
     lists[at + SHIFTS] = shift;
 }
 
-// The same with the plan taken apart, since it is asked of every loop in every step: a struct by value would be copied each time.
-fn range_in(
-    part: Part,
-    blk: Range,
-    blocks: u32,
-    b: u32,
-    k: usize,
-    shifts: &[u32; 16],
-    peels: &[u32; 16],
-    store: &Store,
-) -> Range
-    requires { ((a : Axis) × Laid a store.now × (b < a.blocks) × Along a blk blocks b shifts.now peels.now) × (k < loops_in store.now) }
-    ensures { (a : Axis) (n : ℕ) → Along a blk blocks b shifts.now peels.now → part ≡ part_in n → result ≡ range_of n a store.now b k }
-{
-    let first = reader::first_at(store, k);
-    let last = reader::last_at(store, k);
-    blocks::part_between(part, first, last, blk, blocks, b, shifts[k], peels[k])
-}
-
-// How many iterations the fused and the peeled list have in block b, whose indices are `blk`.
-pub fn lengths_of(
-    blk: Range,
-    blocks: u32,
-    b: u32,
-    shifts: &[u32; 16],
-    peels: &[u32; 16],
-    store: &Store,
-) -> Lengths
-    requires { (a : Axis) × Laid a store.now × (b < a.blocks) × Along a blk blocks b shifts.now peels.now }
+// How many iterations the fused and the peeled list have in block b.
+pub fn lengths_of(a: &Axis, b: u32, store: &Store) -> Lengths
+    requires { Laid a.now store.now × (b < a.now.blocks) }
     ensures fused_bound { (result.fused ≤ 1052656) × (result.peeled ≤ 1052656) }
-    ensures measures { (a : Axis) → Laid a store.now → Along a blk blocks b shifts.now peels.now → Measures a store.now b result }
+    ensures measures { Measures a.now store.now b result }
 {
-    let loops = reader::loops_in(store);
-    let mut fused: u32 = 0;
-    let mut peeled: u32 = 0;
-    let mut k: usize = 0;
-    while k < loops {
-        let f = range_in(Part::Fused, blk, blocks, b, k, shifts, peels, store);
-        let p = range_in(Part::Peeled, blk, blocks, b, k, shifts, peels, store);
-        fused += minus(f.past, f.from);
-        peeled += minus(p.past, p.from);
-        k += 1;
+    let blk = a.block(b);
+    let mut fused = 0;
+    let mut peeled = 0;
+    for k in 0..reader::loops_in(store) {
+        fused += range_at(Part::Fused, a, blk, b, k, store).length();
+        peeled += range_at(Part::Peeled, a, blk, b, k, store).length();
     }
     Lengths { fused, peeled }
 }
 
 // The ranges of a phase in block b, kept from `at` on; answers how many iterations the list has that they give.
-pub fn put_list(phase: u32, a: Axis, b: u32, store: &Store, lists: &mut [u32], at: usize) -> usize
-    requires { Laid a store.now × (b < a.blocks) × (at + 48 ≤ length lists.old) × (at < 2 ^ 32) }
-    ensures value { (result ≡ length (work (table_in store.now) (fusion_in a) phase b)) × (result ≤ 1052656) }
-    ensures ranges_kept { RangesKept lists.new at (loops_in store.now) (range_of phase a store.now b) (column a.shifts) }
+pub fn put_list(phase: u32, a: &Axis, b: u32, store: &Store, lists: &mut [u32], at: usize) -> usize
+    requires { Laid a.now store.now × (b < a.now.blocks) × (at + 48 ≤ length lists.old) × (at < 2 ^ 32) }
+    ensures value { (result ≡ length (work (table_in store.now) (fusion_in a.now) phase b)) × (result ≤ 1052656) }
+    ensures ranges_kept { RangesKept lists.new at (loops_in store.now) (range_of phase a.now store.now b) (column a.now.shifts) }
     ensures apart { Apart lists.old lists.new at (at + 48) }
 {
-    let blk = blocks::block_of(a.first, a.count, a.line, a.blocks, b);
+    let blk = a.block(b);
     let part = part_in(phase);
-    let shifts = a.shifts;
-    let peels = a.peels;
-    let loops = reader::loops_in(store);
-    let mut sum: usize = 0;
-    let mut k: usize = 0;
-    while k < loops {
-        let r = range_in(part, blk, a.blocks, b, k, &shifts, &peels, store);
-        put_range(lists, at + k, r.from, r.past, shifts[k]);
-        sum += length_of(r.from, r.past);
-        k += 1;
+    let mut sum = 0;
+    for k in 0..reader::loops_in(store) {
+        let r = range_at(part, a, blk, b, k, store);
+        put_range(lists, at + k, r, a.shifts[k]);
+        sum += r.length() as usize;
     }
     sum
 }

@@ -15,14 +15,14 @@ use Rattle.records.specs.History.{summary, lengths, advanced, blank}
 use Rattle.records.specs.Grounds.{tested}
 use Rattle.records.specs.Clear.{Room}
 use Rattle.records.proofs.ClearLaws.{clear_room}
-use Rattle.records.proofs.Outcome.{Whole, refused-ground, passed-whole, tested-same}
+use Rattle.records.proofs.Outcome.{Whole, passed-whole, tested-same}
 use Rattle.refusals.specs.declared.Refusal.{Refusal}
-use Rattle.refusals.specs.Refusals.{met, none}
+use Rattle.std.specs.Prelude.{Ok, Err}
+use Rattle.refusals.specs.Refusals.{met}
 use Rattle.refusals.specs.Answers.{accepted}
 use Rattle.reader.specs.Reading.{follow, read_from, reading, table_of}
 use Rattle.reader.specs.Store.{Sized, start_at, kept, rows_after, table_at, with_counts, Places, ArrayFits}
 use Rattle.reader.specs.ReadInto.{ReadInto}
-use Rattle.reader.specs.ReadIntoLaws.{into-refused, into-accepted}
 use Rattle.reader.specs.Stored.{Stored, InPlace}
 use Rattle.reader.specs.StoredLaws.{stored-all, stored-start, kept_small, kept-stored, counted-table, counted-holds}
 
@@ -68,21 +68,22 @@ module _ (s : List ℕ) (c : List ℕ) (t : Summary) (at rows : ℕ) (inv : Inv 
     unfolding read_from
     turn y e = let f : left ≡ suc (left - 1) = omega arith in rw (find, e) at (subst (λ (n : ℕ). read_from n s at rs ≡ reading s) f rest)
 
-    pub turn-refused : (r : Refusal) → x ≡ found.Refused r → ReadInto (reading s) r c
+    pub turn-refused : (r : Refusal) → x ≡ found.Refused r → ReadInto (reading s) (Err r) c
     unfolding follow
     turn-refused r e =
-        into-refused (reading s) c r (sym (turn (found.Refused r) e)) (refused-ground s at (summary rs) (lengths rs) r (find ∙ e)).1
+        sym (turn (found.Refused r) e)
 
-    pub turn-tail : (n : ℕ) → x ≡ found.Ended n → n < length s → ReadInto (reading s) (met 8 n) c
+    pub turn-tail : (n : ℕ) → x ≡ found.Ended n → n < length s → ReadInto (reading s) (Err (met 8 n)) c
     unfolding follow
-    turn-tail n e l = into-refused (reading s) c (met 8 n) (sym (rw (lt-ltb _ _ l) at (turn (found.Ended n) e))) (λ z. omega arith)
+    turn-tail n e l = sym (rw (lt-ltb _ _ l) at (turn (found.Ended n) e))
 
-    pub turn-ended : (n : ℕ) (d : List ℕ) → x ≡ found.Ended n → length s ≤ n → d ≡ with_counts t.arrays t.loops c → ReadInto (reading s) none d
+    pub turn-ended : (n : ℕ) (d : List ℕ) → x ≡ found.Ended n → length s ≤ n → d ≡ with_counts t.arrays t.loops c → ReadInto (reading s) (Ok tt) d
     unfolding follow
     turn-ended n d e h f =
-        rw f (into-accepted (reading s) (with_counts t.arrays t.loops c)
-        (sym (rw (le-ltb _ _ h) at (turn (found.Ended n) e)) ∙ ap accepted (sym (counted-table c t.arrays t.loops rows stored.sized here-kept ∙ table)))
-        (counted-holds c t.arrays t.loops rows stored.sized here-kept))
+        rw f (
+          sym (rw (le-ltb _ _ h) at (turn (found.Ended n) e)) ∙ ap accepted (sym (counted-table c t.arrays t.loops rows stored.sized here-kept ∙ table)),
+          counted-holds c t.arrays t.loops rows stored.sized here-kept,
+        )
       where
         here-kept : InPlace c t.arrays t.loops rows
         here-kept = rw summed stored.kept

@@ -1,21 +1,11 @@
--- Laws of what reading into a store tells and leaves.
-use Rattle.std.specs.Prelude.{ℕ, ◌≡◌, List}
-use Rattle.std.proofs.Common.{sym, ap}
+-- Laws of what reading into a store tells and leaves, by either arm of what is told.
+use Rattle.std.specs.Prelude.{ℕ, ◌≡◌, List, Result, Ok, Err}
 use Rattle.refusals.specs.declared.Refusal.{Refusal}
-use Rattle.refusals.specs.Refusals.{none}
-use Rattle.refusals.specs.Answers.{accepted, refused, refusal_of}
-use Rattle.refusals.proofs.AnswerLaws.{told-refused}
+use Rattle.refusals.specs.Answers.{result_of}
 use Rattle.reader.specs.Reading.{Answer}
-use Rattle.reader.specs.Store.{table_in}
-use Rattle.reader.specs.Held.{Held}
 use Rattle.reader.specs.ReadInto.{ReadInto}
 
-module _ (a : Answer) (c : List ℕ) where
-  pub into-refused : (r : Refusal) → a ≡ refused r → (r.ground ≡ 0 → ⊥) → ReadInto a r c
-  into-refused r e some = record { told = sym (ap refusal_of e); held = λ z. absurd (some z) }
-
-  pub into-told : (r : Refusal) → ReadInto a r c → (r.ground ≡ 0 → ⊥) → a ≡ refused r
-  into-told r h some = told-refused a r h.told some
-
-  pub into-accepted : a ≡ accepted (table_in c) → Held c → ReadInto a none c
-  into-accepted e h = record { told = sym (ap refusal_of e); held = λ z. (e, h) }
+-- what is told is the answer's own
+pub into-result : (a : Answer) (r : Result (Unit {0}) Refusal) (c : List ℕ) → ReadInto a r c → r ≡ result_of (λ _. tt) a
+into-result a (Ok u) c h = rw h.0
+into-result a (Err e) c h = rw h

@@ -3,6 +3,8 @@ use Rattle.std.specs.Prelude.{ℕ, zero, suc, ◌+◌, ◌-◌, ◌*◌, ◌/◌
 use Rattle.records.specs.declared.Record.{Record}
 use Rattle.records.specs.declared.Record.TheVariants as rec
 use Rattle.records.specs.declared.Summary.{Summary}
+use Rattle.reader.specs.declared.RowKind.{RowKind}
+use Rattle.reader.specs.declared.RowKind.TheVariants as row
 use Rattle.model.specs.Table.{Item, read, constant, operation, Statement, Loop, Table}
 
 -- THE LAYOUT: the lengths of the arrays from 0 on; loop k has its bounds at k from 16 and from 32 on, and the rows from start_at k up to
@@ -36,7 +38,16 @@ module _ (c : List ℕ) where
 abbrev pub Sized : List ℕ → Type 0
 Sized c = length c ≡ 1219
 
--- the kind of a row: 0 a read, 1 a destination, 2 a constant, 3 an operation
+-- the kind of a row by its number: 0 a read, 1 a destination, 2 a constant, 3 an operation
+abbrev pub row_kind : ℕ → RowKind
+row_kind n = cond (eqb n 0) row.Read (cond (eqb n 1) row.Destination (cond (eqb n 2) row.Constant row.Operation))
+
+abbrev pub kind_number : RowKind → ℕ
+kind_number row.Read = 0
+kind_number row.Destination = 1
+kind_number row.Constant = 2
+kind_number row.Operation = 3
+
 unfoldable pub item_of : ℕ → ℕ → ℕ → Item
 item_of kind q v = cond (eqb kind 0) (read q v) (cond (eqb kind 2) (constant v) (operation v))
 

@@ -1,19 +1,18 @@
 // Reads a loop table into a store that the caller lends.
 #![tactic(auto)]
 
-ghost use Rattle.std.specs.Prelude.{◌≡◌, ◌+◌, ◌<◌, ◌≤◌};
+ghost use Rattle.std.specs.Prelude.{◌≡◌, ◌+◌, ◌<◌, ◌≤◌, eqb, ltb};
 ghost use Rattle.model.specs.Table.{count};
 ghost use Rattle.records.specs.Clear.{Room};
 ghost use Rattle.reader.specs.Reading.{reading};
-ghost use Rattle.reader.specs.Store.{Sized, first_at, last_at, start_at, kind_at, array_at, value_at, arrays_in, loops_in, table_in, kept, rows_after, with_row, with_bounds, with_counts, Places, ArrayFits};
+ghost use Rattle.reader.specs.Store.{Sized, first_at, last_at, start_at, kind_at, array_at, value_at, row_kind, kind_number, arrays_in, loops_in, table_in, kept, rows_after, with_row, with_bounds, with_counts, Places, ArrayFits};
 ghost use Rattle.reader.specs.Held.{Held};
 ghost use Rattle.reader.specs.Rows.{ref_in, refers_to, LastDestination};
 ghost use Rattle.reader.specs.ReadInto.{ReadInto};
 
-use arithmetic::{narrow, wide};
 use model::Reference;
 use records::{MOST_ROWS, ROW, ROWS_AT, Record, Store, Summary, Tested};
-use refusals::{Refusal, TAIL};
+use refusals::{Ground, Refusal};
 
 // The places of a store's parts.
 const FIRSTS_AT: usize = 16;
@@ -34,25 +33,39 @@ const SPLIT: u32 = 16;
 const STORED: usize = 16;
 
 // The kinds of rows.
-pub const READ: u32 = 0;
+#[derive(Clone, Copy, Debug, PartialEq, Eq)]
+pub enum RowKind {
+    Read,
+    Destination,
+    Constant,
+    Operation,
+}
 
-pub const DESTINATION: u32 = 1;
-
-pub const CONSTANT: u32 = 2;
-
-const OPERATION: u32 = 3;
+impl RowKind {
+    // Its number in a row's head.
+    fn number(self) -> u32
+        ensures { result ≡ kind_number self }
+    {
+        match self {
+            RowKind::Read => 0,
+            RowKind::Destination => 1,
+            RowKind::Constant => 2,
+            RowKind::Operation => 3,
+        }
+    }
+}
 
 // How many arrays and how many loops there are.
 pub fn arrays_in(store: &Store) -> usize
     ensures { result ≡ arrays_in store.now }
 {
-    wide(store[ARRAYS_AT])
+    store[ARRAYS_AT] as usize
 }
 
 pub fn loops_in(store: &Store) -> usize
     ensures { result ≡ loops_in store.now }
 {
-    wide(store[LOOPS_AT])
+    store[LOOPS_AT] as usize
 }
 
 // The bounds of loop k.
@@ -75,15 +88,20 @@ pub fn start_at(store: &Store, k: usize) -> usize
     requires { k < 17 }
     ensures { result ≡ start_at store.now k }
 {
-    wide(store[STARTS_AT + k])
+    store[STARTS_AT + k] as usize
 }
 
 // The kind, the array and the value of row r.
-pub fn kind_at(store: &Store, r: usize) -> u32
+pub fn kind_at(store: &Store, r: usize) -> RowKind
     requires { r < 576 }
-    ensures { result ≡ kind_at store.now r }
+    ensures { result ≡ row_kind (kind_at store.now r) }
 {
-    store[ROWS_AT + ROW * r] / SPLIT
+    match store[ROWS_AT + ROW * r] / SPLIT {
+        0 => RowKind::Read,
+        1 => RowKind::Destination,
+        2 => RowKind::Constant,
+        _ => RowKind::Operation,
+    }
 }
 
 pub fn array_at(store: &Store, r: usize) -> u32
@@ -100,6 +118,22 @@ pub fn value_at(store: &Store, r: usize) -> u32
     store[ROWS_AT + ROW * r + 1]
 }
 
+// Row r is a reference: a read's or a destination's.
+pub fn is_reference(store: &Store, r: usize) -> bool
+    requires { r < 576 }
+    ensures { result ≡ ltb (kind_at store.now r) 2 }
+{
+    store[ROWS_AT + ROW * r] / SPLIT < 2
+}
+
+// Row r is a destination's.
+pub fn is_destination(store: &Store, r: usize) -> bool
+    requires { r < 576 }
+    ensures { result ≡ eqb (kind_at store.now r) 1 }
+{
+    store[ROWS_AT + ROW * r] / SPLIT == 1
+}
+
 // The reference in row r of loop k.
 pub fn reference_at(store: &Store, k: usize, r: usize) -> Reference
     requires { r < 576 }
@@ -107,9 +141,9 @@ pub fn reference_at(store: &Store, k: usize, r: usize) -> Reference
 {
     Reference {
         number: k,
-        array: wide(array_at(store, r)),
-        offset: wide(value_at(store, r)),
-        stores: kind_at(store, r) == DESTINATION,
+        array: array_at(store, r) as usize,
+        offset: value_at(store, r) as usize,
+        stores: is_destination(store, r),
     }
 }
 
@@ -118,11 +152,8 @@ pub fn refers_to(store: &Store, r: usize, q: usize) -> bool
     requires { (r < 576) × (q < 16) }
     ensures { result ≡ refers_to store.now r q }
 {
-    let head = wide(store[ROWS_AT + ROW * r]);
-    if head == q {
-        return true;
-    }
-    head == q + STORED
+    let head = store[ROWS_AT + ROW * r] as usize;
+    head == q || head == q + STORED
 }
 
 // The last row of loop k that is a destination's.
@@ -133,7 +164,7 @@ pub fn last_destination(store: &Store, k: usize) -> usize
     let start = start_at(store, k);
     let mut r = start_at(store, k + 1) - 1;
     while start < r {
-        if kind_at(store, r) == DESTINATION {
+        if is_destination(store, r) {
             return r;
         }
         r -= 1;
@@ -142,14 +173,14 @@ pub fn last_destination(store: &Store, k: usize) -> usize
 }
 
 // One row more: loop k begins past it.
-fn put_row(k: usize, r: usize, kind: u32, q: u32, v: u32, store: &mut Store) -> usize
-    requires { (k < 17) × (r < 576) × (kind < 4) × (q < 16) }
+fn put_row(k: usize, r: usize, kind: RowKind, q: u32, v: u32, store: &mut Store) -> usize
+    requires { (k < 17) × (r < 576) × (q < 16) }
     ensures value { result ≡ r + 1 }
-    ensures store_after { store.new ≡ with_row k r kind q v store.old }
+    ensures store_after { store.new ≡ with_row k r (kind_number kind) q v store.old }
 {
-    store[STARTS_AT + k] = narrow(r + 1);
+    store[STARTS_AT + k] = (r + 1) as u32;
     let at = ROWS_AT + ROW * r;
-    store[at] = kind * SPLIT + q;
+    store[at] = kind.number() * SPLIT + q;
     store[at + 1] = v;
     r + 1
 }
@@ -176,11 +207,11 @@ fn keep(x: Record, t: Summary, r: usize, store: &mut Store) -> usize
     ensures value { result ≡ rows_after x r }
     ensures store_after { store.new ≡ kept x t r store.old }
 {
-    let k = wide(t.loops);
+    let k = t.loops as usize;
     match x {
         Record::Unknown => r,
         Record::Array(n) => {
-            let at = wide(t.arrays);
+            let at = t.arrays as usize;
             store[at] = n;
             r
         }
@@ -191,18 +222,25 @@ fn keep(x: Record, t: Summary, r: usize, store: &mut Store) -> usize
             offset,
         } => {
             put_bounds(k, first, last, store);
-            put_row(k + 1, r, DESTINATION, array, offset, store)
+            put_row(k + 1, r, RowKind::Destination, array, offset, store)
         }
-        Record::Read { array, offset } => put_row(k, r, READ, array, offset, store),
-        Record::Constant(n) => put_row(k, r, CONSTANT, 0, n, store),
-        Record::Operation(o) => put_row(k, r, OPERATION, 0, o, store),
+        Record::Read { array, offset } => put_row(k, r, RowKind::Read, array, offset, store),
+        Record::Constant(n) => put_row(k, r, RowKind::Constant, 0, n, store),
+        Record::Operation(o) => put_row(k, r, RowKind::Operation, 0, o, store),
         Record::End => r,
-        Record::Statement { array, offset } => put_row(k, r, DESTINATION, array, offset, store),
+        Record::Statement { array, offset } => put_row(
+            k,
+            r,
+            RowKind::Destination,
+            array,
+            offset,
+            store,
+        ),
     }
 }
 
 // The table that the bytes are, in the lent store, or the ground that they meet and its place.
-pub fn read_table(s: &[u8], store: &mut Store) -> Refusal
+pub fn read_table(s: &[u8], store: &mut Store) -> Result<(), Refusal>
     requires { Sized store.old }
     ensures { ReadInto (reading s.now) result store.new }
 {
@@ -213,7 +251,7 @@ pub fn read_table(s: &[u8], store: &mut Store) -> Refusal
     loop {
         let found = decoding::read_record(s, at, t, store);
         match found {
-            Tested::Refused(r) => return r,
+            Tested::Refused(r) => return Err(r),
             Tested::Passed(x, n) => {
                 rows = keep(x, t, rows, store);
                 t = t.advance(x);
@@ -221,10 +259,10 @@ pub fn read_table(s: &[u8], store: &mut Store) -> Refusal
             }
             Tested::Ended(n) => {
                 if n < s.len() {
-                    return Refusal::met(TAIL, n);
+                    return Err(Refusal::met(Ground::Tail, n));
                 }
                 put_counts(t.arrays, t.loops, store);
-                return Refusal::none();
+                return Ok(());
             }
         }
     }

@@ -1,9 +1,9 @@
 -- Laws of answers: what is accepted and what is refused after an answer, and before a test.
-use Rattle.std.specs.Prelude.{ℕ, ◌≡◌, refl, ◌⊎◌, Bool, true, false}
+use Rattle.std.specs.Prelude.{ℕ, ◌≡◌, refl, ◌⊎◌, Bool, true, false, Ok, Err}
 use Rattle.std.proofs.Common.{arith, sym, ap, subst, inl, inr}
 use Rattle.refusals.specs.declared.Refusal.{Refusal}
 use Rattle.refusals.specs.Refusals.{met}
-use Rattle.refusals.specs.Answers.{AnswerOf, ◌if◌else◌, after, refusal_of, Only, accepted, refused}
+use Rattle.refusals.specs.Answers.{AnswerOf, ◌if◌else◌, after, refusal_of, result_of, Only, accepted, refused}
 
 module _ {T : Type 0} where
   pub not-both : {r : Refusal} {t : T} → refused r ≡ accepted t → ⊥
@@ -55,3 +55,19 @@ module _ {T U : Type 0} where
       → (a ≡ refused r) ⊎ ((t : T) × (a ≡ accepted t) × (more t ≡ refused r))
   after-refused (refused q) more r e = inl (let z : q ≡ r = ap refusal_of e in ap refused z)
   after-refused (accepted t) more r e = inr (t, refl, e)
+
+-- WHAT CODE ANSWERS: from the answer to what is answered, and back
+module _ {T U : Type 0} where
+  pub answers-accepted : (f : T → U) (a : AnswerOf T) (t : T) → a ≡ accepted t → Ok (f t) ≡ result_of f a
+  answers-accepted f a t e = sym (ap (result_of f) e)
+
+  pub answers-refused : (f : T → U) (a : AnswerOf T) (r : Refusal) → a ≡ refused r → Err r ≡ result_of f a
+  answers-refused f a r e = sym (ap (result_of f) e)
+
+  pub ok-accepted : (f : T → U) (a : AnswerOf T) (u : U) → result_of f a ≡ Ok u → (t : T) × (a ≡ accepted t) × (f t ≡ u)
+  ok-accepted f (refused r) u e = cc
+  ok-accepted f (accepted t) u e = (t, refl, cc)
+
+  pub err-refused : (f : T → U) (a : AnswerOf T) (r : Refusal) → result_of f a ≡ Err r → a ≡ refused r
+  err-refused f (refused q) r e = cc
+  err-refused f (accepted t) r e = cc

@@ -1,5 +1,5 @@
 -- An answer: what was asked for, or a refusal. Tests stand in the order in which they are made.
-use Rattle.std.specs.Prelude.{◌≡◌, Bool, true, false}
+use Rattle.std.specs.Prelude.{◌≡◌, Bool, true, false, Result, Ok, Err}
 use Rattle.refusals.specs.declared.Refusal.{Refusal}
 use Rattle.refusals.specs.Refusals.{none}
 
@@ -22,6 +22,11 @@ after (accepted t) more = more t
 abbrev pub refusal_of : {T : Type 0} → AnswerOf T → Refusal
 refusal_of (refused r) = r
 refusal_of (accepted t) = none
+
+-- what code answers: what it makes of what was accepted, or the refusal as an error
+abbrev pub result_of : {T U : Type 0} → (T → U) → AnswerOf T → Result U Refusal
+result_of f (refused r) = Err r
+result_of f (accepted t) = Ok (f t)
 
 -- every refusal of an answer is so
 abbrev pub Only : {T : Type 0} → (Refusal → Type 0) → AnswerOf T → Type 0

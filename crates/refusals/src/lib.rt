@@ -2,44 +2,58 @@
 #![tactic(auto)]
 
 ghost use Rattle.std.specs.Prelude.{◌≡◌};
-ghost use Rattle.refusals.specs.Refusals.{none, met, naming};
+ghost use Rattle.refusals.specs.Refusals.{number_of, none, met, naming};
 
 // The grounds by their words.
-pub const TORN: u32 = 1;
+#[derive(Clone, Copy, Debug, PartialEq, Eq)]
+pub enum Ground {
+    Torn,
+    Kind,
+    Field,
+    Crowd,
+    Array,
+    Body,
+    Edge,
+    Tail,
+    Serial,
+    Processors,
+    Short,
+    Memory,
+    Buffer,
+    Unlike,
+    State,
+    Line,
+    Plan,
+    Unmet,
+}
 
-pub const KIND: u32 = 2;
-
-pub const FIELD: u32 = 3;
-
-pub const CROWD: u32 = 4;
-
-pub const ARRAY: u32 = 5;
-
-pub const BODY: u32 = 6;
-
-pub const EDGE: u32 = 7;
-
-pub const TAIL: u32 = 8;
-
-pub const SERIAL: u32 = 9;
-
-pub const PROCESSORS: u32 = 10;
-
-pub const SHORT: u32 = 11;
-
-pub const MEMORY: u32 = 12;
-
-pub const BUFFER: u32 = 13;
-
-pub const UNLIKE: u32 = 14;
-
-pub const STATE: u32 = 15;
-
-pub const LINE: u32 = 17;
-
-pub const PLAN: u32 = 19;
-
-pub const UNMET: u32 = 20;
+impl Ground {
+    // The number that definitions and C know it by.
+    pub fn number(self) -> u32
+        ensures { result ≡ number_of self }
+    {
+        match self {
+            Ground::Torn => 1,
+            Ground::Kind => 2,
+            Ground::Field => 3,
+            Ground::Crowd => 4,
+            Ground::Array => 5,
+            Ground::Body => 6,
+            Ground::Edge => 7,
+            Ground::Tail => 8,
+            Ground::Serial => 9,
+            Ground::Processors => 10,
+            Ground::Short => 11,
+            Ground::Memory => 12,
+            Ground::Buffer => 13,
+            Ground::Unlike => 14,
+            Ground::State => 15,
+            Ground::Line => 17,
+            Ground::Plan => 19,
+            Ground::Unmet => 20,
+        }
+    }
+}
 
 // The ground's number, 0 where nothing is refused; the place; and what is named, two numbers: of 9 the read, and 0; of 20, whose
 // place is the earlier loop, the later loop, and 0; else 0 and 0.
@@ -65,11 +79,11 @@ impl Refusal {
     }
 
     // A ground that names nothing, met at a place.
-    pub fn met(ground: u32, place: usize) -> Self
-        ensures { result ≡ met ground place }
+    pub fn met(cause: Ground, place: usize) -> Self
+        ensures { result ≡ met (number_of cause) place }
     {
         Refusal {
-            ground,
+            ground: cause.number(),
             place,
             first: 0,
             second: 0,
@@ -77,11 +91,11 @@ impl Refusal {
     }
 
     // A ground that names two numbers.
-    pub fn naming(ground: u32, place: usize, first: usize, second: usize) -> Self
-        ensures { result ≡ naming ground place first second }
+    pub fn naming(cause: Ground, place: usize, first: usize, second: usize) -> Self
+        ensures { result ≡ naming (number_of cause) place first second }
     {
         Refusal {
-            ground,
+            ground: cause.number(),
             place,
             first,
             second,

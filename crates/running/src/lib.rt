@@ -21,16 +21,9 @@ use layouts::{ALL_LISTS, LISTS};
 use plans::Settings;
 use ranges::PHASES;
 use records::{STORE, Store};
-use refusals::{MEMORY, Refusal};
+use refusals::{Ground, Refusal};
 use stepping::Report;
 use steps::{Counts, Layout};
-
-// What a run answers: what is refused, and how many calls were idle.
-#[derive(Clone, Copy)]
-pub struct Ran {
-    pub refusal: Refusal,
-    pub idle: usize,
-}
 
 // What the calls of an order leave: the counts, and how many of them were idle.
 #[derive(Clone, Copy)]
@@ -90,17 +83,14 @@ fn run_row(order: &[u8], layout: &Layout, memory: &mut [f64]) -> usize
     taken.idle
 }
 
-// The run of an accepted plan: 12, then the calls.
-fn run_planned(a: Axis, order: &[u8], store: &Store, memory: &mut [f64]) -> Ran
+// The run of an accepted plan: 12, or how many of its calls were idle.
+fn run_planned(a: Axis, order: &[u8], store: &Store, memory: &mut [f64]) -> Result<usize, Refusal>
     requires { Laid a store.now }
     ensures { (s : List ℕ) (w : Settings) → planned s w ≡ accepted (planned_in a store.now) → Runs s w order.now memory.old result memory.new }
 {
     let bases = iterations::bases_of(store).firsts;
     if memory.len() != bases[16] as usize {
-        return Ran {
-            refusal: Refusal::met(MEMORY, 0),
-            idle: 0,
-        };
+        return Err(Refusal::met(Ground::Memory, 0));
     }
     let mut ends = [0u32; ENDS];
     layouts::put_ends(a, store, &mut ends);
@@ -117,24 +107,14 @@ fn run_planned(a: Axis, order: &[u8], store: &Store, memory: &mut [f64]) -> Ran
         store,
         bases: &bases,
     };
-    let idle = run_row(order, &layout, memory);
-    Ran {
-        refusal: Refusal::none(),
-        idle,
-    }
+    Ok(run_row(order, &layout, memory))
 }
 
-// The run of a table in a caller's order, whose bytes name processors.
-pub fn run(s: &[u8], w: Settings, order: &[u8], memory: &mut [f64]) -> Ran
+// The run of a table in a caller's order, whose bytes name processors: how many of its calls were idle, or the refusal.
+pub fn run(s: &[u8], w: Settings, order: &[u8], memory: &mut [f64]) -> Result<usize, Refusal>
     ensures { Runs s.now w order.now memory.old result memory.new }
 {
     let mut store = [0u32; STORE];
-    let p = plans::plan_table(s, w, &mut store);
-    if p.refusal.ground != 0 {
-        return Ran {
-            refusal: p.refusal,
-            idle: 0,
-        };
-    }
-    run_planned(p.axis, order, &store, memory)
+    let a = plans::plan_table(s, w, &mut store)?;
+    run_planned(a, order, &store, memory)
 }

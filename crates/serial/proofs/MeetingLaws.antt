@@ -18,9 +18,8 @@ use Rattle.model.specs.declared.Reference.{Reference}
 use Rattle.model.specs.Table.{Item, read, constant, operation, Statement, Table, loop, count, first, last, iteration, Inside}
 use Rattle.model.specs.References.{destination, reads, references, refs, touch, Touch, Meet}
 use Rattle.chains.proofs.DependenceLaws.{touch_is}
-use Rattle.serial.specs.declared.Collision.{Collision}
-use Rattle.serial.specs.declared.Collision.TheVariants.{Nothing, Pair}
-use Rattle.serial.specs.Serial.{collides, pick, hit, or_else, pair_hit, loop_hit}
+use Rattle.std.specs.Prelude.{None, Some}
+use Rattle.serial.specs.Serial.{Collision, pair, collides, pick, hit, or_else, pair_hit, loop_hit}
 use Rattle.serial.specs.Meeting.{Serial, numbered, Collides}
 
 -- THE TEST OF A PAIR
@@ -58,19 +57,21 @@ module _ (f l : ℕ) (d : Reference) where
     collide : collides f l r (get_or qs place d) ≡ true
     earlier : (j : ℕ) → j < place → Apart r qs j
 
-  pair_parts : (n m a b : ℕ) → Pair n m ≡ Pair a b → (n ≡ a) × (m ≡ b)
-  pair_parts n m a b e = (cc, cc)
+  pair_parts : (n m a b : ℕ) → pair n m ≡ pair a b → (n ≡ a) × (m ≡ b)
+  pair_parts n m a b e =
+      let p : ◌≡◌ {A = ℕ × ℕ} (n, m) (a, b) = cc in
+      (ap (λ (x : ℕ × ℕ). x.0) p, ap (λ (x : ℕ × ℕ). x.1) p)
 
-  no-pair : {A : Type 0} (n m : ℕ) → Nothing ≡ Pair n m → A
+  no-pair : {A : Type 0} (n m : ℕ) → None ≡ pair n m → A
   no-pair n m e = let z : ◌≡◌ {A = ℕ} 0 1 = cc in absurd (omega arith)
 
-  hit-found : (n : ℕ) (r : Reference) (qs : List Reference) (m a b : ℕ) → hit f l n r qs m ≡ Pair a b → Hit n r qs m a b
+  hit-found : (n : ℕ) (r : Reference) (qs : List Reference) (m a b : ℕ) → hit f l n r qs m ≡ pair a b → Hit n r qs m a b
   unfolding hit
   hit-found n r [] m a b e = no-pair a b e
   hit-found n r (q ∷ qs) m a b e = go (collides f l r q) refl e (hit-found n r qs (m + 1) a b)
     where
-      go : (x : Bool) → collides f l r q ≡ x → pick x (Pair n m) (hit f l n r qs (m + 1)) ≡ Pair a b
-          → (hit f l n r qs (m + 1) ≡ Pair a b → Hit n r qs (m + 1) a b) → Hit n r (q ∷ qs) m a b
+      go : (x : Bool) → collides f l r q ≡ x → pick x (pair n m) (hit f l n r qs (m + 1)) ≡ pair a b
+          → (hit f l n r qs (m + 1) ≡ pair a b → Hit n r qs (m + 1) a b) → Hit n r (q ∷ qs) m a b
       go true g h ih =
           let (x, y) = pair_parts n m a b h in
           record { own = sym x; place = 0; named = omega arith; inside = omega arith; collide = g; earlier = λ j k. absurd (omega arith) }
@@ -88,13 +89,13 @@ module _ (f l : ℕ) (d : Reference) where
           before zero k z = g
           before (suc j) k z = k j (omega arith)
 
-  hit-none : (n : ℕ) (r : Reference) (qs : List Reference) (m : ℕ) → hit f l n r qs m ≡ Nothing → (j : ℕ) → j < length qs → Apart r qs j
+  hit-none : (n : ℕ) (r : Reference) (qs : List Reference) (m : ℕ) → hit f l n r qs m ≡ None → (j : ℕ) → j < length qs → Apart r qs j
   unfolding hit
   hit-none n r [] m e j h = absurd (omega arith)
   hit-none n r (q ∷ qs) m e j h = go (collides f l r q) refl e j h (hit-none n r qs (m + 1))
     where
-      go : (x : Bool) → collides f l r q ≡ x → pick x (Pair n m) (hit f l n r qs (m + 1)) ≡ Nothing → (i : ℕ) → i < length (q ∷ qs)
-          → (hit f l n r qs (m + 1) ≡ Nothing → (i : ℕ) → i < length qs → Apart r qs i) → Apart r (q ∷ qs) i
+      go : (x : Bool) → collides f l r q ≡ x → pick x (pair n m) (hit f l n r qs (m + 1)) ≡ None → (i : ℕ) → i < length (q ∷ qs)
+          → (hit f l n r qs (m + 1) ≡ None → (i : ℕ) → i < length qs → Apart r qs i) → Apart r (q ∷ qs) i
       go true g e i k ih = no-pair n m (sym e)
       go false g e zero k ih = g
       go false g e (suc i) k ih = ih e i (omega arith)
@@ -115,14 +116,14 @@ module _ (f l : ℕ) (d : Reference) where
     lower : (i j : ℕ) → i < low → i < j → j < length rs → ApartIn rs i j
     nearer : (j : ℕ) → low < j → j < high → ApartIn rs low j
 
-  pair_found : (rs : List Reference) (n a b : ℕ) → pair_hit f l rs n ≡ Pair a b → Pairs rs n a b
+  pair_found : (rs : List Reference) (n a b : ℕ) → pair_hit f l rs n ≡ pair a b → Pairs rs n a b
   unfolding pair_hit
   pair_found [] n a b e = no-pair a b e
   pair_found (r ∷ qs) n a b e = go (hit f l n r qs (n + 1)) refl e (pair_found qs (n + 1) a b)
     where
-      go : (x : Collision) → hit f l n r qs (n + 1) ≡ x → or_else x (pair_hit f l qs (n + 1)) ≡ Pair a b
-          → (pair_hit f l qs (n + 1) ≡ Pair a b → Pairs qs (n + 1) a b) → Pairs (r ∷ qs) n a b
-      go Nothing g h ih = let w = ih h in
+      go : (x : Collision) → hit f l n r qs (n + 1) ≡ x → or_else x (pair_hit f l qs (n + 1)) ≡ pair a b
+          → (pair_hit f l qs (n + 1) ≡ pair a b → Pairs qs (n + 1) a b) → Pairs (r ∷ qs) n a b
+      go None g h ih = let w = ih h in
           record {
             low = suc w.low;
             high = suc w.high;
@@ -144,7 +145,7 @@ module _ (f l : ℕ) (d : Reference) where
           between : (j : ℕ) {p q : ℕ} → ((j : ℕ) → p < j → j < q → ApartIn qs p j) → suc p < j → j < suc q → ApartIn (r ∷ qs) (suc p) j
           between zero k u v = absurd (omega arith)
           between (suc j) k u v = k j (omega arith) (omega arith)
-      go (Pair x y) g h ih =
+      go (Some (x, y)) g h ih =
           let w = hit-found n r qs (n + 1) x y g in
           let (u, v) = pair_parts x y a b h in
           record {
@@ -163,17 +164,17 @@ module _ (f l : ℕ) (d : Reference) where
           first zero k u v = absurd (omega arith)
           first (suc j) k u v = k j (omega arith)
 
-  pair-none : (rs : List Reference) (n : ℕ) → pair_hit f l rs n ≡ Nothing → (i j : ℕ) → i < j → j < length rs → ApartIn rs i j
+  pair-none : (rs : List Reference) (n : ℕ) → pair_hit f l rs n ≡ None → (i j : ℕ) → i < j → j < length rs → ApartIn rs i j
   unfolding pair_hit
   pair-none [] n e i j u v = absurd (omega arith)
   pair-none (r ∷ qs) n e i j u v = go (hit f l n r qs (n + 1)) refl e i j u v (pair-none qs (n + 1))
     where
-      go : (x : Collision) → hit f l n r qs (n + 1) ≡ x → or_else x (pair_hit f l qs (n + 1)) ≡ Nothing → (i j : ℕ) → i < j → j < length (r ∷ qs)
-          → (pair_hit f l qs (n + 1) ≡ Nothing → (i j : ℕ) → i < j → j < length qs → ApartIn qs i j) → ApartIn (r ∷ qs) i j
-      go Nothing g h i zero u v ih = absurd (omega arith)
-      go Nothing g h zero (suc j) u v ih = hit-none n r qs (n + 1) g j (omega arith)
-      go Nothing g h (suc i) (suc j) u v ih = ih h i j (omega arith) (omega arith)
-      go (Pair x y) g h i j u v ih = no-pair x y (sym h)
+      go : (x : Collision) → hit f l n r qs (n + 1) ≡ x → or_else x (pair_hit f l qs (n + 1)) ≡ None → (i j : ℕ) → i < j → j < length (r ∷ qs)
+          → (pair_hit f l qs (n + 1) ≡ None → (i j : ℕ) → i < j → j < length qs → ApartIn qs i j) → ApartIn (r ∷ qs) i j
+      go None g h i zero u v ih = absurd (omega arith)
+      go None g h zero (suc j) u v ih = hit-none n r qs (n + 1) g j (omega arith)
+      go None g h (suc i) (suc j) u v ih = ih h i j (omega arith) (omega arith)
+      go (Some (x, y)) g h i j u v ih = no-pair x y (sym h)
 
 -- THE LOOP'S OWN NUMBER IS NO MATTER
 abbrev Like : Reference → Reference → Type 0
@@ -249,7 +250,7 @@ module _ (t : Table) (k : ℕ) where
   apart_none m n e c =
       false-true (sym e ∙ meet-collides (numbered t k m) (numbered t k n) c.one c.other c.one_inside c.other-inside c.differ c.meet)
 
-  module _ (m n : ℕ) (e : loop_hit (loop t k) ≡ Pair m n) where
+  module _ (m n : ℕ) (e : loop_hit (loop t k) ≡ pair m n) where
     found : Pairs (first t k) (last t k) none (refs t k) 0 m n
     found = pair_found (first t k) (last t k) none (refs t k) 0 m n (sym loop-pairs ∙ e)
 
@@ -282,7 +283,7 @@ module _ (t : Table) (k : ℕ) where
   at_place (y ∷ rs) (mthere h) = let (n, l, e) = at_place rs h in (suc n, omega arith, e)
 
   -- where the test finds nothing, no two iterations meet
-  pub none-parallel : loop_hit (loop t k) ≡ Nothing → Serial t k → ⊥
+  pub none-parallel : loop_hit (loop t k) ≡ None → Serial t k → ⊥
   none-parallel e x =
       let (i, l, p) = at_place (refs t k) x.left_in in
       let (j, m, q) = at_place (refs t k) x.right-in in

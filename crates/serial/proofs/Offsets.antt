@@ -19,7 +19,7 @@ use Rattle.model.specs.declared.Reference.{Reference}
 use Rattle.reader.specs.Store.{kind_at, array_at, value_at}
 use Rattle.reader.specs.Stored.{Row}
 use Rattle.reader.specs.Rows.{ref_in, refs_in}
-use Rattle.serial.specs.declared.Collision.TheVariants.{Nothing}
+use Rattle.std.specs.Prelude.{None}
 use Rattle.serial.specs.Serial.{collides, pair_hit}
 use Rattle.serial.specs.Rows.{StoredAt, with_offset, offset_of, differs}
 use Rattle.serial.proofs.Walks.{untouched, same-offset, apart-pairs, rows-one}
@@ -166,7 +166,7 @@ module _ (c : List ℕ) where
             (λ s. v (sym (one-offset j i d e a b (eqb-true (kind_at c j) 1 s) k (sym t.0))))
             t.1)
 
-    pub none-collide : pair_hit f l (refs_in c 0 from past) 0 ≡ Nothing
+    pub none-collide : pair_hit f l (refs_in c 0 from past) 0 ≡ None
     none-collide = apart-pairs f l (refs_in c 0 from past) 0 pair
       where
         pair : (r q : Reference) → Mem r (refs_in c 0 from past) → Mem q (refs_in c 0 from past) → collides f l r q ≡ false

@@ -6,13 +6,12 @@ use Rattle.model.specs.Table.{Table, loop, count}
 use Rattle.refusals.specs.Answers.{accepted, refused}
 use Rattle.refusals.proofs.AnswerLaws.{not-both}
 use Rattle.reader.specs.Reading.{Answer, reading}
-use Rattle.serial.specs.declared.Collision.{Collision}
-use Rattle.serial.specs.declared.Collision.TheVariants.{Nothing, Pair}
-use Rattle.serial.specs.Serial.{loop_hit, after_loop, serial_from, through, table}
+use Rattle.std.specs.Prelude.{None, Some}
+use Rattle.serial.specs.Serial.{Collision, loop_hit, after_loop, serial_from, through, table}
 
 -- nothing in the n loops from loop k on
 abbrev Clear : Table → ℕ → ℕ → Type 0
-Clear t k n = (j : ℕ) → k ≤ j → j < k + n → loop_hit (loop t j) ≡ Nothing
+Clear t k n = (j : ℕ) → k ≤ j → j < k + n → loop_hit (loop t j) ≡ None
 
 from-clear : (t : Table) (k n : ℕ) → Clear t k n → serial_from t k n ≡ accepted t
 unfolding serial_from
@@ -26,16 +25,16 @@ clear-from t u k (suc n) e = go (loop_hit (loop t k)) refl e (clear-from t u (su
   where
     go : (x : Collision) → loop_hit (loop t k) ≡ x → after_loop k x (serial_from t (suc k) n) ≡ accepted u
         → (serial_from t (suc k) n ≡ accepted u → (t ≡ u) × Clear t (suc k) n) → (t ≡ u) × Clear t k (suc n)
-    go Nothing f h ih = let (is, c) = ih h in (is, λ j l m. at j l m (ℕ_discrete j k) c)
+    go None f h ih = let (is, c) = ih h in (is, λ j l m. at j l m (ℕ_discrete j k) c)
       where
-        at : (j : ℕ) → k ≤ j → j < k + suc n → Dec (j ≡ k) → Clear t (suc k) n → loop_hit (loop t j) ≡ Nothing
+        at : (j : ℕ) → k ≤ j → j < k + suc n → Dec (j ≡ k) → Clear t (suc k) n → loop_hit (loop t j) ≡ None
         at j l m (yes z) c = rw z f
         at j l m (no z) c = c j (omega arith) (omega arith)
-    go (Pair i j) f h ih = absurd (not-both h)
+    go (Some (i, j)) f h ih = absurd (not-both h)
 
 -- no loop collides
 abbrev pub Parallel : Table → Type 0
-Parallel t = (k : ℕ) → k < count t → loop_hit (loop t k) ≡ Nothing
+Parallel t = (k : ℕ) → k < count t → loop_hit (loop t k) ≡ None
 
 pub parallel-accepted : (s : List ℕ) (t : Table) → reading s ≡ accepted t → Parallel t → table s ≡ accepted t
 unfolding table through

@@ -22,21 +22,18 @@ use Rattle.chains.proofs.DependenceLaws.{touch_is}
 use Rattle.model.specs.declared.Reference.{Reference}
 use Rattle.model.specs.References.{touch, Touch}
 use Rattle.model.specs.Table.{loop, count}
-use Rattle.refusals.specs.declared.Refusal.{Refusal}
 use Rattle.refusals.specs.Refusals.{naming}
-use Rattle.refusals.specs.Refusals.{none as nothing-refused}
-use Rattle.refusals.specs.Answers.{accepted}
+use Rattle.refusals.specs.declared.Refusal.{Refusal}
+use Rattle.refusals.specs.Answers.{accepted, refused}
 use Rattle.reader.specs.Reading.{Answer, reading}
 use Rattle.reader.specs.Store.{first_at, last_at, start_at, kind_at, loops_in, loop_at, table_in}
 use Rattle.reader.specs.Stored.{Row}
 use Rattle.reader.specs.ReadInto.{ReadInto}
-use Rattle.reader.specs.ReadIntoLaws.{into-refused, into-told, into-accepted}
 use Rattle.reader.specs.Held.{Held, count_held, few-loops, few-rows, rows-rise, row-held, opening-held, loop-held}
 use Rattle.reader.specs.Rows.{ref_in, row_refs, refs_from, refs_in, LastDestination}
 use Rattle.reader.specs.RowLaws.{row-reference, row-none, body-refers, refs-next, refs_end, refs-split, refs-up}
-use Rattle.serial.specs.declared.Collision.{Collision}
-use Rattle.serial.specs.declared.Collision.TheVariants.{Nothing, Pair}
-use Rattle.serial.specs.Serial.{collides, hit, or_else, pair_hit, loop_hit, after_loop, serial_from, through, table}
+use Rattle.std.specs.Prelude.{None, Some, Result, Ok, Err}
+use Rattle.serial.specs.Serial.{Collision, pair, collides, hit, or_else, pair_hit, loop_hit, after_loop, serial_from, through, table}
 use Rattle.serial.specs.Rows.{collides_row, Partner, PartnerOrDestination}
 
 -- A PAIR: of two arrays, at one offset, of two reads it does not collide; else its iterations decide
@@ -67,12 +64,12 @@ module _ (f l : ℕ) (r q : Reference) where
 -- references of which no two collide
 module _ (f l : ℕ) where
   apart-hit : (n : ℕ) (r : Reference) (qs : List Reference) (m : ℕ) → ((q : Reference) → Mem q qs → collides f l r q ≡ false)
-      → hit f l n r qs m ≡ Nothing
+      → hit f l n r qs m ≡ None
   unfolding hit
   apart-hit n r [] m a = refl
   apart-hit n r (q ∷ qs) m a = rw (a q (mhere refl), apart-hit n r qs (m + 1) (λ p h. a p (mthere h)))
 
-  pub apart-pairs : (rs : List Reference) (n : ℕ) → ((r q : Reference) → Mem r rs → Mem q rs → collides f l r q ≡ false) → pair_hit f l rs n ≡ Nothing
+  pub apart-pairs : (rs : List Reference) (n : ℕ) → ((r q : Reference) → Mem r rs → Mem q rs → collides f l r q ≡ false) → pair_hit f l rs n ≡ None
   unfolding pair_hit
   apart-pairs [] n a = refl
   apart-pairs (r ∷ rs) n a =
@@ -149,28 +146,24 @@ module _ (c : List ℕ) (f l : ℕ) where
             ∙ ap (hit f l n x (R (other + 1) past)) s,
       )
 
-      pub passed-found : true ≡ collides_row c f l x other → (n m : ℕ) → hit f l n x (R from past) m ≡ Pair n (m + length (R from other))
+      pub passed-found : true ≡ collides_row c f l x other → (n m : ℕ) → hit f l n x (R from past) m ≡ pair n (m + length (R from other))
       unfolding hit
       passed-found e n m = p.1 n m ∙ go (dec_lt (kind_at c other) 2)
         where
-          go : Dec (kind_at c other < 2) → hit f l n x (R other past) (m + length (R from other)) ≡ Pair n (m + length (R from other))
+          go : Dec (kind_at c other < 2) → hit f l n x (R other past) (m + length (R from other)) ≡ pair n (m + length (R from other))
           go (yes d) =
               let a : collides f l x (ref_in c 0 other) ≡ true = row-reference-is x other _ d refl ∙ sym e in
               rw (refs-next c 0 other past h, row-reference c 0 other d, a)
           go (no d) = absurd (false≢true (row_other x other (omega arith) ∙ sym e))
 
-    pub passed-end : (other : ℕ) → Passed other → past ≤ other → (n m : ℕ) → hit f l n x (R from past) m ≡ Nothing
+    pub passed-end : (other : ℕ) → Passed other → past ≤ other → (n m : ℕ) → hit f l n x (R from past) m ≡ None
     unfolding hit
     passed-end other p h n m = p.1 n m ∙ rw (refs_end c 0 other past h)
 
   -- PARTNERS
   module _ (row past : ℕ) (h : row < past) where
-    pub partner-other : 2 ≤ kind_at c row → Partner c f l row past past
-    partner-other d = record {
-      inside = omega arith;
-      none = λ z n. let y : n + 0 ≡ n = omega arith in rw (refs-next c 0 row past h, row-none c 0 row d, y);
-      some = λ z. absurd (omega arith);
-    }
+    pub partner-other : 2 ≤ kind_at c row → Partner c f l row past None
+    partner-other d n = let y : n + 0 ≡ n = omega arith in rw (refs-next c 0 row past h, row-none c 0 row d, y)
 
     module _ (d : kind_at c row < 2) where
       pairs-row : (n : ℕ) → pair_hit f l (R row past) n
@@ -178,26 +171,18 @@ module _ (c : List ℕ) (f l : ℕ) where
       unfolding pair_hit
       pairs-row n = rw (refs-next c 0 row past h, row-reference c 0 row d)
 
-      pub partner-none : (other : ℕ) → Passed (ref_in c 0 row) (row + 1) past other → past ≤ other → Partner c f l row past past
-      partner-none other p e = record {
-        inside = omega arith;
-        none = λ z n. pairs-row n ∙ rw (passed-end (ref_in c 0 row) (row + 1) past other p e n (n + 1), row-reference c 0 row d);
-        some = λ z. absurd (omega arith);
-      }
+      pub partner-none : (other : ℕ) → Passed (ref_in c 0 row) (row + 1) past other → past ≤ other → Partner c f l row past None
+      partner-none other p e n = pairs-row n ∙ rw (passed-end (ref_in c 0 row) (row + 1) past other p e n (n + 1), row-reference c 0 row d)
 
       pub partner-found : (other : ℕ) → Passed (ref_in c 0 row) (row + 1) past other → other < past → true ≡ collides_row c f l (ref_in c 0 row) other
-          → Partner c f l row past other
-      partner-found other p below e = record {
-        inside = omega arith;
-        none = λ z. absurd (omega arith);
-        some = λ z. (
-          omega (arith, p.0),
-          λ n.
-              let s : n + 1 + length (R (row + 1) other) ≡ n + length (R row other) =
-              omega (arith, ap length (refs-next c 0 row other (omega (arith, p.0))), length-append (row_refs c 0 row) (R (row + 1) other), ap length (row-reference c 0 row d)) in
-              pairs-row n ∙ rw (passed-found (ref_in c 0 row) (row + 1) past other p below e n (n + 1), s),
-        );
-      }
+          → Partner c f l row past (Some other)
+      partner-found other p below e = (
+        (omega (arith, p.0), below),
+        λ n.
+            let s : n + 1 + length (R (row + 1) other) ≡ n + length (R row other) =
+            omega (arith, ap length (refs-next c 0 row other (omega (arith, p.0))), length-append (row_refs c 0 row) (R (row + 1) other), ap length (row-reference c 0 row d)) in
+            pairs-row n ∙ rw (passed-found (ref_in c 0 row) (row + 1) past other p below e n (n + 1), s),
+      )
 
   -- A DESTINATION AND THOSE BEHIND IT, those before `other` reads that do not collide with it
   module _ (x : Reference) (row past : ℕ) where
@@ -216,24 +201,14 @@ module _ (c : List ℕ) (f l : ℕ) where
 
     -- then comes a destination, a row that collides, or the end
     module _ (is : x ≡ ref_in c 0 row) (start : row < past) (d : kind_at c row ≡ 1) (other : ℕ) (w : Alone other) where
-      pub alone-destination : other < past → kind_at c other ≡ 1 → PartnerOrDestination c f l row past other
-      alone-destination h k = record { behind = omega (arith, w.0.0); inside = w.2; reads = w.1; partner = λ n. absurd (n h k) }
+      pub alone-destination : other < past → kind_at c other ≡ 1 → PartnerOrDestination c f l row past (Some other)
+      alone-destination h k = ((omega (arith, w.0.0), h), w.1, λ n. absurd (n k))
 
-      pub alone-found : other < past → true ≡ collides_row c f l x other → PartnerOrDestination c f l row past other
-      alone-found h e = record {
-        behind = omega (arith, w.0.0);
-        inside = w.2;
-        reads = w.1;
-        partner = λ n. partner-found row past start (omega arith) other (rw is at w.0) h (rw is at e);
-      }
+      pub alone-found : other < past → true ≡ collides_row c f l x other → PartnerOrDestination c f l row past (Some other)
+      alone-found h e = ((omega (arith, w.0.0), h), w.1, λ n. partner-found row past start (omega arith) other (rw is at w.0) h (rw is at e))
 
-      pub alone-end : past ≤ other → PartnerOrDestination c f l row past past
-      alone-end h = record {
-        behind = start;
-        inside = omega arith;
-        reads = λ i a b. w.1 i a (omega arith);
-        partner = λ n. partner-none row past start (omega arith) other (rw is at w.0) h;
-      }
+      pub alone-end : past ≤ other → PartnerOrDestination c f l row past None
+      alone-end h = (λ i a b. w.1 i a (omega arith), partner-none row past start (omega arith) other (rw is at w.0) h)
 
   -- THE LOWER ROWS
   module _ (from past : ℕ) where
@@ -245,25 +220,24 @@ module _ (c : List ℕ) (f l : ℕ) where
     pub lower-start : Lower from
     lower-start = record { low = omega arith; rest = rw (refs_end c 0 from from (omega arith)) }
 
-    module _ (row other : ℕ) (w : Lower row) (p : Partner c f l row past other) where
-      pub lower-next : past ≤ other → Lower (row + 1)
-      lower-next h =
+    module _ (row : ℕ) (w : Lower row) where
+      pub lower-next : Partner c f l row past None → Lower (row + 1)
+      lower-next p =
           let up = ap length (refs-up c 0 from row w.low) ∙ length-append (R from row) (row_refs c 0 row) in
           record {
             low = omega (arith, w.low);
-            rest = w.rest ∙ p.none h (length (R from row)) ∙ ap (pair_hit f l (R (row + 1) past)) (sym up);
+            rest = w.rest ∙ p (length (R from row)) ∙ ap (pair_hit f l (R (row + 1) past)) (sym up);
           }
 
-      pub lower-found : other < past → Pair (length (R from row)) (length (R from other)) ≡ pair_hit f l (R from past) 0
-      lower-found h =
-          let (up, is) = p.some h in
+      pub lower-found : (other : ℕ) → Partner c f l row past (Some other) → pair (length (R from row)) (length (R from other)) ≡ pair_hit f l (R from past) 0
+      lower-found other ((up, below), is) =
           let e : from + (row - from) ≡ row = omega (arith, w.low) in
           let all : R from other ≡ R from row ++ R row other =
           subst (λ (m : ℕ). R from other ≡ R from m ++ R m other) e (refs-split c 0 from (row - from) other (omega (arith, w.low))) in
           let s : length (R from other) ≡ length (R from row) + length (R row other) = ap length all ∙ length-append (R from row) (R row other) in
-          sym (w.rest ∙ is (length (R from row)) ∙ ap (Pair (length (R from row))) (sym s))
+          sym (w.rest ∙ is (length (R from row)) ∙ ap (pair (length (R from row))) (sym s))
 
-    pub lower-end : (row : ℕ) → Lower row → ((i : ℕ) → row ≤ i → i < past → kind_at c i ≡ 1 → ⊥) → Nothing ≡ pair_hit f l (R from past) 0
+    pub lower-end : (row : ℕ) → Lower row → ((i : ℕ) → row ≤ i → i < past → kind_at c i ≡ 1 → ⊥) → None ≡ pair_hit f l (R from past) 0
     lower-end row w none =
         let reads = rows-read c (past - row) row (λ i a b. none i a (omega arith)) in
         sym (w.rest ∙ apart-pairs f l (R row past) (length (R from row)) (λ r q h i. reads-apart f l r q (reads r h) (reads q i)))
@@ -319,27 +293,27 @@ module _ (c : List ℕ) (h : Held c) where
     all-rows : pair_hit first last (refs_in c 0 from past) 0 ≡ loop_hit (loop_at c k)
     all-rows = rw (first-is, last-is, from_is, past_is) (loop-rows k m)
 
-    pub loop-found : (row other a b : ℕ) → Lower c first last from past row → Partner c first last row past other → other < past
-        → a ≡ length (refs_in c 0 from row) → b ≡ length (refs_in c 0 from other) → Pair a b ≡ loop_hit (loop_at c k)
-    loop-found row other a b w p h a-is b-is = rw (a-is, b-is) (lower-found c first last from past row other w p h ∙ all-rows)
+    pub loop-found : (row other a b : ℕ) → Lower c first last from past row → Partner c first last row past (Some other)
+        → a ≡ length (refs_in c 0 from row) → b ≡ length (refs_in c 0 from other) → pair a b ≡ loop_hit (loop_at c k)
+    loop-found row other a b w p a-is b-is = rw (a-is, b-is) (lower-found c first last from past row w other p ∙ all-rows)
 
-    pub loop-nothing : (row end : ℕ) → Lower c first last from past row → LastDestination c k end → end < row → Nothing ≡ loop_hit (loop_at c k)
+    pub loop-nothing : (row end : ℕ) → Lower c first last from past row → LastDestination c k end → end < row → None ≡ loop_hit (loop_at c k)
     loop-nothing row end w d h =
         let e = ap (start_at c) (add-one k) in
         lower-end c first last from past row w (λ i a z. d.none i (omega arith) (omega arith)) ∙ all-rows
 
-    pub loop-apart : pair_hit first last (refs_in c 0 from past) 0 ≡ Nothing → Nothing ≡ loop_hit (loop_at c k)
+    pub loop-apart : pair_hit first last (refs_in c 0 from past) 0 ≡ None → None ≡ loop_hit (loop_at c k)
     loop-apart e = sym e ∙ all-rows
 
-    module _ (other : ℕ) (w : PartnerOrDestination c first last from past other) where
-      pub loop-alone : past ≤ other → Nothing ≡ loop_hit (loop_at c k)
-      loop-alone e =
-          let one = lower-next c first last from past from other (lower-start c first last from past) (w.partner (λ z. absurd (omega arith))) e in
-          lower-end c first last from past (from + 1) one (λ i a z. w.reads i (omega arith) (omega arith)) ∙ all-rows
+    pub loop-alone : PartnerOrDestination c first last from past None → None ≡ loop_hit (loop_at c k)
+    loop-alone (reads, p) =
+        let one = lower-next c first last from past from (lower-start c first last from past) p in
+        lower-end c first last from past (from + 1) one (λ i a z. reads i (omega arith) z) ∙ all-rows
 
-      pub loop-first : (b : ℕ) → other < past → (kind_at c other ≡ 1 → ⊥) → b ≡ length (refs_in c 0 from other) → Pair 0 b ≡ loop_hit (loop_at c k)
-      loop-first b e n b-is =
-          loop-found from other 0 b (lower-start c first last from past) (w.partner (λ z. n)) e (sym (ap length (refs_end c 0 from from (omega arith)))) b-is
+    pub loop-first : (other b : ℕ) → PartnerOrDestination c first last from past (Some other) → (kind_at c other ≡ 1 → ⊥)
+        → b ≡ length (refs_in c 0 from other) → pair 0 b ≡ loop_hit (loop_at c k)
+    loop-first other b (_, _, p) n b-is =
+        loop-found from other 0 b (lower-start c first last from past) (p n) (sym (ap length (refs_end c 0 from from (omega arith)))) b-is
 
   module _ (l : ℕ) where
     pub loops-start : l ≡ loops_in c → LoopInv c l 0
@@ -364,22 +338,22 @@ module _ (c : List ℕ) (h : Held c) where
               let e : l - k ≡ suc (l - suc k) = omega arith in
               rw hit-here at (subst (λ (n : ℕ). serial_from (table_in c) k n ≡ through (accepted (table_in c))) e inv.rest)
 
-          pub loop-passed : x ≡ Nothing → LoopInv c l (k + 1)
+          pub loop-passed : x ≡ None → LoopInv c l (k + 1)
           loop-passed e = rw (add-one k) (record { all = inv.all; within = m; rest = rw e at turn })
 
-          pub loop-collides : (i n : ℕ) → x ≡ Pair i n → ReadInto (through (accepted (table_in c))) (naming 9 k i n) c
-          loop-collides i n e = into-refused (through (accepted (table_in c))) c (naming 9 k i n) (sym (rw e at turn)) (λ z. omega arith)
+          pub loop-collides : (i n : ℕ) → x ≡ pair i n → ReadInto (through (accepted (table_in c))) (Err (naming 9 k i n)) c
+          loop-collides i n e = sym (rw e at turn)
 
-      pub loops-done : l ≤ k → ReadInto (through (accepted (table_in c))) nothing-refused c
+      pub loops-done : l ≤ k → ReadInto (through (accepted (table_in c))) (Ok tt) c
       unfolding serial_from
-      loops-done m = let e : l - k ≡ 0 = omega arith in into-accepted (through (accepted (table_in c))) c (sym (rw e at inv.rest)) h
+      loops-done m = let e : l - k ≡ 0 = omega arith in (sym (rw e at inv.rest), h)
 
 -- A WHOLE TABLE, by what its reading answers
-module _ (c s : List ℕ) (r : Refusal) (read : ReadInto (reading s) r c) where
-  pub refused-reading : (r.ground ≡ 0 → ⊥) → ReadInto (table s) r c
+module _ (c s : List ℕ) where
+  pub refused-reading : (r : Refusal) → reading s ≡ refused r → table s ≡ refused r
   unfolding table through
-  refused-reading some = into-refused (table s) c r (ap through (into-told (reading s) c r read some)) some
+  refused-reading r e = ap through e
 
-  pub checked : (q : Refusal) → r.ground ≡ 0 → ReadInto (through (accepted (table_in c))) q c → ReadInto (table s) q c
+  pub checked : reading s ≡ accepted (table_in c) → (q : Result (Unit {0}) Refusal) → ReadInto (through (accepted (table_in c))) q c → ReadInto (table s) q c
   unfolding table
-  checked q e h = subst (λ (a : Answer). ReadInto (through a) q c) (sym (read.held e).0) h
+  checked e q h = subst (λ (a : Answer). ReadInto (through a) q c) (sym e) h

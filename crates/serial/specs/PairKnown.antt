@@ -3,8 +3,8 @@ use Rattle.std.specs.Prelude.{ℕ, ◌+◌, ◌≡◌, refl, true, false, List, 
 use Rattle.overlap.specs.Overlap.{overlap}
 use Rattle.model.specs.declared.Reference.{Reference}
 use Rattle.model.specs.References.{touch}
-use Rattle.serial.specs.declared.Collision.TheVariants.{Nothing, Pair}
-use Rattle.serial.specs.Serial.{collides, hit, pair_hit}
+use Rattle.std.specs.Prelude.{None}
+use Rattle.serial.specs.Serial.{pair, collides, hit, pair_hit}
 
 -- array a at i + o, stored and read
 abbrev stored : ℕ → ℕ → Reference
@@ -31,9 +31,9 @@ pub record PairKnown : Type 0 where
   pub other-array : collides 0 1 (stored 0 0) (stored 1 1) ≡ false
   pub two-apart : collides 0 1 (stored 0 0) (stored 0 2) ≡ false
   -- the least lower number, then the least higher one; none
-  pub least-lower : pair_hit 0 1 crossed 0 ≡ Pair 0 3
-  pub least-higher : pair_hit 0 1 twice 0 ≡ Pair 0 2
-  pub none : pair_hit 0 1 (stored 0 0 ∷ read 1 0 ∷ read 1 1 ∷ read 0 2 ∷ []) 0 ≡ Nothing
+  pub least-lower : pair_hit 0 1 crossed 0 ≡ pair 0 3
+  pub least-higher : pair_hit 0 1 twice 0 ≡ pair 0 2
+  pub none : pair_hit 0 1 (stored 0 0 ∷ read 1 0 ∷ read 1 1 ∷ read 0 2 ∷ []) 0 ≡ None
 
 pub pair-known : PairKnown
 unfolding collides touch overlap hit pair_hit

@@ -1,29 +1,32 @@
 -- What the code of ground 9 asks of a loop's rows.
-use Rattle.std.specs.Prelude.{ℕ, ◌+◌, ◌≤◌, ◌<◌, ◌≡◌, ◌⊎◌, Bool, false, not, cond, ◌&&◌, List, eqb, ltb, length, get_or, set}
+use Rattle.std.specs.Prelude.{ℕ, ◌+◌, ◌≤◌, ◌<◌, ◌≡◌, ◌⊎◌, Bool, false, not, cond, ◌&&◌, List, Option, None, Some, eqb, ltb, length, get_or, set}
 use Rattle.model.specs.declared.Reference.{Reference}
 use Rattle.reader.specs.Store.{kind_at, array_at, value_at}
 use Rattle.reader.specs.Rows.{ref_in, row_refs, refs_in}
-use Rattle.serial.specs.declared.Collision.TheVariants.{Pair}
-use Rattle.serial.specs.Serial.{collides, pair_hit}
+use Rattle.serial.specs.Serial.{pair, collides, pair_hit}
 
 module _ (c : List ℕ) (f l : ℕ) where
   -- x and the reference of row r, if it has one
   abbrev pub collides_row : Reference → ℕ → Bool
   collides_row x r = cond (ltb (kind_at c r) 2) (collides f l x (ref_in c 0 r)) false
 
-  -- row o is the first behind `row` that collides with it; it is `past` where there is none
-  pub record Partner (row past o : ℕ) : Type 0 where
-    pub inside : o ≤ past
-    pub none : past ≤ o → (n : ℕ)
-        → pair_hit f l (refs_in c 0 row past) n ≡ pair_hit f l (refs_in c 0 (row + 1) past) (n + length (row_refs c 0 row))
-    pub some : o < past → (row < o) × ((n : ℕ) → pair_hit f l (refs_in c 0 row past) n ≡ Pair n (n + length (refs_in c 0 row o)))
+  -- row o is behind `row`, and before `past`
+  abbrev pub Behind : (row past o : ℕ) → Type 0
+  Behind row past o = (row < o) × (o < past)
 
-  -- row o is the first behind `row` that is a destination's or collides with it; it is `past` where there is none
-  pub record PartnerOrDestination (row past o : ℕ) : Type 0 where
-    pub behind : row < o
-    pub inside : o ≤ past
-    pub reads : (i : ℕ) → row < i → i < o → kind_at c i ≡ 1 → ⊥
-    pub partner : (o < past → kind_at c o ≡ 1 → ⊥) → Partner row past o
+  -- none between the rows `row` and o is a destination's
+  abbrev pub OnlyReads : (row o : ℕ) → Type 0
+  OnlyReads row o = (i : ℕ) → row < i → i < o → kind_at c i ≡ 1 → ⊥
+
+  -- the first row behind `row` that collides with it, if there is one
+  abbrev pub Partner : (row past : ℕ) → Option ℕ → Type 0
+  Partner row past None = (n : ℕ) → pair_hit f l (refs_in c 0 row past) n ≡ pair_hit f l (refs_in c 0 (row + 1) past) (n + length (row_refs c 0 row))
+  Partner row past (Some o) = Behind row past o × ((n : ℕ) → pair_hit f l (refs_in c 0 row past) n ≡ pair n (n + length (refs_in c 0 row o)))
+
+  -- the first row behind `row` that is a destination's or collides with it, if there is one
+  abbrev pub PartnerOrDestination : (row past : ℕ) → Option ℕ → Type 0
+  PartnerOrDestination row past None = OnlyReads row past × Partner row past None
+  PartnerOrDestination row past (Some o) = Behind row past o × OnlyReads row o × ((kind_at c o ≡ 1 → ⊥) → Partner row past (Some o))
 
 module _ (c : List ℕ) where
   -- for each array an offset at which it is stored, 511 where it is not: a destination's row sets that of its array

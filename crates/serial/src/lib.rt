@@ -1,9 +1,9 @@
 // Ground 9: two different iterations of one loop meet at an element, one of them storing.
 #![tactic(auto)]
 
-ghost use Rattle.std.specs.Prelude.{◌≡◌, ◌||◌, ℕ, ◌-◌, ◌<◌, ◌≤◌, length};
+ghost use Rattle.std.specs.Prelude.{◌≡◌, ℕ, ◌-◌, ◌<◌, ◌≤◌, length};
 ghost use Rattle.overlap.specs.Overlap.{some_from};
-ghost use Rattle.refusals.specs.Answers.{accepted, refusal_of};
+ghost use Rattle.refusals.specs.Answers.{accepted, result_of};
 ghost use Rattle.model.specs.Table.{count};
 ghost use Rattle.reader.specs.Store.{Sized, kind_at, loop_at, table_in};
 ghost use Rattle.reader.specs.Stored.{Row};
@@ -13,32 +13,13 @@ ghost use Rattle.reader.specs.ReadInto.{ReadInto};
 ghost use Rattle.serial.specs.Serial.{collides, loop_hit, through, table};
 ghost use Rattle.serial.specs.Rows.{collides_row, Partner, PartnerOrDestination, StoredAt, with_offset, differs};
 
-use arithmetic::wide;
 use model::Reference;
 use overlap::overlaps;
 use records::{STORE, Store};
-use refusals::{Refusal, SERIAL};
-
-// Whether two references of a loop meet in two different iterations, one of them storing; and which: their numbers among the loop's references,
-// which are counted from 0 in byte order, the lower one first.
-#[derive(Clone, Copy)]
-pub enum Collision {
-    Nothing,
-    Pair(usize, usize),
-}
+use refusals::{Ground, Refusal};
 
 // No offset: each is at most 510.
 const NONE: u32 = 511;
-
-// At least one of two references is a destination.
-fn one_stores(x: bool, y: bool) -> bool
-    ensures { result ≡ (x || y) }
-{
-    if x {
-        return true;
-    }
-    y
-}
 
 // Two references of a loop from first to last.
 fn collide(first: u32, last: u32, x: Reference, y: Reference) -> bool
@@ -51,9 +32,9 @@ fn collide(first: u32, last: u32, x: Reference, y: Reference) -> bool
     if x.offset == y.offset {
         return false;
     }
-    if one_stores(x.stores, y.stores) {
-        let f = wide(first);
-        let l = wide(last);
+    if x.stores || y.stores {
+        let f = first as usize;
+        let l = last as usize;
         return overlaps(f, l, x.offset, f, l, y.offset);
     }
     false
@@ -64,33 +45,31 @@ fn row_collides(store: &Store, x: Reference, row: usize, first: u32, last: u32) 
     requires { (row < 576) × Row store.now row × (x.offset < 65536) }
     ensures { result ≡ collides_row store.now first last x row }
 {
-    if wide(reader::array_at(store, row)) != x.array {
+    if reader::array_at(store, row) as usize != x.array {
         return false;
     }
-    if reader::CONSTANT <= reader::kind_at(store, row) {
+    if !reader::is_reference(store, row) {
         return false;
     }
     let y = reader::reference_at(store, 0, row);
     collide(first, last, x, y)
 }
 
-// The first row behind `row`, up to `past`, whose reference collides with that of `row`; `past` if there is none, or `row` has no reference.
-fn partner(store: &Store, row: usize, past: usize, first: u32, last: u32) -> usize
+// The first row behind `row`, up to `past`, whose reference collides with that of `row`, if `row` has a reference.
+fn partner(store: &Store, row: usize, past: usize, first: u32, last: u32) -> Option<usize>
     requires { (row < past) × (past ≤ 576) × ((r : ℕ) → r < past → Row store.now r) }
     ensures { Partner store.now first last row past result }
 {
-    if reader::CONSTANT <= reader::kind_at(store, row) {
-        return past;
+    if !reader::is_reference(store, row) {
+        return None;
     }
     let x = reader::reference_at(store, 0, row);
-    let mut other = row + 1;
-    while other < past {
+    for other in row + 1..past {
         if row_collides(store, x, other, first, last) {
-            return other;
+            return Some(other);
         }
-        other += 1;
     }
-    past
+    None
 }
 
 // How many references the rows from `from` up to `past` have.
@@ -99,33 +78,35 @@ fn references_in(store: &Store, from: usize, past: usize) -> usize
     ensures { result ≡ length (refs_in store.now 0 from past) }
 {
     let mut n: usize = 0;
-    let mut row = from;
-    while row < past {
-        if reader::kind_at(store, row) < reader::CONSTANT {
+    for row in from..past {
+        if reader::is_reference(store, row) {
             n += 1;
         }
-        row += 1;
     }
     n
 }
 
-// The first row behind `row`, which is a destination's, up to `past` that is a destination's too or collides with it; `past` if there is none.
-fn partner_or_destination(store: &Store, row: usize, past: usize, first: u32, last: u32) -> usize
+// The first row behind `row`, which is a destination's, up to `past` that is a destination's too or collides with it.
+fn partner_or_destination(
+    store: &Store,
+    row: usize,
+    past: usize,
+    first: u32,
+    last: u32,
+) -> Option<usize>
     requires { (row < past) × (past ≤ 576) × ((r : ℕ) → r < past → Row store.now r) × (kind_at store.now row ≡ 1) }
     ensures { PartnerOrDestination store.now first last row past result }
 {
     let x = reader::reference_at(store, 0, row);
-    let mut other = row + 1;
-    while other < past {
-        if reader::kind_at(store, other) == reader::DESTINATION {
-            return other;
+    for other in row + 1..past {
+        if reader::is_destination(store, other) {
+            return Some(other);
         }
         if row_collides(store, x, other, first, last) {
-            return other;
+            return Some(other);
         }
-        other += 1;
     }
-    past
+    None
 }
 
 // The offsets with one row more: a destination's sets that of its array.
@@ -133,10 +114,10 @@ fn put_offset(store: &Store, row: usize, offsets: &mut [u32; 16])
     requires { row < 576 }
     ensures { offsets.new ≡ with_offset store.now row offsets.old }
 {
-    if reader::kind_at(store, row) != reader::DESTINATION {
+    if !reader::is_destination(store, row) {
         return;
     }
-    let q = wide(reader::array_at(store, row));
+    let q = reader::array_at(store, row) as usize;
     offsets[q] = reader::value_at(store, row);
 }
 
@@ -146,10 +127,8 @@ fn stored_offsets(store: &Store, from: usize, past: usize) -> [u32; 16]
     ensures { StoredAt store.now from past result }
 {
     let mut offsets = [NONE; 16];
-    let mut row = from;
-    while row < past {
+    for row in from..past {
         put_offset(store, row, &mut offsets);
-        row += 1;
     }
     offsets
 }
@@ -159,15 +138,11 @@ fn row_differs(store: &Store, offsets: &[u32; 16], row: usize) -> bool
     requires { row < 576 }
     ensures { result ≡ differs store.now offsets.now row }
 {
-    let q = wide(reader::array_at(store, row));
-    let o = offsets[q];
+    let o = offsets[reader::array_at(store, row) as usize];
     if o == NONE {
         return false;
     }
-    if o == reader::value_at(store, row) {
-        return false;
-    }
-    reader::kind_at(store, row) < reader::CONSTANT
+    o != reader::value_at(store, row) && reader::is_reference(store, row)
 }
 
 // Some row from `from` up to `past` is one.
@@ -175,19 +150,18 @@ fn some_differs(store: &Store, offsets: &[u32; 16], from: usize, past: usize) ->
     requires { (from ≤ past) × (past ≤ 576) }
     ensures { result ≡ some_from (differs store.now offsets.now) from (past - from) }
 {
-    let mut row = from;
-    while row < past {
+    for row in from..past {
         if row_differs(store, offsets, row) {
             return true;
         }
-        row += 1;
     }
     false
 }
 
-// The first pair of references of loop k that collides, found by holding each against all behind it. Behind the last destination there are reads
-// alone, and no two of them do.
-fn first_pair(k: usize, store: &Store) -> Collision
+// The first two references of loop k that meet in two different iterations, one of them storing: their numbers among the loop's references, which are
+// counted from 0 in byte order, the lower one first. They are found by holding each against all behind it. Behind the last destination there are
+// reads alone, and no two of them do.
+fn first_pair(k: usize, store: &Store) -> Option<(usize, usize)>
     requires { Held store.now × (k < count (table_in store.now)) }
     ensures { result ≡ loop_hit (loop_at store.now k) }
 {
@@ -196,22 +170,19 @@ fn first_pair(k: usize, store: &Store) -> Collision
     let first = reader::first_at(store, k);
     let last = reader::last_at(store, k);
     let end = reader::last_destination(store, k);
-    let mut row = from;
-    while row <= end {
-        let other = partner(store, row, past, first, last);
-        if other < past {
+    for row in from..end + 1 {
+        if let Some(other) = partner(store, row, past, first, last) {
             let lower = references_in(store, from, row);
             let higher = references_in(store, from, other);
-            return Collision::Pair(lower, higher);
+            return Some((lower, higher));
         }
-        row += 1;
     }
-    Collision::Nothing
+    None
 }
 
 // The same of a loop of several statements. Where all references to each array that it stores have one offset, no two of them collide: so most loops
 // are told by two passes over their rows, however many statements they have.
-fn several_hit(k: usize, store: &Store) -> Collision
+fn several_hit(k: usize, store: &Store) -> Option<(usize, usize)>
     requires { Held store.now × (k < count (table_in store.now)) }
     ensures { result ≡ loop_hit (loop_at store.now k) }
 {
@@ -221,11 +192,11 @@ fn several_hit(k: usize, store: &Store) -> Collision
     if some_differs(store, &offsets, from, past) {
         return first_pair(k, store);
     }
-    Collision::Nothing
+    None
 }
 
 // The same of any loop: one of a single statement is told by its destination's partner.
-fn loop_hit(k: usize, store: &Store) -> Collision
+fn loop_hit(k: usize, store: &Store) -> Option<(usize, usize)>
     requires { Held store.now × (k < count (table_in store.now)) }
     ensures { result ≡ loop_hit (loop_at store.now k) }
 {
@@ -233,48 +204,39 @@ fn loop_hit(k: usize, store: &Store) -> Collision
     let past = reader::start_at(store, k + 1);
     let first = reader::first_at(store, k);
     let last = reader::last_at(store, k);
-    let other = partner_or_destination(store, from, past, first, last);
-    if past <= other {
-        return Collision::Nothing;
-    }
-    if reader::kind_at(store, other) == reader::DESTINATION {
+    let other = partner_or_destination(store, from, past, first, last)?;
+    if reader::is_destination(store, other) {
         return several_hit(k, store);
     }
-    Collision::Pair(0, references_in(store, from, other))
+    Some((0, references_in(store, from, other)))
 }
 
 // The loops of a table in a store, from the first on: 9 carries the lowest that collides, and names its first pair that does.
-fn check_loops(store: &Store) -> Refusal
+fn check_loops(store: &Store) -> Result<(), Refusal>
     requires { Held store.now }
     ensures { ReadInto (through (accepted (table_in store.now))) result store.now }
 {
     let loops = reader::loops_in(store);
-    let mut k: usize = 0;
-    while k < loops {
-        let hit = loop_hit(k, store);
-        match hit {
-            Collision::Nothing => k += 1,
-            Collision::Pair(m, n) => return Refusal::naming(SERIAL, k, m, n),
+    for k in 0..loops {
+        if let Some((m, n)) = loop_hit(k, store) {
+            return Err(Refusal::naming(Ground::Serial, k, m, n));
         }
     }
-    Refusal::none()
+    Ok(())
 }
 
 // The table that the bytes are, read through 9 into the lent store, or the ground that they meet.
-pub fn read_through(s: &[u8], store: &mut Store) -> Refusal
+pub fn read_through(s: &[u8], store: &mut Store) -> Result<(), Refusal>
     requires { Sized store.old }
     ensures { ReadInto (table s.now) result store.new }
 {
-    let r = reader::read_table(s, store);
-    if r.ground != 0 {
-        return r;
-    }
+    reader::read_table(s, store)?;
     check_loops(store)
 }
 
 // Whether the bytes are accepted, or the ground that they meet.
-pub fn check(s: &[u8]) -> Refusal
-    ensures { result ≡ refusal_of (table s.now) }
+pub fn check(s: &[u8]) -> Result<(), Refusal>
+    ensures { result ≡ result_of (λ _. tt) (table s.now) }
 {
     let mut store = [0u32; STORE];
     read_through(s, &mut store)

@@ -21,7 +21,7 @@ use layouts::LISTS;
 use plans::Settings;
 use ranges::{PHASE, PHASES};
 use records::{STORE, Store};
-use refusals::{MEMORY, PROCESSORS, Refusal, STATE};
+use refusals::{Ground, Refusal};
 use stepping::Report;
 
 // How many iterations each processor has done.
@@ -95,7 +95,7 @@ impl Counts {
         ensures { (w : Work Iteration) → LentIn w b layout.now at → Leaves (called w (table_in layout.now.store.now) b self.done memory.old) result.counts.done memory.new result.report }
     {
         if layout.barriers.processors <= b {
-            return self.refused(Refusal::met(PROCESSORS, 0));
+            return self.refused(Refusal::met(Ground::Processors, 0));
         }
         let report = layout.next_of(&self.done, b, at);
         if let Report::Performed { number, index } = report {
@@ -115,7 +115,7 @@ impl Counts {
     {
         let bases = iterations::bases_of(store).firsts;
         if memory.len() != bases[16] as usize {
-            return self.refused(Refusal::met(MEMORY, 0));
+            return self.refused(Refusal::met(Ground::Memory, 0));
         }
         let mut ends = [0u32; ENDS];
         layouts::put_ends(a, store, &mut ends);
@@ -125,7 +125,7 @@ impl Counts {
             phases: PHASES,
         };
         if barriers.wrong_state(&self.done) {
-            return self.refused(Refusal::met(STATE, 0));
+            return self.refused(Refusal::met(Ground::State, 0));
         }
         let mut lists = [0u32; LISTS];
         layouts::put_lists(a, b, store, &mut lists[..], 0);
@@ -143,10 +143,9 @@ impl Counts {
         ensures { Leaves (step s.now w processor self.done memory.old) result.counts.done memory.new result.report }
     {
         let mut store = [0u32; STORE];
-        let p = plans::plan_for(s, w, processor, &mut store);
-        if p.refusal.ground != 0 {
-            return self.refused(p.refusal);
+        match plans::plan_for(s, w, processor, &mut store) {
+            Ok(a) => self.step_planned(a, processor, &store, memory),
+            Err(r) => self.refused(r),
         }
-        self.step_planned(p.axis, processor, &store, memory)
     }
 }

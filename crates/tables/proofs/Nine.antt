@@ -12,9 +12,8 @@ use Rattle.refusals.specs.Refusals.{naming}
 use Rattle.refusals.specs.Answers.{accepted, refused, refusal_of}
 use Rattle.refusals.proofs.AnswerLaws.{not-both, after-refused}
 use Rattle.reader.specs.Reading.{Answer, reading}
-use Rattle.serial.specs.declared.Collision.{Collision}
-use Rattle.serial.specs.declared.Collision.TheVariants.{Nothing, Pair}
-use Rattle.serial.specs.Serial.{loop_hit, after_loop, serial_from, through, table}
+use Rattle.std.specs.Prelude.{None, Some}
+use Rattle.serial.specs.Serial.{Collision, pair, loop_hit, after_loop, serial_from, through, table}
 use Rattle.serial.specs.Meeting.{Serial, FirstMeeting}
 use Rattle.serial.proofs.MeetingLaws.{hit-collides, lower-apart, nearer-apart, none-parallel, collides-serial}
 use Rattle.serial.proofs.Parallel.{accepted-parallel}
@@ -33,8 +32,8 @@ module _ (t : Table) where
     is : r ≡ naming 9 number lower higher
     low : k ≤ number
     high : number < k + n
-    hits : loop_hit (loop t number) ≡ Pair lower higher
-    earlier : (j : ℕ) → k ≤ j → j < number → loop_hit (loop t j) ≡ Nothing
+    hits : loop_hit (loop t number) ≡ pair lower higher
+    earlier : (j : ℕ) → k ≤ j → j < number → loop_hit (loop t j) ≡ None
 
   lowest-from : (k n : ℕ) (r : Refusal) → serial_from t k n ≡ refused r → Lowest k n r
   unfolding serial_from
@@ -43,7 +42,7 @@ module _ (t : Table) where
     where
       go : (x : Collision) → loop_hit (loop t k) ≡ x → after_loop k x (serial_from t (suc k) n) ≡ refused r
           → (serial_from t (suc k) n ≡ refused r → Lowest (suc k) n r) → Lowest k (suc n) r
-      go Nothing f g ih =
+      go None f g ih =
           let w = ih g in
           record {
             number = w.number;
@@ -56,10 +55,10 @@ module _ (t : Table) where
             earlier = λ j l h. at j l (ℕ_discrete j k) (λ m. w.earlier j m h);
           }
         where
-          at : (j : ℕ) → k ≤ j → Dec (j ≡ k) → (suc k ≤ j → loop_hit (loop t j) ≡ Nothing) → loop_hit (loop t j) ≡ Nothing
+          at : (j : ℕ) → k ≤ j → Dec (j ≡ k) → (suc k ≤ j → loop_hit (loop t j) ≡ None) → loop_hit (loop t j) ≡ None
           at j l (yes q) later = rw q f
           at j l (no q) later = later (omega arith)
-      go (Pair i j) f g ih = record {
+      go (Some (i, j)) f g ih = record {
         number = k;
         lower = i;
         higher = j;

@@ -1,5 +1,7 @@
 use Prim.Native.Nat.{◌<◌}
 use native.Mathlib.Omega.{arith}
+use mathlib.Core.Path.{sym, ◌∙◌}
+use borrow.Author.Tests.{ltb-true, ltb-false}
 use Rattle.reader.specs.Store.{kind_at}
 use Rattle.amounts.specs.Rows.{past-few}
 use Rattle.amounts.specs.Walked.{numbers_in}
@@ -7,8 +9,8 @@ use Rattle.amounts.proofs.Laws.{row-few, reference-earlier, reference-steps, ref
 use Rattle.amounts.proofs.walk_row.Goals as goal
 
 -- `walk_row` meets its contract: a reference is taken up, any other item passed over.
-pub kind_at-requires : goal.kind_at-requires
-kind_at-requires c = let p = c.requires in omega (arith, p.k_bound.1, past-few p.held.0 _ p.held.1)
+pub is_reference-requires : goal.is_reference-requires
+is_reference-requires c = let p = c.requires in omega (arith, p.k_bound.1, past-few p.held.0 _ p.held.1)
 
 pub reference_at-y-requires : goal.reference_at-y-requires
 reference_at-y-requires c = let p = c.requires in omega (arith, p.k_bound.1, past-few p.held.0 _ p.held.1)
@@ -18,7 +20,7 @@ take_later-requires c =
     let a = c.args in
     let p = c.requires in
     let w = p.walked in
-    let q : kind_at a.store.now a.r < 2 = omega (arith, c.kind_at.ensures, c.if-kind_at-lt-CONSTANT.true) in
+    let q : kind_at a.store.now a.r < 2 = ltb-true _ 2 (sym c.is_reference.ensures ∙ c.if-is_reference.true) in
     rw c.reference_at-y.ensures record { held = (p.held.0, reference-earlier p.held.0 a.k p.held.1 a.n a.columns.now (numbers_in a.shifts.now a.peels.now a.made.now) a.from p.held.2 a.r p.k_bound.0 p.k_bound.1 w q, reference-steps p.held.0 a.k p.held.1 a.n a.columns.now (numbers_in a.shifts.now a.peels.now a.made.now) a.from p.held.2 a.r p.k_bound.0 p.k_bound.1 w q); bounded = (w.bounded, w.few, row-few p.held.0 a.k p.held.1 a.n a.columns.now (numbers_in a.shifts.now a.peels.now a.made.now) a.from p.held.2 a.r p.k_bound.0 p.k_bound.1 w) }
 
 pub overflow_add-result : goal.overflow_add-result
@@ -28,11 +30,11 @@ overflow_add-result c =
     let few = row-few p.held.0 a.k p.held.1 a.n a.columns.now (numbers_in a.shifts.now a.peels.now a.made.now) a.from p.held.2 a.r p.k_bound.0 p.k_bound.1 p.walked in
     omega (arith, few)
 
-pub returns-then-kind_at-lt-CONSTANT : goal.returns-then-kind_at-lt-CONSTANT
-returns-then-kind_at-lt-CONSTANT c =
+pub returns-then-is_reference : goal.returns-then-is_reference
+returns-then-is_reference c =
     let a = c.args in
     let p = c.requires in
-    let q : kind_at a.store.now a.r < 2 = omega (arith, c.kind_at.ensures, c.if-kind_at-lt-CONSTANT.true) in
+    let q : kind_at a.store.now a.r < 2 = ltb-true _ 2 (sym c.is_reference.ensures ∙ c.if-is_reference.true) in
     let columns_after = rw c.reference_at-y.ensures at c.take_later.ensures.columns_after in
     let taken = rw c.reference_at-y.ensures at c.take_later.ensures.taken in
     reference-next p.held.0 a.k p.held.1 a.n a.columns.now (numbers_in a.shifts.now a.peels.now a.made.now) a.from p.held.2 a.r p.k_bound.0 p.k_bound.1 p.walked q _ _ columns_after taken c.take_later.ensures.bounded_2
@@ -41,4 +43,4 @@ pub returns : goal.returns
 returns c =
     let a = c.args in
     let p = c.requires in
-    item-next p.held.0 a.k p.held.1 a.n a.columns.now (numbers_in a.shifts.now a.peels.now a.made.now) a.from p.held.2 a.r p.k_bound.0 p.k_bound.1 p.walked (omega (arith, c.kind_at.ensures, c.if-kind_at-lt-CONSTANT.false))
+    item-next p.held.0 a.k p.held.1 a.n a.columns.now (numbers_in a.shifts.now a.peels.now a.made.now) a.from p.held.2 a.r p.k_bound.0 p.k_bound.1 p.walked (ltb-false _ 2 (sym c.is_reference.ensures ∙ c.if-is_reference.false))

@@ -21,5 +21,5 @@ returns c =
     let x = c.start_of-n in
     let e : x.result ≡ start (lines a.count a.line) a.blocks a.b =
     x.ensures.0 ∙ ap (λ (n : ℕ). start n a.blocks a.b) c.lines_of.ensures in
-    let f = c.lesser.ensures ∙ ap (λ (n : ℕ). min (a.line * n) a.count) e ∙ before_at a.count a.line a.blocks a.b in
+    let f = c.min.ensures ∙ ap (λ (n : ℕ). min (a.line * n) a.count) e ∙ before_at a.count a.line a.blocks a.b in
     (f, omega (arith, f, before-most a.count a.line a.blocks a.b))

@@ -1,27 +1,23 @@
-use Prim.Native.Nat.{ℕ, ◌<◌, ◌≤◌}
-use mathlib.Core.Path.{subst}
-use borrow.Author.Tests.{lt-ltb, le-ltb, le-leb, lt-leb}
-use Rattle.blocks.specs.Blocks.{lines}
+use Rattle.std.proofs.Common.{arith}
+use Rattle.std.proofs.lemmas.Bool.Decides.{nat_tests}
 use Rattle.blocks.proofs.LineLaws.{short-at}
 use Rattle.blocks.proofs.short.Goals as goal
 
--- `blocks::short` meets its contract: of the blocks the last, which is the smallest, alone has to be tested. Assumes nothing.
+-- of the blocks the last, which is the smallest, alone has to be tested
 pub returns-then-lines_of-blocks : goal.returns-then-lines_of-blocks
 returns-then-lines_of-blocks c =
     let a = c.args in
-    let l : lines a.count a.line < a.blocks = subst (λ (n : ℕ). n < a.blocks) c.lines_of.ensures c.if-lines_of-blocks.true in
-    rw (short-at a.count a.line a.blocks a.threshold c.requires.0) (simp (lt-ltb _ _ l))
+    let e = short-at a.count a.line a.blocks a.threshold c.requires.0 in
+    grind (arith, nat_tests)
 
-pub returns-then-blocks-lt2 : goal.returns-then-blocks-lt2
-returns-then-blocks-lt2 c =
+pub returns-then-blocks-ge2 : goal.returns-then-blocks-ge2
+returns-then-blocks-ge2 c =
     let a = c.args in
-    let l : a.blocks ≤ lines a.count a.line = subst (λ (n : ℕ). a.blocks ≤ n) c.lines_of.ensures c.if-lines_of-blocks.false in
-    rw (short-at a.count a.line a.blocks a.threshold c.requires.0) (simp (le-ltb _ _ l, lt-leb _ _ c.if-blocks-lt2.true))
+    let e = short-at a.count a.line a.blocks a.threshold c.requires.0 in
+    grind (arith, nat_tests)
 
-pub returns : goal.returns
-returns c =
+pub returns-else-blocks-ge2 : goal.returns-else-blocks-ge2
+returns-else-blocks-ge2 c =
     let a = c.args in
-    let l : a.blocks ≤ lines a.count a.line =
-    subst (λ (n : ℕ). a.blocks ≤ n) c.lines_of.ensures c.if-lines_of-blocks.false in
-    rw (short-at a.count a.line a.blocks a.threshold c.requires.0, c.before_of.ensures.0)
-    (simp (le-ltb _ _ l, le-leb _ _ c.if-blocks-lt2.false))
+    let e = short-at a.count a.line a.blocks a.threshold c.requires.0 in
+    grind (arith, nat_tests)

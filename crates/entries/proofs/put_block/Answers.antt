@@ -2,5 +2,5 @@ use Rattle.entries.proofs.put_block.Goals as goal
 
 pub returns : goal.returns
 returns c =
-    rw c.block_of-r.ensures
+    rw c.block-r.ensures
     at (rw c.minus-last.ensures at c.put_pair.ensures)

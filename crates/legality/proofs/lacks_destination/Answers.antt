@@ -1,39 +1,40 @@
 use native.Mathlib.Omega.{arith}
 use mathlib.Core.Path.{◌∙◌, sym}
-use borrow.Author.Tests.{eq-eqb}
+use borrow.Author.Tests.{eqb-true, eq-eqb}
+use mathlib.Core.Bool.{false≢true}
 use Rattle.amounts.specs.Rows.{past-few}
 use Rattle.legality.proofs.Laws.{reference-fits, row-stored, row_other}
 use Rattle.legality.proofs.lacks_destination.Goals as goal
 
-pub kind_at-requires : goal.kind_at-requires
-kind_at-requires c = let p = c.requires in omega (arith, p.j_bound.1, past-few p.held.0 _ p.j_bound.0)
+pub is_destination-requires : goal.is_destination-requires
+is_destination-requires c = let p = c.requires in omega (arith, p.j_bound.1, past-few p.held _ p.j_bound.0)
 
-pub reference_at-x-requires : goal.reference_at-x-requires
-reference_at-x-requires c = let p = c.requires in omega (arith, p.j_bound.1, past-few p.held.0 _ p.j_bound.0)
+pub reference_at-requires : goal.reference_at-requires
+reference_at-requires c = let p = c.requires in omega (arith, p.j_bound.1, past-few p.held _ p.j_bound.0)
 
 pub lacks_loop-requires : goal.lacks_loop-requires
 lacks_loop-requires c =
     let a = c.args in
     let p = c.requires in
-    let kind = sym c.kind_at.ensures ∙ c.if-kind_at-eq-DESTINATION.true in
-    rw c.reference_at-x.ensures (
-      p.held.0,
-      p.held.1,
+    let stores = sym c.is_destination.ensures ∙ c.if-is_destination.true in
+    let kind = eqb-true _ 1 stores in
+    rw c.reference_at.ensures (
+      p.held,
       record {
-        fits = reference-fits p.held.0 a.j p.j_bound.0 a.r p.j_bound.1 (omega (arith, kind));
-        stores = eq-eqb _ 1 kind;
+        fits = reference-fits p.held a.j p.j_bound.0 a.r p.j_bound.1 (omega (arith, kind));
+        stores = stores;
         other = p.j_bound.3;
         there = p.j_bound.2;
       },
     )
 
-pub returns-then-kind_at-eq-DESTINATION : goal.returns-then-kind_at-eq-DESTINATION
-returns-then-kind_at-eq-DESTINATION c =
+pub returns-then-is_destination : goal.returns-then-is_destination
+returns-then-is_destination c =
     let a = c.args in
-    row-stored a.store.now a.shifts.now a.peels.now a.j a.r a.k _ (sym c.kind_at.ensures ∙ c.if-kind_at-eq-DESTINATION.true)
-    (rw c.reference_at-x.ensures at c.lacks_loop.ensures)
+    row-stored a.store.now a.a.now a.j a.r a.k _ (eqb-true _ 1 (sym c.is_destination.ensures ∙ c.if-is_destination.true)) (rw c.reference_at.ensures at c.lacks_loop.ensures)
 
-pub returns : goal.returns
-returns c =
+pub returns-else-is_destination : goal.returns-else-is_destination
+returns-else-is_destination c =
     let a = c.args in
-    row_other a.store.now a.shifts.now a.peels.now a.j a.r a.k (λ e. c.if-kind_at-eq-DESTINATION.false (c.kind_at.ensures ∙ e))
+    rw c.if-is_destination.false
+    (row_other a.store.now a.a.now a.j a.r a.k (λ e. absurd (false≢true (sym c.if-is_destination.false ∙ c.is_destination.ensures ∙ eq-eqb _ 1 e))))

@@ -1,43 +1,39 @@
+use Prim.Native.Nat.{◌+◌}
 use native.Mathlib.Omega.{arith}
 use mathlib.Core.Path.{◌∙◌, sym}
-use Rattle.amounts.specs.Rows.{past-few}
 use Rattle.legality.proofs.Laws.{count-few, left-start, left-next, found-row, left_end, up-to-last, past-last}
 use Rattle.legality.proofs.lacks_destinations.Goals as goal
 
 pub start_at-r-requires : goal.start_at-r-requires
-start_at-r-requires c = let p = c.requires in omega (arith, p.j_bound.0, count-few p.held.0)
+start_at-r-requires c = let p = c.requires in omega (arith, p.j_bound.0, count-few p.held)
 
 pub loop-r-init : goal.loop-r-init
-loop-r-init c = rw c.start_at-r.ensures (left-start c.requires.held.0 _ c.args.j c.requires.j_bound.0)
+loop-r-init c = rw c.start_at-r.ensures (left-start c.requires.held _ c.args.j c.requires.j_bound.0)
 
 pub lacks_destination-requires : goal.lacks_destination-requires
 lacks_destination-requires c =
     let p = c.requires in
-    record { held = p.held; j_bound = (p.j_bound.0, up-to-last c.args.store.now c.args.j c.args.last c.loop-r.r p.j_bound.1 (omega (arith, c.loop-r-test.true)), p.j_bound.2, p.j_bound.3) }
+    record { held = p.held; j_bound = (p.j_bound.0, up-to-last c.args.store.now c.args.j c.args.last c.loop-r.r p.j_bound.1 (omega arith), p.j_bound.2, p.j_bound.3) }
 
 pub returns-then-lacks_destination : goal.returns-then-lacks_destination
 returns-then-lacks_destination c =
     let a = c.args in
     let l = c.loop-r in
-    found-row c.requires.held.0 _ a.j c.requires.j_bound.0 l.r (up-to-last a.store.now a.j a.last l.r c.requires.j_bound.1 (omega (arith, c.loop-r-test.true))) l.invariant
+    found-row c.requires.held _ a.j c.requires.j_bound.0 l.r (up-to-last a.store.now a.j a.last l.r c.requires.j_bound.1 (omega arith)) l.invariant
     (sym c.if-lacks_destination.true ∙ c.lacks_destination.ensures)
-
-pub overflow_add-r : goal.overflow_add-r
-overflow_add-r c =
-    let p = c.requires in
-    let i = up-to-last c.args.store.now c.args.j c.args.last c.loop-r.r p.j_bound.1 (omega (arith, c.loop-r-test.true)) in
-    omega (arith, i, past-few p.held.0 _ p.j_bound.0)
 
 pub loop-r-preserved : goal.loop-r-preserved
 loop-r-preserved c =
     let a = c.args in
     let l = c.loop-r in
-    left-next c.requires.held.0 _ a.j c.requires.j_bound.0 l.r (up-to-last a.store.now a.j a.last l.r c.requires.j_bound.1 (omega (arith, c.loop-r-test.true))) l.invariant
+    left-next c.requires.held _ a.j c.requires.j_bound.0 l.r (up-to-last a.store.now a.j a.last l.r c.requires.j_bound.1 (omega arith)) l.invariant
     (sym c.if-lacks_destination.false ∙ c.lacks_destination.ensures)
 
-pub returns : goal.returns
-returns c =
+pub returns-else-lacks_destination : goal.returns-else-lacks_destination
+returns-else-lacks_destination c =
     let a = c.args in
     let l = c.loop-r in
-    left_end c.requires.held.0 _ a.j c.requires.j_bound.0 l.r
-    (past-last a.store.now a.shifts.now a.peels.now a.j a.k a.last l.r c.requires.j_bound.1 (omega (arith, c.loop-r-test.false))) l.invariant
+    let p = c.requires in
+    left_end p.held _ a.j p.j_bound.0 (l.r + 1) (past-last a.store.now a.a.now a.j a.k a.last (l.r + 1) p.j_bound.1 (omega arith))
+    (left-next p.held _ a.j p.j_bound.0 l.r (up-to-last a.store.now a.j a.last l.r p.j_bound.1 (omega arith)) l.invariant
+    (sym c.if-lacks_destination.false ∙ c.lacks_destination.ensures))

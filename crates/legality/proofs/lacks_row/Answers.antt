@@ -1,43 +1,49 @@
 use mathlib.Core.Path.{◌∙◌, sym}
 use native.Mathlib.Omega.{arith}
+use borrow.Author.Tests.{ltb-true, ltb-false}
 use Rattle.reader.specs.Store.{table_in}
 use Rattle.amounts.specs.Rows.{past-few}
 use Rattle.legality.specs.Code.{between}
 use Rattle.legality.proofs.Laws.{reference-fits, touch-stores, row_here, row-empty, row_apart}
-use borrow.Author.Rules.{rules}
 use Rattle.legality.proofs.lacks_row.Goals as goal
 
 pub array_at-requires : goal.array_at-requires
-array_at-requires c = let p = c.requires in omega (arith, p.storing.1, past-few p.held.0 _ p.storing.0.there)
+array_at-requires c = let p = c.requires in omega (arith, p.storing.1, past-few p.held _ p.storing.0.there)
 
-pub returns-then-wide-x : goal.returns-then-wide-x
-returns-then-wide-x c =
+pub returns-then-array_at-x : goal.returns-then-array_at-x
+returns-then-array_at-x c =
     let a = c.args in
-    row_apart a.store.now a.shifts.now a.peels.now a.x a.k a.r
-    (λ e. c.if-wide-x.true (c.wide.ensures.0 ∙ c.array_at.ensures ∙ sym e))
+    row_apart a.store.now a.a.now a.x a.k a.r (λ e. c.if-array_at-x.true (c.array_at.ensures ∙ sym e))
 
-pub kind_at-requires : goal.kind_at-requires
-kind_at-requires c = let p = c.requires in omega (arith, p.storing.1, past-few p.held.0 _ p.storing.0.there)
+pub is_reference-requires : goal.is_reference-requires
+is_reference-requires c = let p = c.requires in omega (arith, p.storing.1, past-few p.held _ p.storing.0.there)
 
-pub reference_at-y-requires : goal.reference_at-y-requires
-reference_at-y-requires c = let p = c.requires in omega (arith, p.storing.1, past-few p.held.0 _ p.storing.0.there)
+pub reference_at-requires : goal.reference_at-requires
+reference_at-requires c = let p = c.requires in omega (arith, p.storing.1, past-few p.held _ p.storing.0.there)
 
 pub lacks_between-requires : goal.lacks_between-requires
 lacks_between-requires c =
     let a = c.args in
     let p = c.requires in
-    let array = sym c.if-wide-x.false ∙ c.wide.ensures.0 ∙ c.array_at.ensures in
-    rw c.reference_at-y.ensures
-    record { held = p.held; reference_fits = (p.storing.0.fits, reference-fits p.held.0 a.k p.storing.0.there a.r p.storing.1 (omega (arith, c.kind_at.ensures, c.if-kind_at-lt-CONSTANT.true)), p.storing.0.other, touch-stores a.x _ p.storing.0.stores array) }
+    let array = sym c.if-array_at-x.false ∙ c.array_at.ensures in
+    rw c.reference_at.ensures record {
+      held = p.held;
+      reference_fits = (
+        p.storing.0.fits,
+        reference-fits p.held a.k p.storing.0.there a.r p.storing.1 (ltb-true _ 2 (sym c.is_reference.ensures ∙ c.if-is_reference.true)),
+        p.storing.0.other,
+        touch-stores a.x _ p.storing.0.stores array,
+      );
+    }
 
-pub returns-then-kind_at-lt-CONSTANT : goal.returns-then-kind_at-lt-CONSTANT
-returns-then-kind_at-lt-CONSTANT c =
+pub returns-then-is_reference : goal.returns-then-is_reference
+returns-then-is_reference c =
     let a = c.args in
-    row_here a.store.now (between (table_in a.store.now) a.shifts.now a.peels.now a.x) a.k a.r _
-    (omega (arith, c.kind_at.ensures, c.if-kind_at-lt-CONSTANT.true)) (rw c.reference_at-y.ensures at c.lacks_between.ensures)
+    row_here a.store.now (between (table_in a.store.now) a.a.now a.x) a.k a.r _
+    (ltb-true _ 2 (sym c.is_reference.ensures ∙ c.if-is_reference.true)) (rw c.reference_at.ensures at c.lacks_between.ensures)
 
-pub returns : goal.returns
-returns c =
+pub returns-else-is_reference : goal.returns-else-is_reference
+returns-else-is_reference c =
     let a = c.args in
-    row-empty a.store.now (between (table_in a.store.now) a.shifts.now a.peels.now a.x) a.k a.r
-    (omega (arith, c.kind_at.ensures, c.if-kind_at-lt-CONSTANT.false))
+    rw c.if-is_reference.false
+    (row-empty a.store.now (between (table_in a.store.now) a.a.now a.x) a.k a.r (ltb-false _ 2 (sym c.is_reference.ensures ∙ c.if-is_reference.false)))

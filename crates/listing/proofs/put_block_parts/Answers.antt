@@ -4,8 +4,8 @@ use Rattle.ranges.specs.Listed.{few-loops, block-asks, part-asks}
 use Rattle.listing.proofs.Laws.{lines_start, lines_next, lines_end}
 use Rattle.listing.proofs.put_block_parts.Goals as goal
 
-pub block_of-blk-requires : goal.block_of-blk-requires
-block_of-blk-requires c = let a = c.args in
+pub block-blk-requires : goal.block-blk-requires
+block-blk-requires c = let a = c.args in
     let p = c.requires in
     block-asks a.a a.store.now p.2 a.b p.1
 
@@ -19,7 +19,7 @@ put_part-next-requires c = let a = c.args in
     let st = a.store.now in
     let i = c.loop-k-test.true in
     let n = c.loops_in-loops.ensures in
-    let e = c.block_of-blk.ensures in
+    let e = c.block-blk.ensures in
     let few = few-loops a.a st p.2 in
     record { at_bound = omega (arith, l.invariant.put.place, l.invariant.put.few, p.0); k_bound = part-asks a.a st p.2 a.b l.k _ p.1 (omega arith) e }
 
@@ -34,7 +34,7 @@ loop-k-smaller c = omega (arith, c.loop-k-test.true)
 
 pub loop-k-preserved : goal.loop-k-preserved
 loop-k-preserved c = let l = c.loop-k-test.true in
-    let p = rw c.block_of-blk.ensures at c.put_part-next.ensures in
+    let p = rw c.block-blk.ensures at c.put_part-next.ensures in
     lines_next c.loop-k.invariant l p
 
 pub shape_of-out : goal.shape_of-out

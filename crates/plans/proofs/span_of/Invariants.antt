@@ -1,5 +1,5 @@
 use mathlib.Core.Path.{◌≡◌}
-use Prim.Native.Nat.{◌≤◌, ◌<◌, ◌-◌, ◌^◌}
+use Prim.Native.Nat.{◌<◌, ◌^◌}
 use Rattle.reader.specs.Store.{first_at, last_at}
 use Rattle.blocks.specs.Sums.{least, largest}
 use Rattle.plans.proofs.span_of.Given as goal
@@ -7,7 +7,4 @@ use Rattle.plans.proofs.span_of.Given as goal
 -- the walk has seen the first k loops
 abbrev pub invariant-loop-k : goal.invariant-loop-k
 invariant-loop-k l =
-    (l.k ≤ l.loops) × (l.low ≡ least l.k (first_at l.store)) × (l.high ≡ largest l.k (last_at l.store)) × (l.high < 2 ^ 31)
-
-abbrev pub decreases-loop-k : goal.decreases-loop-k
-decreases-loop-k l = l.loops - l.k
+    (l.low ≡ least l.k (first_at l.store)) × (l.high ≡ largest l.k (last_at l.store)) × (l.high < 2 ^ 31)

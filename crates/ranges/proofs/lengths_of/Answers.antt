@@ -1,91 +1,53 @@
-use Prim.Native.Nat.{ℕ, ◌<◌}
-use native.Mathlib.Omega.{arith}
-use mathlib.Core.Path.{◌≡◌, refl, ap, ◌∙◌}
+use Rattle.std.proofs.Common.{ℕ, ◌≡◌, ◌<◌, ap, ◌∙◌, arith}
 use Rattle.reader.specs.Store.{loops_in}
 use Rattle.lists.proofs.BelowLaws.{indices_in}
 use Rattle.ranges.specs.Code.{range_of}
-use Rattle.ranges.specs.Listed.{few-loops, lengths-in}
+use Rattle.ranges.specs.Listed.{few-loops, block-asks, part-asks, lengths-in}
 use Rattle.ranges.proofs.Laws.{summed-next}
 use Rattle.ranges.proofs.lengths_of.Goals as goal
 
-pub loops_in-loops-requires : goal.loops_in-loops-requires
-loops_in-loops-requires c = tt
+pub block-blk-requires : goal.block-blk-requires
+block-blk-requires c = block-asks c.args.a.now c.args.store.now c.requires.0 c.args.b c.requires.1
 
-pub loop-k-init : goal.loop-k-init
-loop-k-init c = (omega arith, λ a l y. (record { sum_is = refl; small = omega arith }, record { sum_is = refl; small = omega arith }))
+pub range_at-requires : goal.range_at-requires
+range_at-requires c =
+    part-asks c.args.a.now c.args.store.now c.requires.0 c.args.b c.loop-k.k _ c.requires.1 (omega arith) c.block-blk.ensures
 
-pub range_in-f-requires : goal.range_in-f-requires
-range_in-f-requires c = (c.requires, omega (arith, c.loops_in-loops.ensures, c.loop-k-test.true))
-
-pub range_in-p-requires : goal.range_in-p-requires
-range_in-p-requires c =
-    (c.requires, omega (arith, c.loops_in-loops.ensures, c.loop-k-test.true))
-
-pub minus-fused-requires : goal.minus-fused-requires
-minus-fused-requires c = tt
+pub range_at-requires-in-loop-k : goal.range_at-requires-in-loop-k
+range_at-requires-in-loop-k c =
+    part-asks c.args.a.now c.args.store.now c.requires.0 c.args.b c.loop-k.k _ c.requires.1 (omega arith) c.block-blk.ensures
 
 pub overflow_add-fused : goal.overflow_add-fused
 overflow_add-fused c =
-    let a = c.args in
-    let p = c.requires in
-    let st = a.store.now in
+    let st = c.args.store.now in
     let l = c.loop-k in
-    let i : l.k < loops_in st = omega (arith, c.loops_in-loops.ensures, c.loop-k-test.true) in
-    let n =
-    summed-next p.0 st p.1 a.blk a.blocks a.b a.shifts.now a.peels.now p.3 0 l.k l.fused
-    c.minus-fused.result c.range_in-f.result i (l.invariant.1 p.0 p.1 p.3).0 (c.range_in-f.ensures p.0 0 p.3 refl)
-    c.minus-fused.ensures in
-    omega (arith, n.small, few-loops p.0 st p.1)
-
-pub minus-peeled-requires : goal.minus-peeled-requires
-minus-peeled-requires c = tt
+    let i : l.k < loops_in st = omega arith in
+    let n = summed-next c.args.a.now st c.requires.0 0 c.args.b l.k l.fused _ c.range_at.result i l.invariant.0 (rw c.block-blk.ensures at c.range_at.ensures) c.length-fused.ensures in
+    omega (arith, few-loops c.args.a.now st c.requires.0)
 
 pub overflow_add-peeled : goal.overflow_add-peeled
 overflow_add-peeled c =
-    let a = c.args in
-    let p = c.requires in
-    let st = a.store.now in
+    let st = c.args.store.now in
     let l = c.loop-k in
-    let i : l.k < loops_in st = omega (arith, c.loops_in-loops.ensures, c.loop-k-test.true) in
-    let n =
-    summed-next p.0 st p.1 a.blk a.blocks a.b a.shifts.now a.peels.now p.3 1 l.k l.peeled
-    c.minus-peeled.result c.range_in-p.result i (l.invariant.1 p.0 p.1 p.3).1 (c.range_in-p.ensures p.0 1 p.3 refl)
-    c.minus-peeled.ensures in
-    omega (arith, n.small, few-loops p.0 st p.1)
-
-pub overflow_add-k : goal.overflow_add-k
-overflow_add-k c = let a = c.args in
-    let p = c.requires in
-    let st = a.store.now in
-    omega (arith, few-loops p.0 st p.1, c.loops_in-loops.ensures)
+    let i : l.k < loops_in st = omega arith in
+    let n = summed-next c.args.a.now st c.requires.0 1 c.args.b l.k l.peeled _ c.range_at-in-loop-k.result i l.invariant.1 (rw c.block-blk.ensures at c.range_at-in-loop-k.ensures) c.length-peeled.ensures in
+    omega (arith, few-loops c.args.a.now st c.requires.0)
 
 pub loop-k-preserved : goal.loop-k-preserved
 loop-k-preserved c =
-    let a = c.args in
-    let p = c.requires in
-    let st = a.store.now in
+    let st = c.args.store.now in
     let l = c.loop-k in
-    let i : l.k < loops_in st = omega (arith, c.loops_in-loops.ensures, c.loop-k-test.true) in (
-      omega arith,
-      λ x h y. (
-        summed-next x st h a.blk a.blocks a.b a.shifts.now a.peels.now y 0 l.k l.fused c.minus-fused.result
-            c.range_in-f.result i (l.invariant.1 x h y).0 (c.range_in-f.ensures x 0 y refl) c.minus-fused.ensures,
-        summed-next x st h a.blk a.blocks a.b a.shifts.now a.peels.now y 1 l.k l.peeled c.minus-peeled.result
-            c.range_in-p.result i (l.invariant.1 x h y).1 (c.range_in-p.ensures x 1 y refl) c.minus-peeled.ensures,
-      ),
+    let i : l.k < loops_in st = omega arith in (
+      summed-next c.args.a.now st c.requires.0 0 c.args.b l.k l.fused _ c.range_at.result i l.invariant.0 (rw c.block-blk.ensures at c.range_at.ensures) c.length-fused.ensures,
+      summed-next c.args.a.now st c.requires.0 1 c.args.b l.k l.peeled _ c.range_at-in-loop-k.result i l.invariant.1 (rw c.block-blk.ensures at c.range_at-in-loop-k.ensures) c.length-peeled.ensures,
     )
 
-pub returns : goal.returns
-returns c = let a = c.args in
-    let p = c.requires in
+pub returns-clause-measures : goal.returns-clause-measures
+returns-clause-measures c =
+    let a = c.args in
     let st = a.store.now in
-    let l = c.loop-k in
-    let e : l.k ≡ loops_in st = omega (arith, c.loops_in-loops.ensures, c.loop-k-test.false) in
-    let s = l.invariant.1 p.0 p.1 p.3 in
-    let few = few-loops p.0 st p.1 in record {
-      fused_bound = (omega (arith, s.0.small), omega (arith, s.1.small));
-      measures = λ x h y. record {
-        fused-is = (l.invariant.1 x h y).0.sum_is ∙ ap (λ (n : ℕ). indices_in n (range_of 0 x st a.b)) e ∙ lengths-in x st h 0 a.b;
-        peeled-is = (l.invariant.1 x h y).1.sum_is ∙ ap (λ (n : ℕ). indices_in n (range_of 1 x st a.b)) e ∙ lengths-in x st h 1 a.b;
-      };
+    let h = c.requires.0 in
+    let e : c.loop-k.k ≡ loops_in st = omega arith in record {
+      fused-is = c.loop-k.invariant.0.sum_is ∙ ap (λ (n : ℕ). indices_in n (range_of 0 a.a.now st a.b)) e ∙ lengths-in a.a.now st h 0 a.b;
+      peeled-is = c.loop-k.invariant.1.sum_is ∙ ap (λ (n : ℕ). indices_in n (range_of 1 a.a.now st a.b)) e ∙ lengths-in a.a.now st h 1 a.b;
     }

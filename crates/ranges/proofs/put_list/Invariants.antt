@@ -1,12 +1,7 @@
-use Prim.Native.Nat.{◌-◌, ◌≤◌}
 use Rattle.blocks.specs.Sums.{column}
 use Rattle.ranges.specs.Code.{range_of}
 use Rattle.ranges.proofs.Laws.{Filled}
 use Rattle.ranges.proofs.put_list.Given as goal
 
 abbrev pub invariant-loop-k : goal.invariant-loop-k
-invariant-loop-k l =
-    (l.k ≤ l.loops) × Filled l.initial.lists l.lists l.at l.k (range_of l.phase l.a l.store l.b) (column l.a.shifts) l.sum
-
-abbrev pub decreases-loop-k : goal.decreases-loop-k
-decreases-loop-k l = l.loops - l.k
+invariant-loop-k l = Filled l.initial.lists l.lists l.at l.k (range_of l.phase l.a l.store l.b) (column l.a.shifts) l.sum

@@ -1,6 +1,7 @@
 use native.Mathlib.Omega.{arith}
 use mathlib.Core.Path.{sym, ap, ◌∙◌}
 use native.Mathlib.Numerals.{add-one}
+use borrow.Author.Tests.{eqb-true, eqb-false}
 use Rattle.reader.specs.Store.{start_at}
 use Rattle.reader.specs.Held.{count_held, few-loops, rows-rise}
 use Rattle.reader.specs.RowLaws.{behind-last, behind-few, behind-before, last_found, first_found}
@@ -23,8 +24,8 @@ pub loop-r-init : goal.loop-r-init
 loop-r-init c =
     behind-last c.requires.0 c.args.k c.requires.1 c.start_at-r.result c.start_at-r.ensures
 
-pub kind_at-requires : goal.kind_at-requires
-kind_at-requires c =
+pub is_destination-requires : goal.is_destination-requires
+is_destination-requires c =
     let l = c.loop-r in
     behind-few c.requires.0 c.args.k c.requires.1 l.r l.invariant
 
@@ -32,12 +33,12 @@ pub loop-r-preserved : goal.loop-r-preserved
 loop-r-preserved c =
     let l = c.loop-r in
     behind-before c.args.store.now c.args.k l.r l.invariant
-    (omega (arith, c.start_at-start.ensures, c.loop-r-test.true)) (λ e. c.if-kind_at-eq-DESTINATION.false (c.kind_at.ensures ∙ e))
+    (omega (arith, c.start_at-start.ensures, c.loop-r-test.true)) (eqb-false _ _ (sym c.is_destination.ensures ∙ c.if-is_destination.false))
 
-pub returns-then-kind_at-eq-DESTINATION : goal.returns-then-kind_at-eq-DESTINATION
-returns-then-kind_at-eq-DESTINATION c =
+pub returns-then-is_destination : goal.returns-then-is_destination
+returns-then-is_destination c =
     let l = c.loop-r in
-    last_found c.args.store.now c.args.k l.r l.invariant (sym c.kind_at.ensures ∙ c.if-kind_at-eq-DESTINATION.true)
+    last_found c.args.store.now c.args.k l.r l.invariant (eqb-true _ _ (sym c.is_destination.ensures ∙ c.if-is_destination.true))
 
 pub returns : goal.returns
 returns c =

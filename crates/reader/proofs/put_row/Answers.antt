@@ -4,4 +4,4 @@ use Rattle.reader.proofs.put_row.Goals as goal
 
 pub returns : goal.returns
 unfolding with_row
-returns c = rw c.narrow.ensures record { value = refl; store_after = refl }
+returns c = rw c.number.ensures record { value = refl; store_after = refl }

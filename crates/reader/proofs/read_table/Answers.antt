@@ -66,6 +66,5 @@ returns-in-Ended c =
     let l = c.loop-r in
     let s = c.args.s.now in
     let x = c.read_record-found in
-    rw c.none.ensures
     (turn-ended s l.store l.t l.at l.rows l.invariant x.result x.ensures c.in-Ended.n _ c.in-Ended.is
     c.if-n-s.false c.put_counts.ensures)

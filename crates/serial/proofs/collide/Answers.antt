@@ -1,8 +1,8 @@
-use native.Mathlib.Omega.{arith}
-use mathlib.Core.Path.{sym, ◌∙◌}
-use Rattle.overlap.specs.Booleans.{either_true}
+use mathlib.Core.Path.{sym}
+use mathlib.Core.Logic.{inl, inr}
 use Rattle.serial.proofs.Walks.{other-array, same-offset, neither-stores, touching}
 use Rattle.serial.proofs.collide.Goals as goal
+use Rattle.serial.proofs.collide.Goals.{then-x-via-then-x, then-x-via-else-x+then-y}
 
 pub returns-then-x-y : goal.returns-then-x-y
 returns-then-x-y c = let a = c.args in other-array a.first a.last a.x a.y c.if-x-y.true
@@ -10,21 +10,11 @@ returns-then-x-y c = let a = c.args in other-array a.first a.last a.x a.y c.if-x
 pub returns-then-x-y-2 : goal.returns-then-x-y-2
 returns-then-x-y-2 c = let a = c.args in same-offset a.first a.last a.x a.y c.if-x-y-2.true
 
-pub overlaps-requires : goal.overlaps-requires
-overlaps-requires c =
-    let f = c.wide-f.ensures in
-    let l = c.wide-l.ensures in
-    let p = c.requires in
-    (f.1, l.1, omega (arith, p.0), f.1, l.1, omega (arith, p.1))
-
-pub returns-then-one_stores : goal.returns-then-one_stores
-returns-then-one_stores c =
+pub returns-then-x : goal.returns-then-x
+returns-then-x c =
     let a = c.args in
     touching a.first a.last a.x a.y _ c.if-x-y.false c.if-x-y-2.false
-    (either_true a.x.stores a.y.stores (sym c.one_stores.ensures ∙ c.if-one_stores.true))
-    (rw (c.wide-f.ensures.0, c.wide-l.ensures.0) at c.overlaps.ensures)
+    (elim c.then-x.branch [ then-x-via-then-x w ↦ inl w.if-x.true | then-x-via-else-x+then-y w ↦ inr w.if-y.true ]) c.overlaps.ensures
 
 pub returns : goal.returns
-returns c =
-    let a = c.args in
-    sym (neither-stores a.first a.last a.x a.y (sym c.one_stores.ensures ∙ c.if-one_stores.false))
+returns c = let a = c.args in sym (neither-stores a.first a.last a.x a.y (rw (c.if-x.false, c.if-y.false)))

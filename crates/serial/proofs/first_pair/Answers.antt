@@ -32,9 +32,9 @@ pub loop-row-init : goal.loop-row-init
 loop-row-init c =
     lower-start c.args.store.now c.first_at-first.result c.last_at-last.result c.start_at-from.result c.start_at-past.result
 
-pub partner-other-requires : goal.partner-other-requires
-partner-other-requires c =
-    let d = ends (goal.at.partner-other-requires c).After-last_destination-end in (
+pub partner-requires : goal.partner-requires
+partner-requires c =
+    let d = ends (goal.at.partner-requires c).After-last_destination-end in (
       omega (arith, c.loop-row-test.true, d.1),
       d.0,
       rw c.start_at-past.ensures (row-known c.args.store.now c.requires.0 c.args.k c.requires.1),
@@ -44,23 +44,23 @@ pub references_in-lower-requires : goal.references_in-lower-requires
 references_in-lower-requires c = let d = ends (goal.at.references_in-lower-requires c).After-last_destination-end in omega (arith, c.loop-row-test.true, d.0, d.1)
 
 pub references_in-higher-requires : goal.references_in-higher-requires
-references_in-higher-requires c = let d = ends (goal.at.references_in-higher-requires c).After-last_destination-end in omega (arith, c.if-other-past.true, d.0)
+references_in-higher-requires c = let d = ends (goal.at.references_in-higher-requires c).After-last_destination-end in omega (arith, c.in-Some.ensures.0.1, d.0)
 
-pub returns-then-other-past : goal.returns-then-other-past
-returns-then-other-past c =
+pub returns-in-Some : goal.returns-in-Some
+returns-in-Some c =
     let l = c.loop-row in
     loop-found c.args.store.now c.requires.0 c.args.k c.requires.1 _ _ _ _ c.first_at-first.ensures c.last_at-last.ensures
-    c.start_at-from.ensures c.start_at-past.ensures l.row _ _ _ l.invariant c.partner-other.ensures c.if-other-past.true
+    c.start_at-from.ensures c.start_at-past.ensures l.row _ _ _ l.invariant c.in-Some.ensures
     c.references_in-lower.ensures c.references_in-higher.ensures
 
-pub overflow_add-row : goal.overflow_add-row
-overflow_add-row c = let d = ends (goal.at.overflow_add-row c).After-last_destination-end in omega (arith, c.loop-row-test.true, d.0, d.1)
+pub overflow_add-row-end : goal.overflow_add-row-end
+overflow_add-row-end c = let d = ends c in omega (arith, d.0, d.1)
 
 pub loop-row-preserved : goal.loop-row-preserved
 loop-row-preserved c =
     let l = c.loop-row in
     lower-next c.args.store.now c.first_at-first.result c.last_at-last.result c.start_at-from.result c.start_at-past.result
-    l.row c.partner-other.result l.invariant c.partner-other.ensures c.if-other-past.false
+    l.row l.invariant c.in_default.ensures
 
 pub returns : goal.returns
 returns c =

@@ -1,10 +1,6 @@
-use Prim.Native.Nat.{◌+◌, ◌-◌}
 use Rattle.serial.proofs.Walks.{Lower}
 use Rattle.serial.proofs.first_pair.Given as goal
 
 -- `first_pair` meets its contract. The invariant: no row before `row` has a partner.
 abbrev pub invariant-loop-row : goal.invariant-loop-row
 invariant-loop-row l = Lower l.store l.first l.last l.from l.past l.row
-
-abbrev pub decreases-loop-row : goal.decreases-loop-row
-decreases-loop-row l = l.end + 1 - l.row

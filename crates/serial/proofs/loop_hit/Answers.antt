@@ -1,5 +1,6 @@
 use native.Mathlib.Omega.{arith}
-use mathlib.Core.Path.{◌∙◌}
+use mathlib.Core.Path.{sym, ◌∙◌}
+use borrow.Author.Tests.{eqb-false}
 use Rattle.reader.specs.Held.{opening-held}
 use Rattle.serial.proofs.Walks.{rows-known, row-known, loop-alone, loop-first}
 use Rattle.serial.proofs.loop_hit.Goals as goal
@@ -19,8 +20,8 @@ first_at-first-requires c = (rows-known c.args.store.now c.requires.0 c.args.k c
 pub last_at-last-requires : goal.last_at-last-requires
 last_at-last-requires c = (rows-known c.args.store.now c.requires.0 c.args.k c.requires.1).0
 
-pub partner_or_destination-other-requires : goal.partner_or_destination-other-requires
-partner_or_destination-other-requires c =
+pub partner_or_destination-requires : goal.partner_or_destination-requires
+partner_or_destination-requires c =
     let s = c.start_at-from.ensures in
     let e = c.start_at-past.ensures in (
       omega (arith, s, e, (rows-known c.args.store.now c.requires.0 c.args.k c.requires.1).1),
@@ -29,19 +30,20 @@ partner_or_destination-other-requires c =
       rw s (opening-held c.requires.0 c.args.k c.requires.1),
     )
 
-pub returns-then-past-other : goal.returns-then-past-other
-returns-then-past-other c =
-    loop-alone c.args.store.now c.requires.0 c.args.k c.requires.1 _ _ _ _ c.first_at-first.ensures c.last_at-last.ensures
-    c.start_at-from.ensures c.start_at-past.ensures _ c.partner_or_destination-other.ensures c.if-past-other.true
+pub returns-in_err-other : goal.returns-in_err-other
+returns-in_err-other c =
+    rw c.from_residual.ensures
+    (loop-alone c.args.store.now c.requires.0 c.args.k c.requires.1 _ _ _ _ c.first_at-first.ensures c.last_at-last.ensures
+    c.start_at-from.ensures c.start_at-past.ensures c.in_err-other.ensures)
 
-pub kind_at-requires : goal.kind_at-requires
-kind_at-requires c = omega (arith, c.if-past-other.false, c.start_at-past.ensures, (rows-known c.args.store.now c.requires.0 c.args.k c.requires.1).2)
+pub is_destination-requires : goal.is_destination-requires
+is_destination-requires c = omega (arith, c.in_ok-other.ensures.0.1, c.start_at-past.ensures, (rows-known c.args.store.now c.requires.0 c.args.k c.requires.1).2)
 
 pub references_in-requires : goal.references_in-requires
-references_in-requires c = omega (arith, c.if-past-other.false, c.start_at-past.ensures, (rows-known c.args.store.now c.requires.0 c.args.k c.requires.1).2)
+references_in-requires c = omega (arith, c.in_ok-other.ensures.0.1, c.start_at-past.ensures, (rows-known c.args.store.now c.requires.0 c.args.k c.requires.1).2)
 
 pub returns : goal.returns
 returns c =
     loop-first c.args.store.now c.requires.0 c.args.k c.requires.1 _ _ _ _ c.first_at-first.ensures c.last_at-last.ensures
-    c.start_at-from.ensures c.start_at-past.ensures _ c.partner_or_destination-other.ensures _ (omega (arith, c.if-past-other.false))
-    (λ e. c.if-kind_at-eq-DESTINATION.false (c.kind_at.ensures ∙ e)) c.references_in.ensures
+    c.start_at-from.ensures c.start_at-past.ensures _ _ c.in_ok-other.ensures
+    (eqb-false _ _ (sym c.is_destination.ensures ∙ c.if-is_destination.false)) c.references_in.ensures

@@ -1,23 +1,21 @@
 use native.Mathlib.Omega.{arith}
 use mathlib.Core.Path.{sym, ap, ◌∙◌}
 use Prim.Native.Nat.{◌+◌}
+use borrow.Author.Tests.{ltb-true, ltb-false}
 use Rattle.model.specs.declared.Reference.{Reference}
 use Rattle.serial.proofs.Walks.{passed_start, passed-next, partner-other, partner-none, partner-found}
 use Rattle.serial.proofs.partner.Goals as goal
 
-pub kind_at-requires : goal.kind_at-requires
-kind_at-requires c = omega (arith, c.requires)
+pub is_reference-requires : goal.is_reference-requires
+is_reference-requires c = omega (arith, c.requires)
 
-pub returns-then-kind_at-ge-CONSTANT : goal.returns-then-kind_at-ge-CONSTANT
-returns-then-kind_at-ge-CONSTANT c =
+pub returns-then-not-is_reference : goal.returns-then-not-is_reference
+returns-then-not-is_reference c =
     let a = c.args in
-    partner-other a.store.now a.first a.last a.row a.past c.requires.0 (omega (arith, c.if-kind_at-ge-CONSTANT.true, c.kind_at.ensures))
+    partner-other a.store.now a.first a.last a.row a.past c.requires.0 (ltb-false _ _ (sym c.is_reference.ensures ∙ c.if-not-is_reference.true))
 
 pub reference_at-x-requires : goal.reference_at-x-requires
 reference_at-x-requires c = omega (arith, c.requires)
-
-pub overflow_add-other : goal.overflow_add-other
-overflow_add-other c = omega (arith, c.requires)
 
 pub loop-other-init : goal.loop-other-init
 loop-other-init c =
@@ -28,7 +26,7 @@ pub row_collides-requires : goal.row_collides-requires
 row_collides-requires c =
     let p = c.requires in
     let l = c.loop-other in
-    let small = (p.2 c.args.row p.0).offset (omega (arith, c.if-kind_at-ge-CONSTANT.false, c.kind_at.ensures)) in (
+    let small = (p.2 c.args.row p.0).offset (ltb-true _ _ (sym c.is_reference.ensures ∙ c.if-not-is_reference.false)) in (
       omega (arith, p.1, c.loop-other-test.true),
       p.2 l.other c.loop-other-test.true,
       omega (arith, small, ap (λ (x : Reference). x.offset) c.reference_at-x.ensures),
@@ -39,11 +37,8 @@ returns-then-row_collides c =
     let a = c.args in
     let l = c.loop-other in
     let x = c.reference_at-x.ensures in
-    partner-found a.store.now a.first a.last a.row a.past c.requires.0 (omega (arith, c.if-kind_at-ge-CONSTANT.false, c.kind_at.ensures))
+    partner-found a.store.now a.first a.last a.row a.past c.requires.0 (ltb-true _ _ (sym c.is_reference.ensures ∙ c.if-not-is_reference.false))
     l.other (rw x at l.invariant) c.loop-other-test.true (rw x at (sym c.if-row_collides.true ∙ c.row_collides.ensures))
-
-pub overflow_add-other-in-loop-other : goal.overflow_add-other-in-loop-other
-overflow_add-other-in-loop-other c = omega (arith, c.requires, c.loop-other-test.true)
 
 pub loop-other-preserved : goal.loop-other-preserved
 loop-other-preserved c =
@@ -56,5 +51,5 @@ pub returns : goal.returns
 returns c =
     let a = c.args in
     let l = c.loop-other in
-    partner-none a.store.now a.first a.last a.row a.past c.requires.0 (omega (arith, c.if-kind_at-ge-CONSTANT.false, c.kind_at.ensures))
+    partner-none a.store.now a.first a.last a.row a.past c.requires.0 (ltb-true _ _ (sym c.is_reference.ensures ∙ c.if-not-is_reference.false))
     l.other (rw c.reference_at-x.ensures at l.invariant) c.loop-other-test.false

@@ -1,5 +1,6 @@
 use native.Mathlib.Omega.{arith}
 use mathlib.Core.Path.{sym, ap, ◌∙◌}
+use borrow.Author.Tests.{eqb-true, eqb-false}
 use Rattle.model.specs.declared.Reference.{Reference}
 use Rattle.serial.proofs.Walks.{alone-start, alone-next, alone-destination, alone-found, alone-end}
 use Rattle.serial.proofs.partner_or_destination.Goals as goal
@@ -9,12 +10,12 @@ loop-other-init c =
     let a = c.args in
     alone-start a.store.now a.first a.last c.reference_at-x.result a.row a.past c.requires.0
 
-pub returns-then-kind_at-eq-DESTINATION : goal.returns-then-kind_at-eq-DESTINATION
-returns-then-kind_at-eq-DESTINATION c =
+pub returns-then-is_destination : goal.returns-then-is_destination
+returns-then-is_destination c =
     let a = c.args in
     let l = c.loop-other in
     alone-destination a.store.now a.first a.last _ a.row a.past c.reference_at-x.ensures c.requires.0 c.requires.3 l.other l.invariant
-    c.loop-other-test.true (sym c.kind_at.ensures ∙ c.if-kind_at-eq-DESTINATION.true)
+    c.loop-other-test.true (eqb-true _ _ (sym c.is_destination.ensures ∙ c.if-is_destination.true))
 
 pub row_collides-requires : goal.row_collides-requires
 row_collides-requires c =
@@ -38,7 +39,7 @@ loop-other-preserved c =
     let a = c.args in
     let l = c.loop-other in
     alone-next a.store.now a.first a.last c.reference_at-x.result a.row a.past l.other l.invariant
-    c.loop-other-test.true (λ e. c.if-kind_at-eq-DESTINATION.false (c.kind_at.ensures ∙ e)) (sym c.if-row_collides.false ∙ c.row_collides.ensures)
+    c.loop-other-test.true (eqb-false _ _ (sym c.is_destination.ensures ∙ c.if-is_destination.false)) (sym c.if-row_collides.false ∙ c.row_collides.ensures)
 
 pub returns : goal.returns
 returns c =

@@ -1,10 +1,6 @@
-use Prim.Native.Nat.{◌-◌}
 use Rattle.serial.proofs.Walks.{Alone}
 use Rattle.serial.proofs.partner_or_destination.Given as goal
 
 -- `partner_or_destination` meets its contract. The invariant: the rows before `other` are reads that do not collide with the first one.
 abbrev pub invariant-loop-other : goal.invariant-loop-other
 invariant-loop-other l = Alone l.store l.first l.last l.x l.row l.past l.other
-
-abbrev pub decreases-loop-other : goal.decreases-loop-other
-decreases-loop-other l = l.past - l.other

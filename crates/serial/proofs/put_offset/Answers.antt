@@ -1,14 +1,15 @@
 use mathlib.Core.Path.{sym, ◌∙◌}
+use borrow.Author.Tests.{eqb-true, eqb-false}
 use Rattle.serial.proofs.Offsets.{offset-put, offset-kept}
 use Rattle.serial.proofs.put_offset.Goals as goal
 
-pub returns-then-kind_at-ne-DESTINATION : goal.returns-then-kind_at-ne-DESTINATION
-returns-then-kind_at-ne-DESTINATION c =
+pub returns-then-not-is_destination : goal.returns-then-not-is_destination
+returns-then-not-is_destination c =
     let a = c.args in
-    offset-kept a.store.now a.row a.offsets.now (λ e. c.if-kind_at-ne-DESTINATION.true (c.kind_at.ensures ∙ e))
+    offset-kept a.store.now a.row a.offsets.now (eqb-false _ _ (sym c.is_destination.ensures ∙ c.if-not-is_destination.true))
 
 pub returns : goal.returns
 returns c =
     let a = c.args in
-    rw (c.value_at.ensures, c.wide-q.ensures.0, c.array_at.ensures)
-    (offset-put a.store.now a.row a.offsets.now (sym c.kind_at.ensures ∙ c.if-kind_at-ne-DESTINATION.false))
+    rw (c.value_at.ensures, c.array_at-q.ensures)
+    (offset-put a.store.now a.row a.offsets.now (eqb-true _ _ (sym c.is_destination.ensures ∙ c.if-not-is_destination.false)))

@@ -1,14 +1,11 @@
+use Rattle.std.proofs.lemmas.Result.{err_from_is_err_and}
 use Rattle.serial.proofs.Walks.{checked, refused-reading}
 use Rattle.serial.proofs.read_through.Goals as goal
 
-pub returns-then-r-ne0 : goal.returns-then-r-ne0
-returns-then-r-ne0 c =
-    refused-reading c.read_table-r.new.store c.args.s.now c.read_table-r.result c.read_table-r.ensures c.if-r-ne0.true
-
-pub check_loops-requires : goal.check_loops-requires
-check_loops-requires c = (c.read_table-r.ensures.held c.if-r-ne0.false).1
+pub returns-in_err-read_table : goal.returns-in_err-read_table
+returns-in_err-read_table c =
+    let p = err_from_is_err_and c.from_residual.result c.from_residual.ensures.1 in
+    rw (p.1, p.2) (refused-reading c.read_table.new.store c.args.s.now _ c.in_err-read_table.ensures)
 
 pub returns : goal.returns
-returns c =
-    checked c.read_table-r.new.store c.args.s.now c.read_table-r.result c.read_table-r.ensures
-    c.check_loops.result c.if-r-ne0.false c.check_loops.ensures
+returns c = checked c.read_table.new.store c.args.s.now c.in_ok-read_table.ensures.0 c.check_loops.result c.check_loops.ensures

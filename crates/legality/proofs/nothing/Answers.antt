@@ -1,4 +1,0 @@
-use Rattle.legality.proofs.nothing.Goals as goal
-
-pub returns : goal.returns
-returns c = rw (c.without.ensures, c.none.ensures)

@@ -1,7 +1,0 @@
-use Rattle.serial.proofs.one_stores.Goals as goal
-
-pub returns-then-x : goal.returns-then-x
-returns-then-x c = rw c.if-x.true
-
-pub returns : goal.returns
-returns c = rw c.if-x.false
