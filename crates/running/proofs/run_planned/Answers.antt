@@ -23,8 +23,8 @@ returns-then-memory-bases c =
 pub put_ends-requires : goal.put_ends-requires
 put_ends-requires c = (c.requires, refl, zeros-small 192)
 
-pub run_row-idle-requires : goal.run_row-idle-requires
-run_row-idle-requires c =
+pub run_row-requires : goal.run_row-requires
+run_row-requires c =
     let a = c.args in
     let p = c.requires in
     let st = a.store.now in
@@ -47,8 +47,7 @@ returns c =
     let n = loaded-total ld _ refl in
     let l = c.put_ends.ensures in
     let y = c.put_all_lists.ensures in
-    let x = c.run_row-idle in
-    rw c.none.ensures
-    (λ s w e. runs-made s w a.order.now a.memory.now (planned_in a.a st) e (c.if-memory-bases.false ∙ n) _ x.result
+    let x = c.run_row in
+    λ s w e. runs-made s w a.order.now a.memory.now (planned_in a.a st) e (c.if-memory-bases.false ∙ n) _ x.result
     (x.ensures (work_in a.a st) (step s w)
-    (calling-in a.a st p _ _ bs.result.firsts ld l.0 l.1 (omega (arith, y.long)) y.each s w e)))
+    (calling-in a.a st p _ _ bs.result.firsts ld l.0 l.1 (omega (arith, y.long)) y.each s w e))
