@@ -19,36 +19,36 @@ use Rattle.model.specs.declared.Reference.{Reference}
 use Rattle.reader.specs.Store.{kind_at, array_at, value_at}
 use Rattle.reader.specs.Stored.{Row}
 use Rattle.reader.specs.Rows.{ref_in, refs_in}
-use Rattle.std.specs.Prelude.{None}
+use Rattle.std.specs.Prelude.{Option, None, Some, ◌&&◌}
 use Rattle.serial.specs.Serial.{collides, pair_hit}
 use Rattle.serial.specs.Rows.{StoredAt, with_offset, offset_of, differs}
 use Rattle.serial.proofs.Walks.{untouched, same-offset, apart-pairs, rows-one}
 
 module _ (c : List ℕ) where
   -- THE OFFSETS, row by row
-  pub offset-put : (row : ℕ) (os : List ℕ) → kind_at c row ≡ 1 → set os (array_at c row) (value_at c row) ≡ with_offset c row os
+  pub offset-put : (row : ℕ) (os : List (Option ℕ)) → kind_at c row ≡ 1 → set os (array_at c row) (Some (value_at c row)) ≡ with_offset c row os
   unfolding with_offset
   offset-put row os e = sym (rw (eq-eqb (kind_at c row) 1 e))
 
-  pub offset-kept : (row : ℕ) (os : List ℕ) → (kind_at c row ≡ 1 → ⊥) → os ≡ with_offset c row os
+  pub offset-kept : (row : ℕ) (os : List (Option ℕ)) → (kind_at c row ≡ 1 → ⊥) → os ≡ with_offset c row os
   unfolding with_offset
   offset-kept row os n = sym (rw (ne_eqb (kind_at c row) 1 n))
 
   module _ (from : ℕ) where
     -- array q has none, or that of a row before `row`
-    abbrev Kept : ℕ → ℕ → ℕ → Type 0
-    Kept row q v = (v ≡ 511) ⊎ ((i : ℕ) × (from ≤ i) × (i < row) × (kind_at c i ≡ 1) × (array_at c i ≡ q) × (value_at c i ≡ v))
+    abbrev Kept : ℕ → ℕ → Option ℕ → Type 0
+    Kept row q v = (v ≡ None) ⊎ ((i : ℕ) × (from ≤ i) × (i < row) × (kind_at c i ≡ 1) × (array_at c i ≡ q) × (Some (value_at c i) ≡ v))
 
-    pub stored-start : StoredAt c from from (replicate 16 511)
+    pub stored-start : StoredAt c from from (replicate 16 None)
     stored-start = record {
-      long = length-replicate {A = ℕ} 16 511;
+      long = length-replicate {A = Option ℕ} 16 None;
       some = λ i a b. absurd (omega arith);
-      only = λ q h. inl (get_or-replicate 16 q 511 0 h);
+      only = λ q h. inl (get_or-replicate 16 q None None h);
     }
 
-    module _ (row : ℕ) (os : List ℕ) (low : from ≤ row) (w : StoredAt c from row os) where
+    module _ (row : ℕ) (os : List (Option ℕ)) (low : from ≤ row) (w : StoredAt c from row os) where
       -- what was there of the rows before stays
-      only-before : (q : ℕ) (v : ℕ) → Kept row q v → Kept (row + 1) q v
+      only-before : (q : ℕ) (v : Option ℕ) → Kept row q v → Kept (row + 1) q v
       only-before q v = ⊎_elim inl (λ (i, a, b, k, e, z). inr (i, a, omega arith, k, e, z))
 
       before : (i : ℕ) → i < row + 1 → (i ≡ row → ⊥) → i < row
@@ -58,67 +58,70 @@ module _ (c : List ℕ) where
       stored_other n = record {
         long = w.long;
         some = λ i a b e. w.some i a (before i b (λ z. n (rw z at e))) e;
-        only = λ q h. only-before q (get_or os q 0) (w.only q h);
+        only = λ q h. only-before q (get_or os q None) (w.only q h);
       }
 
-      stored-put : kind_at c row ≡ 1 → value_at c row ≤ 510 → StoredAt c from (row + 1) (set os (array_at c row) (value_at c row))
-      stored-put e small = record {
-        long = length-set os (array_at c row) (value_at c row) ∙ w.long;
+      stored-put : kind_at c row ≡ 1 → StoredAt c from (row + 1) (set os (array_at c row) (Some (value_at c row)))
+      stored-put e = record {
+        long = length-set os (array_at c row) (Some (value_at c row)) ∙ w.long;
         some = λ i a b k z. there i (ℕ_discrete (array_at c i) (array_at c row)) a b k z;
         only = λ q h. at q h (ℕ_discrete q (array_at c row));
       }
         where
-          new : List ℕ
-          new = set os (array_at c row) (value_at c row)
+          new : List (Option ℕ)
+          new = set os (array_at c row) (Some (value_at c row))
 
-          same : (q : ℕ) → q ≡ array_at c row → get_or new q 0 ≡ value_at c row
-          same q z = rw z (get_or-set_same os (array_at c row) (value_at c row) 0 (omega (arith, w.long)))
+          same : (q : ℕ) → q ≡ array_at c row → get_or new q None ≡ Some (value_at c row)
+          same q z = rw z (get_or-set_same os (array_at c row) (Some (value_at c row)) None (omega (arith, w.long)))
 
-          other : (q : ℕ) → (q ≡ array_at c row → ⊥) → get_or new q 0 ≡ get_or os q 0
-          other q z = get_or-set_other os (array_at c row) q (value_at c row) 0 z
+          other : (q : ℕ) → (q ≡ array_at c row → ⊥) → get_or new q None ≡ get_or os q None
+          other q z = get_or-set_other os (array_at c row) q (Some (value_at c row)) None z
 
-          there : (i : ℕ) → Dec (array_at c i ≡ array_at c row) → from ≤ i → i < row + 1 → kind_at c i ≡ 1 → get_or new (array_at c i) 0 ≡ 511 → ⊥
-          there i (yes q) a b k z = omega (arith, same (array_at c i) q, z, small)
+          there : (i : ℕ) → Dec (array_at c i ≡ array_at c row) → from ≤ i → i < row + 1 → kind_at c i ≡ 1 → get_or new (array_at c i) None ≡ None → ⊥
+          there i (yes q) a b k z = let w = same (array_at c i) q in cc
           there i (no q) a b k z = w.some i a (before i b (λ y. q (ap (array_at c) y))) k (sym (other (array_at c i) q) ∙ z)
 
-          at : (q : ℕ) → q < 16 → Dec (q ≡ array_at c row) → Kept (row + 1) q (get_or new q 0)
+          at : (q : ℕ) → q < 16 → Dec (q ≡ array_at c row) → Kept (row + 1) q (get_or new q None)
           at q h (yes z) = inr (row, low, omega arith, e, sym z, sym (same q z))
-          at q h (no z) = rw (other q z) (only-before q (get_or os q 0) (w.only q h))
+          at q h (no z) = rw (other q z) (only-before q (get_or os q None) (w.only q h))
 
-      pub stored_next : Row c row → StoredAt c from (row + 1) (with_offset c row os)
-      stored_next r = go (ℕ_discrete (kind_at c row) 1)
+      pub stored_next : StoredAt c from (row + 1) (with_offset c row os)
+      stored_next = go (ℕ_discrete (kind_at c row) 1)
         where
           go : Dec (kind_at c row ≡ 1) → StoredAt c from (row + 1) (with_offset c row os)
-          go (yes e) = subst (StoredAt c from (row + 1)) (offset-put row os e) (stored-put e (r.offset (omega arith)))
+          go (yes e) = subst (StoredAt c from (row + 1)) (offset-put row os e) (stored-put e)
           go (no n) = subst (StoredAt c from (row + 1)) (offset-kept row os n) (stored_other n)
 
-    pub stored-end : (row past : ℕ) (os : List ℕ) → StoredAt c from row os → row ≡ past → StoredAt c from past os
+    pub stored-end : (row past : ℕ) (os : List (Option ℕ)) → StoredAt c from row os → row ≡ past → StoredAt c from past os
     stored-end row past os w e = rw e at w
 
   -- THE TEST OF A ROW
-  module _ (os : List ℕ) (i : ℕ) where
-    pub none-differs : offset_of c os i ≡ 511 → false ≡ differs c os i
+  module _ (os : List (Option ℕ)) (i : ℕ) where
+    pub none-differs : offset_of c os i ≡ None → false ≡ differs c os i
     unfolding differs
-    none-differs e = sym (rw (eq-eqb (offset_of c os i) 511 e))
+    none-differs e = sym (rw e)
 
-    pub same_differs : offset_of c os i ≡ value_at c i → false ≡ differs c os i
+    pub kind-differs : (o : ℕ) (b : Bool) → offset_of c os i ≡ Some o → b ≡ (not (eqb o (value_at c i)) && ltb (kind_at c i) 2) → b ≡ differs c os i
     unfolding differs
-    same_differs e = sym (rw (eq-eqb (offset_of c os i) (value_at c i) e) (and-false (not (eqb (offset_of c os i) 511))))
-
-    pub kind-differs : (b : Bool) → (offset_of c os i ≡ 511 → ⊥) → (offset_of c os i ≡ value_at c i → ⊥) → b ≡ ltb (kind_at c i) 2 → b ≡ differs c os i
-    unfolding differs
-    kind-differs b n v e = e ∙ sym (rw (ne_eqb (offset_of c os i) 511 n, ne_eqb (offset_of c os i) (value_at c i) v))
+    kind-differs o b e f = f ∙ sym (rw e)
 
     -- a reference that does not differ has the offset of its array, if that is stored
-    agreed : differs c os i ≡ false → kind_at c i < 2 → (offset_of c os i ≡ 511 → ⊥) → offset_of c os i ≡ value_at c i
-    agreed e k n = go (ℕ_discrete (offset_of c os i) (value_at c i))
+    agreed : differs c os i ≡ false → kind_at c i < 2 → (offset_of c os i ≡ None → ⊥) → offset_of c os i ≡ Some (value_at c i)
+    unfolding differs
+    agreed e k n = go (offset_of c os i) refl
       where
-        go : Dec (offset_of c os i ≡ value_at c i) → offset_of c os i ≡ value_at c i
-        go (yes v) = v
-        go (no v) = absurd (false≢true (sym e ∙ sym (kind-differs true n v (sym (lt-ltb (kind_at c i) 2 k)))))
+        go : (o : Option ℕ) → offset_of c os i ≡ o → offset_of c os i ≡ Some (value_at c i)
+        go None f = absurd (n f)
+        go (Some o) f =
+            let z : (not (eqb o (value_at c i)) && ltb (kind_at c i) 2) ≡ false = rw f at e in
+            f ∙ ap Some (same (ℕ_discrete o (value_at c i)) z)
+          where
+            same : Dec (o ≡ value_at c i) → (not (eqb o (value_at c i)) && ltb (kind_at c i) 2) ≡ false → o ≡ value_at c i
+            same (yes y) z = y
+            same (no y) z = absurd (false≢true (sym z ∙ rw (ne_eqb o (value_at c i) y, lt-ltb (kind_at c i) 2 k)))
 
   -- THE TEST OF ROWS, those before `row` passed over
-  module _ (os : List ℕ) (from past : ℕ) where
+  module _ (os : List (Option ℕ)) (from past : ℕ) where
     abbrev pub Agreeing : ℕ → Type 0
     Agreeing row = (from ≤ row) × (row ≤ past) × (some_from (differs c os) from (past - from) ≡ some_from (differs c os) row (past - row))
 
@@ -142,16 +145,17 @@ module _ (c : List ℕ) where
       agreeing-end h = let e : past - row ≡ 0 = omega arith in sym (w.2 ∙ ap (some_from (differs c os) row) e)
 
   -- WHERE NONE DIFFERS, no two collide
-  module _ (f l from past : ℕ) (os : List ℕ) (w : StoredAt c from past os) (none : false ≡ some_from (differs c os) from (past - from)) where
+  module _ (f l from past : ℕ) (os : List (Option ℕ)) (w : StoredAt c from past os) (none : false ≡ some_from (differs c os) from (past - from)) where
     agrees : (i : ℕ) → from ≤ i → i < past → differs c os i ≡ false
     agrees i a b = not-true (differs c os i) (λ e. false≢true (none ∙ is_some (differs c os) (past - from) from i a (omega arith) e))
 
     -- a destination, and any reference to its array
     one-offset : (i j : ℕ) → from ≤ i → i < past → from ≤ j → j < past → kind_at c i ≡ 1 → kind_at c j < 2 → array_at c i ≡ array_at c j → value_at c i ≡ value_at c j
     one-offset i j a b d e k m q =
-        let o : offset_of c os i ≡ offset_of c os j = ap (λ (n : ℕ). get_or os n 0) q in
+        let o : offset_of c os i ≡ offset_of c os j = ap (λ (n : ℕ). get_or os n None) q in
         let n = w.some i a b k in
-        sym (agreed os i (agrees i a b) (omega arith) n) ∙ o ∙ agreed os j (agrees j d e) m (λ z. n (o ∙ z))
+        let z : Some (value_at c i) ≡ Some (value_at c j) = sym (agreed os i (agrees i a b) (omega arith) n) ∙ o ∙ agreed os j (agrees j d e) m (λ z. n (o ∙ z)) in
+        cc
 
     rows_apart : (i j : ℕ) → from ≤ i → i < past → from ≤ j → j < past → kind_at c i < 2 → kind_at c j < 2
         → collides f l (ref_in c 0 i) (ref_in c 0 j) ≡ false

@@ -1,9 +1,21 @@
 -- What the code of ground 9 asks of a loop's rows.
 use Rattle.std.specs.Prelude.{ℕ, ◌+◌, ◌≤◌, ◌<◌, ◌≡◌, ◌⊎◌, Bool, false, not, cond, ◌&&◌, List, Option, None, Some, eqb, ltb, length, get_or, set}
 use Rattle.model.specs.declared.Reference.{Reference}
-use Rattle.reader.specs.Store.{kind_at, array_at, value_at}
+use Rattle.reader.specs.Store.{first_at, last_at, start_at, kind_at, array_at, value_at}
+use Rattle.reader.specs.Stored.{Row}
 use Rattle.reader.specs.Rows.{ref_in, row_refs, refs_in}
+use Rattle.serial.specs.declared.LoopRows.{LoopRows}
 use Rattle.serial.specs.Serial.{pair, collides, pair_hit}
+
+-- the rows of loop k
+abbrev pub rows_of : List ℕ → ℕ → LoopRows
+rows_of c k = record { from = start_at c k; past = start_at c (k + 1); first = first_at c k; last = last_at c k }
+
+-- what is known of a loop's rows: there is one, they end before the last row, and each is in order
+pub record Known (c : List ℕ) (rows : LoopRows) : Type 0 where
+  pub some : rows.from < rows.past
+  pub few : rows.past ≤ 576
+  pub each : (r : ℕ) → r < rows.past → Row c r
 
 module _ (c : List ℕ) (f l : ℕ) where
   -- x and the reference of row r, if it has one
@@ -29,21 +41,25 @@ module _ (c : List ℕ) (f l : ℕ) where
   PartnerOrDestination row past (Some o) = Behind row past o × OnlyReads row o × ((kind_at c o ≡ 1 → ⊥) → Partner row past (Some o))
 
 module _ (c : List ℕ) where
-  -- for each array an offset at which it is stored, 511 where it is not: a destination's row sets that of its array
-  unfoldable pub with_offset : ℕ → List ℕ → List ℕ
-  with_offset row os = cond (eqb (kind_at c row) 1) (set os (array_at c row) (value_at c row)) os
+  -- for each array an offset at which it is stored, if it is: a destination's row sets that of its array
+  unfoldable pub with_offset : ℕ → List (Option ℕ) → List (Option ℕ)
+  with_offset row os = cond (eqb (kind_at c row) 1) (set os (array_at c row) (Some (value_at c row))) os
 
   -- the offset that row i's array has there
-  abbrev pub offset_of : List ℕ → ℕ → ℕ
-  offset_of os i = get_or os (array_at c i) 0
+  abbrev pub offset_of : List (Option ℕ) → ℕ → Option ℕ
+  offset_of os i = get_or os (array_at c i) None
 
   -- these are such offsets of the rows from `from` up to `past`
-  pub record StoredAt (from past : ℕ) (os : List ℕ) : Type 0 where
+  pub record StoredAt (from past : ℕ) (os : List (Option ℕ)) : Type 0 where
     pub long : length os ≡ 16
-    pub some : (i : ℕ) → from ≤ i → i < past → kind_at c i ≡ 1 → offset_of os i ≡ 511 → ⊥
-    pub only : (q : ℕ) → q < 16 → (get_or os q 0 ≡ 511)
-        ⊎ ((i : ℕ) × (from ≤ i) × (i < past) × (kind_at c i ≡ 1) × (array_at c i ≡ q) × (value_at c i ≡ get_or os q 0))
+    pub some : (i : ℕ) → from ≤ i → i < past → kind_at c i ≡ 1 → offset_of os i ≡ None → ⊥
+    pub only : (q : ℕ) → q < 16 → (get_or os q None ≡ None)
+        ⊎ ((i : ℕ) × (from ≤ i) × (i < past) × (kind_at c i ≡ 1) × (array_at c i ≡ q) × (Some (value_at c i) ≡ get_or os q None))
 
   -- row i is a reference to an array that is stored, at another offset
-  unfoldable pub differs : List ℕ → ℕ → Bool
-  differs os i = not (eqb (offset_of os i) 511) && (not (eqb (offset_of os i) (value_at c i)) && ltb (kind_at c i) 2)
+  abbrev pub other_than : ℕ → Option ℕ → Bool
+  other_than v None = false
+  other_than v (Some o) = not (eqb o v)
+
+  unfoldable pub differs : List (Option ℕ) → ℕ → Bool
+  differs os i = other_than (value_at c i) (offset_of os i) && ltb (kind_at c i) 2

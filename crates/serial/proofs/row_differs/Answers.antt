@@ -1,24 +1,23 @@
-use Prim.Native.Nat.{ℕ}
 use mathlib.Core.Path.{sym, ap, ◌∙◌}
-use lib.ListN.{get_or}
-use borrow.Author.Tests.{eq-eqb}
-use Rattle.serial.proofs.Offsets.{none-differs, same_differs, kind-differs}
+use borrow.Author.Tests.{eq-eqb, ne_eqb}
+use Rattle.std.specs.Prelude.{Option, None, List, get_or}
+use Rattle.reader.specs.Store.{array_at}
+use Rattle.serial.proofs.Offsets.{none-differs, kind-differs}
 use Rattle.serial.proofs.row_differs.Goals as goal
-
-pub returns-then-o-eq-NONE : goal.returns-then-o-eq-NONE
-returns-then-o-eq-NONE c =
-    let a = c.args in
-    none-differs a.store.now a.offsets.now a.row (ap (λ (n : ℕ). get_or a.offsets.now n 0) (sym c.array_at.ensures) ∙ c.if-o-eq-NONE.true)
-
-pub returns-else-o-value_at : goal.returns-else-o-value_at
-returns-else-o-value_at c =
-    let a = c.args in
-    let o = ap (λ (n : ℕ). get_or a.offsets.now n 0) c.array_at.ensures in
-    rw (eq-eqb _ _ c.if-o-value_at.false) (same_differs a.store.now a.offsets.now a.row (sym o ∙ c.if-o-value_at.false ∙ c.value_at.ensures))
 
 pub returns-then-o-value_at : goal.returns-then-o-value_at
 returns-then-o-value_at c =
     let a = c.args in
-    let o = ap (λ (n : ℕ). get_or a.offsets.now n 0) c.array_at.ensures in
-    kind-differs a.store.now a.offsets.now a.row _ (λ e. c.if-o-eq-NONE.false (o ∙ e)) (λ e. c.if-o-value_at.true (o ∙ e ∙ sym c.value_at.ensures))
-    c.is_reference.ensures
+    kind-differs a.store.now a.offsets.now a.row c.in-Some.o _ (rw c.array_at.ensures at c.in-Some.is)
+    (rw (← c.value_at.ensures, ne_eqb _ _ c.if-o-value_at.true) c.is_reference.ensures)
+
+pub returns-else-o-value_at : goal.returns-else-o-value_at
+returns-else-o-value_at c =
+    let a = c.args in
+    kind-differs a.store.now a.offsets.now a.row c.in-Some.o _ (rw c.array_at.ensures at c.in-Some.is)
+    (rw (← c.value_at.ensures, eq-eqb _ _ c.if-o-value_at.false))
+
+pub returns-in-None : goal.returns-in-None
+returns-in-None c =
+    let a = c.args in
+    none-differs a.store.now a.offsets.now a.row (rw c.array_at.ensures at c.in-None.is)
