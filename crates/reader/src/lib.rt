@@ -46,12 +46,7 @@ impl RowKind {
     fn number(self) -> u32
         ensures { result ≡ kind_number self }
     {
-        match self {
-            RowKind::Read => 0,
-            RowKind::Destination => 1,
-            RowKind::Constant => 2,
-            RowKind::Operation => 3,
-        }
+        self as u32
     }
 }
 
@@ -162,14 +157,13 @@ pub fn last_destination(store: &Store, k: usize) -> usize
     ensures { LastDestination store.now k result }
 {
     let start = start_at(store, k);
-    let mut r = start_at(store, k + 1) - 1;
-    while start < r {
+    let past = start_at(store, k + 1);
+    for r in (start + 1..past).rev() {
         if is_destination(store, r) {
             return r;
         }
-        r -= 1;
     }
-    r
+    start
 }
 
 // One row more: loop k begins past it.
