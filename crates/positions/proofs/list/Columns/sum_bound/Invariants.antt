@@ -1,7 +1,7 @@
 use Rattle.std.proofs.Common.{◌≡◌, ◌<◌, ◌+◌, ◌^◌}
 use Rattle.blocks.specs.Sums.{largest}
 use Rattle.positions.specs.Code.{range_in, shift_in}
-use Rattle.positions.proofs.columns.Columns.sum_bound.Given as goal
+use Rattle.positions.proofs.list.Columns.sum_bound.Given as goal
 
 -- the walk has seen the first k loops
 abbrev pub invariant-loop-k : goal.invariant-loop-k

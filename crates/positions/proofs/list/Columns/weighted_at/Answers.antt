@@ -1,7 +1,7 @@
 use Rattle.std.proofs.Common.{◌^◌}
 use Rattle.lists.specs.Below.{weighted}
 use Rattle.positions.specs.Search.{weight-product}
-use Rattle.positions.proofs.columns.Columns.weighted_at.Goals as goal
+use Rattle.positions.proofs.list.Columns.weighted_at.Goals as goal
 
 -- a weight of at most 65,536 times a length below 2^32
 pub returns : goal.returns

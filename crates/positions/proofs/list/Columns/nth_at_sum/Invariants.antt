@@ -2,7 +2,7 @@ use Rattle.std.proofs.Common.{◌≡◌, ◌+◌, length}
 use Rattle.order.specs.Sequences.{joined}
 use Rattle.lists.specs.Lists.{here}
 use Rattle.positions.specs.Code.{range_in, shift_in}
-use Rattle.positions.proofs.columns.Columns.nth_at_sum.Given as goal
+use Rattle.positions.proofs.list.Columns.nth_at_sum.Given as goal
 
 -- of the n that come first, the first k loops have all but `left`
 abbrev pub invariant-loop-k : goal.invariant-loop-k

@@ -2,7 +2,7 @@ use Rattle.std.proofs.Common.{◌∙◌, arith}
 use Rattle.blocks.specs.SumLaws.{total-next}
 use Rattle.positions.specs.Search.{below_all}
 use Rattle.positions.specs.Code.{loops_in, range_in, shift_in, weight_in, weighted_in}
-use Rattle.positions.proofs.columns.Columns.below_sum.Goals as goal
+use Rattle.positions.proofs.list.Columns.below_sum.Goals as goal
 
 pub loop-k-preserved : goal.loop-k-preserved
 loop-k-preserved c =

@@ -1,7 +1,7 @@
 use Rattle.std.proofs.Common.{◌≡◌, suc, sym, arith}
 use Rattle.lists.proofs.BelowLaws.{below-zero, below-first}
 use Rattle.positions.specs.Code.{loops_in, range_in, shift_in, weight_in}
-use Rattle.positions.proofs.columns.Columns.find.Goals as goal
+use Rattle.positions.proofs.list.Columns.find.Goals as goal
 
 pub loop-s-init : goal.loop-s-init
 loop-s-init c =

@@ -1,7 +1,7 @@
 use Rattle.std.proofs.Common.{arith}
 use Rattle.positions.specs.LineLaws.{line-located}
 use Rattle.positions.specs.Code.{bound_in}
-use Rattle.positions.proofs.columns.Columns.position_of.Goals as goal
+use Rattle.positions.proofs.list.Columns.position_of.Goals as goal
 
 pub returns : goal.returns
 returns c =

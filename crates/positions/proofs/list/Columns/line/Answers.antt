@@ -1,7 +1,7 @@
 use Rattle.std.proofs.Common.{arith}
 use Rattle.positions.specs.LineLaws.{line-next, line-end}
 use Rattle.positions.specs.Code.{loops_in, range_in, shift_in, weight_in}
-use Rattle.positions.proofs.columns.Columns.line.Goals as goal
+use Rattle.positions.proofs.list.Columns.line.Goals as goal
 
 pub with-l-requires : goal.with-l-requires
 with-l-requires c =

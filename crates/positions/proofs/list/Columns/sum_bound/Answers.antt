@@ -2,7 +2,7 @@ use Rattle.std.proofs.Common.{◌+◌, ◌∙◌, refl, arith}
 use Rattle.blocks.specs.SumLaws.{largest-next}
 use Rattle.positions.specs.Search.{bound_all}
 use Rattle.positions.specs.Code.{loops_in, range_in, shift_in}
-use Rattle.positions.proofs.columns.Columns.sum_bound.Goals as goal
+use Rattle.positions.proofs.list.Columns.sum_bound.Goals as goal
 
 pub loop-k-preserved : goal.loop-k-preserved
 loop-k-preserved c =

@@ -3,7 +3,7 @@ use Rattle.lists.specs.Joined.{walk-next}
 use Rattle.lists.specs.Lists.{here}
 use Rattle.positions.specs.Search.{at-sum-fits, at-sum-here, at-sum-past}
 use Rattle.positions.specs.Code.{loops_in, range_in, shift_in}
-use Rattle.positions.proofs.columns.Columns.nth_at_sum.Goals as goal
+use Rattle.positions.proofs.list.Columns.nth_at_sum.Goals as goal
 
 pub overflow_sub-result : goal.overflow_sub-result
 overflow_sub-result c =
