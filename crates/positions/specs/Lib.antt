@@ -4,3 +4,5 @@ pub mod Search
 pub mod Lines
 -- laws of it
 pub mod LineLaws
+-- what the contracts say of the loops in columns
+pub mod Code

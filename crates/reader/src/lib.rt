@@ -162,14 +162,13 @@ pub fn last_destination(store: &Store, k: usize) -> usize
     ensures { LastDestination store.now k result }
 {
     let start = start_at(store, k);
-    let mut r = start_at(store, k + 1) - 1;
-    while start < r {
+    let past = start_at(store, k + 1);
+    for r in (start + 1..past).rev() {
         if is_destination(store, r) {
             return r;
         }
-        r -= 1;
     }
-    r
+    start
 }
 
 // One row more: loop k begins past it.

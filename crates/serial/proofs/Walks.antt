@@ -33,8 +33,9 @@ use Rattle.reader.specs.Held.{Held, count_held, few-loops, few-rows, rows-rise, 
 use Rattle.reader.specs.Rows.{ref_in, row_refs, refs_from, refs_in, LastDestination}
 use Rattle.reader.specs.RowLaws.{row-reference, row-none, body-refers, refs-next, refs_end, refs-split, refs-up}
 use Rattle.std.specs.Prelude.{None, Some, Result, Ok, Err}
+use Rattle.serial.specs.declared.LoopRows.{LoopRows}
 use Rattle.serial.specs.Serial.{Collision, pair, collides, hit, or_else, pair_hit, loop_hit, after_loop, serial_from, through, table}
-use Rattle.serial.specs.Rows.{collides_row, Partner, PartnerOrDestination}
+use Rattle.serial.specs.Rows.{rows_of, Known, collides_row, Partner, PartnerOrDestination}
 
 -- A PAIR: of two arrays, at one offset, of two reads it does not collide; else its iterations decide
 module _ (f l : ℕ) (r q : Reference) where
@@ -276,8 +277,12 @@ module _ (c : List ℕ) (h : Held c) where
   pub rows-known : (k : ℕ) → k < count (table_in c) → (k < 16) × (start_at c k < start_at c (k + 1)) × (start_at c (k + 1) ≤ 576)
   rows-known k m = (omega (arith, count_held h, few-loops h), rw (add-one k) (rows-rise h k m), rw (add-one k) (few-rows h (suc k) m))
 
-  pub row-known : (k : ℕ) → k < count (table_in c) → (r : ℕ) → r < start_at c (k + 1) → Row c r
-  row-known k m r l = row-held h (suc k) r m (rw (add-one k) at l)
+  pub known : (k : ℕ) → k < count (table_in c) → Known c (rows_of c k)
+  known k m = record {
+    some = (rows-known k m).1;
+    few = (rows-known k m).2;
+    each = λ r l. row-held h (suc k) r m (rw (add-one k) at l);
+  }
 
   -- the test of loop k is that of its rows
   pub loop-rows : (k : ℕ) → k < count (table_in c) → pair_hit (first_at c k) (last_at c k) (refs_in c 0 (start_at c k) (start_at c (k + 1))) 0 ≡ loop_hit (loop_at c k)
@@ -288,32 +293,33 @@ module _ (c : List ℕ) (h : Held c) where
       (sym (body-refers c 0 (start_at c k) (start_at c (suc k) - start_at c k) (omega (arith, rows-rise h k m)) (opening-held h k m))))
 
   -- what the code has of loop k: its bounds, and where its rows begin and end
-  module _ (k : ℕ) (m : k < count (table_in c)) (first last from past : ℕ) (first-is : first ≡ first_at c k) (last-is : last ≡ last_at c k)
-      (from_is : from ≡ start_at c k) (past_is : past ≡ start_at c (k + 1)) where
-    all-rows : pair_hit first last (refs_in c 0 from past) 0 ≡ loop_hit (loop_at c k)
-    all-rows = rw (first-is, last-is, from_is, past_is) (loop-rows k m)
+  module _ (k : ℕ) (m : k < count (table_in c)) (rows : LoopRows) (is : rows ≡ rows_of c k) where
+    all-rows : pair_hit rows.first rows.last (refs_in c 0 rows.from rows.past) 0 ≡ loop_hit (loop_at c k)
+    all-rows = rw is (loop-rows k m)
 
-    pub loop-found : (row other a b : ℕ) → Lower c first last from past row → Partner c first last row past (Some other)
-        → a ≡ length (refs_in c 0 from row) → b ≡ length (refs_in c 0 from other) → pair a b ≡ loop_hit (loop_at c k)
-    loop-found row other a b w p a-is b-is = rw (a-is, b-is) (lower-found c first last from past row w other p ∙ all-rows)
+    pub loop-found : (row other a b : ℕ) → Lower c rows.first rows.last rows.from rows.past row → Partner c rows.first rows.last row rows.past (Some other)
+        → a ≡ length (refs_in c 0 rows.from row) → b ≡ length (refs_in c 0 rows.from other) → pair a b ≡ loop_hit (loop_at c k)
+    loop-found row other a b w p a-is b-is = rw (a-is, b-is) (lower-found c rows.first rows.last rows.from rows.past row w other p ∙ all-rows)
 
-    pub loop-nothing : (row end : ℕ) → Lower c first last from past row → LastDestination c k end → end < row → None ≡ loop_hit (loop_at c k)
+    pub loop-nothing : (row end : ℕ) → Lower c rows.first rows.last rows.from rows.past row → LastDestination c k end → end < row → None ≡ loop_hit (loop_at c k)
     loop-nothing row end w d h =
         let e = ap (start_at c) (add-one k) in
-        lower-end c first last from past row w (λ i a z. d.none i (omega arith) (omega arith)) ∙ all-rows
+        let p = ap (λ (x : LoopRows). x.past) is in
+        lower-end c rows.first rows.last rows.from rows.past row w (λ i a z. d.none i (omega arith) (omega arith)) ∙ all-rows
 
-    pub loop-apart : pair_hit first last (refs_in c 0 from past) 0 ≡ None → None ≡ loop_hit (loop_at c k)
+    pub loop-apart : pair_hit rows.first rows.last (refs_in c 0 rows.from rows.past) 0 ≡ None → None ≡ loop_hit (loop_at c k)
     loop-apart e = sym e ∙ all-rows
 
-    pub loop-alone : PartnerOrDestination c first last from past None → None ≡ loop_hit (loop_at c k)
+    pub loop-alone : PartnerOrDestination c rows.first rows.last rows.from rows.past None → None ≡ loop_hit (loop_at c k)
     loop-alone (reads, p) =
-        let one = lower-next c first last from past from (lower-start c first last from past) p in
-        lower-end c first last from past (from + 1) one (λ i a z. reads i (omega arith) z) ∙ all-rows
+        let one = lower-next c rows.first rows.last rows.from rows.past rows.from (lower-start c rows.first rows.last rows.from rows.past) p in
+        lower-end c rows.first rows.last rows.from rows.past (rows.from + 1) one (λ i a z. reads i (omega arith) z) ∙ all-rows
 
-    pub loop-first : (other b : ℕ) → PartnerOrDestination c first last from past (Some other) → (kind_at c other ≡ 1 → ⊥)
-        → b ≡ length (refs_in c 0 from other) → pair 0 b ≡ loop_hit (loop_at c k)
+    pub loop-first : (other b : ℕ) → PartnerOrDestination c rows.first rows.last rows.from rows.past (Some other) → (kind_at c other ≡ 1 → ⊥)
+        → b ≡ length (refs_in c 0 rows.from other) → pair 0 b ≡ loop_hit (loop_at c k)
     loop-first other b (_, _, p) n b-is =
-        loop-found from other 0 b (lower-start c first last from past) (p n) (sym (ap length (refs_end c 0 from from (omega arith)))) b-is
+        loop-found rows.from other 0 b (lower-start c rows.first rows.last rows.from rows.past) (p n)
+        (sym (ap length (refs_end c 0 rows.from rows.from (omega arith)))) b-is
 
   module _ (l : ℕ) where
     pub loops-start : l ≡ loops_in c → LoopInv c l 0

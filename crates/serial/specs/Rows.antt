@@ -1,9 +1,21 @@
 -- What the code of ground 9 asks of a loop's rows.
 use Rattle.std.specs.Prelude.{ℕ, ◌+◌, ◌≤◌, ◌<◌, ◌≡◌, ◌⊎◌, Bool, false, not, cond, ◌&&◌, List, Option, None, Some, eqb, ltb, length, get_or, set}
 use Rattle.model.specs.declared.Reference.{Reference}
-use Rattle.reader.specs.Store.{kind_at, array_at, value_at}
+use Rattle.reader.specs.Store.{first_at, last_at, start_at, kind_at, array_at, value_at}
+use Rattle.reader.specs.Stored.{Row}
 use Rattle.reader.specs.Rows.{ref_in, row_refs, refs_in}
+use Rattle.serial.specs.declared.LoopRows.{LoopRows}
 use Rattle.serial.specs.Serial.{pair, collides, pair_hit}
+
+-- the rows of loop k
+abbrev pub rows_of : List ℕ → ℕ → LoopRows
+rows_of c k = record { from = start_at c k; past = start_at c (k + 1); first = first_at c k; last = last_at c k }
+
+-- what is known of a loop's rows: there is one, they end before the last row, and each is in order
+pub record Known (c : List ℕ) (rows : LoopRows) : Type 0 where
+  pub some : rows.from < rows.past
+  pub few : rows.past ≤ 576
+  pub each : (r : ℕ) → r < rows.past → Row c r
 
 module _ (c : List ℕ) (f l : ℕ) where
   -- x and the reference of row r, if it has one

@@ -11,17 +11,40 @@ ghost use Rattle.reader.specs.Rows.{refs_in};
 ghost use Rattle.reader.specs.Held.{Held};
 ghost use Rattle.reader.specs.ReadInto.{ReadInto};
 ghost use Rattle.serial.specs.Serial.{collides, loop_hit, through, table};
-ghost use Rattle.serial.specs.Rows.{collides_row, Partner, PartnerOrDestination, StoredAt, with_offset, differs};
+ghost use Rattle.serial.specs.Rows.{rows_of, Known, collides_row, Partner, PartnerOrDestination, StoredAt, with_offset, differs};
 
 use model::Reference;
 use overlap::overlaps;
 use records::{STORE, Store};
 use refusals::{Ground, Refusal};
 
-// Two references of a loop from first to last.
-fn collide(first: u32, last: u32, x: Reference, y: Reference) -> bool
+// The rows of a loop, from `from` up to `past`, and its bounds.
+#[derive(Clone, Copy)]
+struct LoopRows {
+    from: usize,
+    past: usize,
+    first: u32,
+    last: u32,
+}
+
+// Those of loop k.
+fn rows_of(store: &Store, k: usize) -> LoopRows
+    requires { Held store.now × (k < count (table_in store.now)) }
+    ensures is { result ≡ rows_of store.now k }
+    ensures known { Known store.now result }
+{
+    LoopRows {
+        from: reader::start_at(store, k),
+        past: reader::start_at(store, k + 1),
+        first: reader::first_at(store, k),
+        last: reader::last_at(store, k),
+    }
+}
+
+// Two references of a loop.
+fn collide(rows: LoopRows, x: Reference, y: Reference) -> bool
     requires { (x.offset < 65536) × (y.offset < 65536) }
-    ensures { result ≡ collides first last x y }
+    ensures { result ≡ collides rows.first rows.last x y }
 {
     if x.array != y.array {
         return false;
@@ -30,17 +53,17 @@ fn collide(first: u32, last: u32, x: Reference, y: Reference) -> bool
         return false;
     }
     if x.stores || y.stores {
-        let f = first as usize;
-        let l = last as usize;
+        let f = rows.first as usize;
+        let l = rows.last as usize;
         return overlaps(f, l, x.offset, f, l, y.offset);
     }
     false
 }
 
 // A reference x and the row `row` of one loop: most rows are told by their array alone.
-fn row_collides(store: &Store, x: Reference, row: usize, first: u32, last: u32) -> bool
+fn row_collides(store: &Store, rows: LoopRows, x: Reference, row: usize) -> bool
     requires { (row < 576) × Row store.now row × (x.offset < 65536) }
-    ensures { result ≡ collides_row store.now first last x row }
+    ensures { result ≡ collides_row store.now rows.first rows.last x row }
 {
     if reader::array_at(store, row) as usize != x.array {
         return false;
@@ -49,20 +72,20 @@ fn row_collides(store: &Store, x: Reference, row: usize, first: u32, last: u32) 
         return false;
     }
     let y = reader::reference_at(store, 0, row);
-    collide(first, last, x, y)
+    collide(rows, x, y)
 }
 
-// The first row behind `row`, up to `past`, whose reference collides with that of `row`, if `row` has a reference.
-fn partner(store: &Store, row: usize, past: usize, first: u32, last: u32) -> Option<usize>
-    requires { (row < past) × (past ≤ 576) × ((r : ℕ) → r < past → Row store.now r) }
-    ensures { Partner store.now first last row past result }
+// The first row of a loop behind `row` whose reference collides with that of `row`, if `row` has a reference.
+fn partner(store: &Store, rows: LoopRows, row: usize) -> Option<usize>
+    requires { Known store.now rows × (row < rows.past) }
+    ensures { Partner store.now rows.first rows.last row rows.past result }
 {
     if !reader::is_reference(store, row) {
         return None;
     }
     let x = reader::reference_at(store, 0, row);
-    for other in row + 1..past {
-        if row_collides(store, x, other, first, last) {
+    for other in row + 1..rows.past {
+        if row_collides(store, rows, x, other) {
             return Some(other);
         }
     }
@@ -83,23 +106,17 @@ fn references_in(store: &Store, from: usize, past: usize) -> usize
     n
 }
 
-// The first row behind `row`, which is a destination's, up to `past` that is a destination's too or collides with it.
-fn partner_or_destination(
-    store: &Store,
-    row: usize,
-    past: usize,
-    first: u32,
-    last: u32,
-) -> Option<usize>
-    requires { (row < past) × (past ≤ 576) × ((r : ℕ) → r < past → Row store.now r) × (kind_at store.now row ≡ 1) }
-    ensures { PartnerOrDestination store.now first last row past result }
+// The first row of a loop, behind its first, that is a destination's as that is, or collides with it.
+fn partner_or_destination(store: &Store, rows: LoopRows) -> Option<usize>
+    requires { Known store.now rows × (kind_at store.now rows.from ≡ 1) }
+    ensures { PartnerOrDestination store.now rows.first rows.last rows.from rows.past result }
 {
-    let x = reader::reference_at(store, 0, row);
-    for other in row + 1..past {
+    let x = reader::reference_at(store, 0, rows.from);
+    for other in rows.from + 1..rows.past {
         if reader::is_destination(store, other) {
             return Some(other);
         }
-        if row_collides(store, x, other, first, last) {
+        if row_collides(store, rows, x, other) {
             return Some(other);
         }
     }
@@ -120,7 +137,7 @@ fn put_offset(store: &Store, row: usize, offsets: &mut [Option<u32>; 16])
 
 // For each array an offset at which one of the rows from `from` up to `past` stores it, if one of them does.
 fn stored_offsets(store: &Store, from: usize, past: usize) -> [Option<u32>; 16]
-    requires { (from ≤ past) × (past ≤ 576) × ((r : ℕ) → r < past → Row store.now r) }
+    requires { (from ≤ past) × (past ≤ 576) }
     ensures { StoredAt store.now from past result }
 {
     let mut offsets = [None; 16];
@@ -161,15 +178,12 @@ fn first_pair(k: usize, store: &Store) -> Option<(usize, usize)>
     requires { Held store.now × (k < count (table_in store.now)) }
     ensures { result ≡ loop_hit (loop_at store.now k) }
 {
-    let from = reader::start_at(store, k);
-    let past = reader::start_at(store, k + 1);
-    let first = reader::first_at(store, k);
-    let last = reader::last_at(store, k);
+    let rows = rows_of(store, k);
     let end = reader::last_destination(store, k);
-    for row in from..end + 1 {
-        if let Some(other) = partner(store, row, past, first, last) {
-            let lower = references_in(store, from, row);
-            let higher = references_in(store, from, other);
+    for row in rows.from..end + 1 {
+        if let Some(other) = partner(store, rows, row) {
+            let lower = references_in(store, rows.from, row);
+            let higher = references_in(store, rows.from, other);
             return Some((lower, higher));
         }
     }
@@ -182,10 +196,9 @@ fn several_hit(k: usize, store: &Store) -> Option<(usize, usize)>
     requires { Held store.now × (k < count (table_in store.now)) }
     ensures { result ≡ loop_hit (loop_at store.now k) }
 {
-    let from = reader::start_at(store, k);
-    let past = reader::start_at(store, k + 1);
-    let offsets = stored_offsets(store, from, past);
-    if some_differs(store, &offsets, from, past) {
+    let rows = rows_of(store, k);
+    let offsets = stored_offsets(store, rows.from, rows.past);
+    if some_differs(store, &offsets, rows.from, rows.past) {
         return first_pair(k, store);
     }
     None
@@ -196,15 +209,12 @@ fn loop_hit(k: usize, store: &Store) -> Option<(usize, usize)>
     requires { Held store.now × (k < count (table_in store.now)) }
     ensures { result ≡ loop_hit (loop_at store.now k) }
 {
-    let from = reader::start_at(store, k);
-    let past = reader::start_at(store, k + 1);
-    let first = reader::first_at(store, k);
-    let last = reader::last_at(store, k);
-    let other = partner_or_destination(store, from, past, first, last)?;
+    let rows = rows_of(store, k);
+    let other = partner_or_destination(store, rows)?;
     if reader::is_destination(store, other) {
         return several_hit(k, store);
     }
-    Some((0, references_in(store, from, other)))
+    Some((0, references_in(store, rows.from, other)))
 }
 
 // The loops of a table in a store, from the first on: 9 carries the lowest that collides, and names its first pair that does.

@@ -1,21 +1,14 @@
-use mathlib.Core.Path.{sym, ap}
-use native.Mathlib.Omega.{arith}
-use lib.ListN.{length}
+use Rattle.std.proofs.Common.{length, sym, ap, arith}
 use Rattle.lists.proofs.Order.{loop-at-in, loop-at-early, loop-at-late}
 use Rattle.positions.proofs.held.Goals as goal
+use Rattle.positions.proofs.held.Goals.{else-from-t-via-then-from-t+else-t-past, else-from-t-via-else-from-t}
 
--- `positions::held` meets its contract. Assumes nothing.
-pub returns-then-t-wide : goal.returns-then-t-wide
-returns-then-t-wide c =
-    λ k. let a = c.args in sym
-    (ap length (loop-at-in (record { from = a.f; past = a.p }) a.s a.t k (omega arith) (omega arith)))
+pub returns-then-t-past : goal.returns-then-t-past
+returns-then-t-past c = λ k. sym (ap length (loop-at-in c.args.r c.args.shift c.args.t k (omega arith) (omega arith)))
 
-pub returns-else-t-wide : goal.returns-else-t-wide
-returns-else-t-wide c =
-    λ k. let a = c.args in sym
-    (ap length (loop-at-late (record { from = a.f; past = a.p }) a.s a.t k (omega arith)))
-
-pub returns-else-wide-t : goal.returns-else-wide-t
-returns-else-wide-t c =
-    λ k. let a = c.args in sym
-    (ap length (loop-at-early (record { from = a.f; past = a.p }) a.s a.t k (omega arith)))
+pub returns-else-from-t : goal.returns-else-from-t
+returns-else-from-t c =
+    elim c.else-from-t.branch [
+      | else-from-t-via-then-from-t+else-t-past w ↦ λ k. sym (ap length (loop-at-late c.args.r c.args.shift c.args.t k (omega arith)))
+      | else-from-t-via-else-from-t w ↦ λ k. sym (ap length (loop-at-early c.args.r c.args.shift c.args.t k (omega arith)))
+    ]

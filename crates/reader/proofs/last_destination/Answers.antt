@@ -1,8 +1,8 @@
 use native.Mathlib.Omega.{arith}
-use mathlib.Core.Path.{sym, ap, ◌∙◌}
-use native.Mathlib.Numerals.{add-one}
+use mathlib.Core.Path.{◌≡◌, sym, subst}
+use Prim.Native.Nat.{◌-◌}
 use borrow.Author.Tests.{eqb-true, eqb-false}
-use Rattle.reader.specs.Store.{start_at}
+use Rattle.reader.specs.Rows.{LastDestination}
 use Rattle.reader.specs.Held.{count_held, few-loops, rows-rise}
 use Rattle.reader.specs.RowLaws.{behind-last, behind-few, behind-before, last_found, first_found}
 use Rattle.reader.proofs.last_destination.Goals as goal
@@ -13,34 +13,32 @@ start_at-start-requires c = omega (arith, count_held c.requires.0, few-loops c.r
 pub overflow_add-k : goal.overflow_add-k
 overflow_add-k c = let p = c.requires in omega (arith, count_held p.0, few-loops p.0, p.1)
 
-pub start_at-r-requires : goal.start_at-r-requires
-start_at-r-requires c = let p = c.requires in omega (arith, count_held p.0, few-loops p.0, p.1)
-
-pub overflow_sub-r : goal.overflow_sub-r
-overflow_sub-r c =
-    omega (arith, rows-rise c.requires.0 c.args.k c.requires.1, c.start_at-r.ensures, ap (start_at c.args.store.now) (add-one c.args.k))
+pub start_at-past-requires : goal.start_at-past-requires
+start_at-past-requires c = let p = c.requires in omega (arith, count_held p.0, few-loops p.0, p.1)
 
 pub loop-r-init : goal.loop-r-init
 loop-r-init c =
-    behind-last c.requires.0 c.args.k c.requires.1 c.start_at-r.result c.start_at-r.ensures
+    behind-last c.requires.0 c.args.k c.requires.1 c.start_at-past.result c.start_at-past.ensures
 
 pub is_destination-requires : goal.is_destination-requires
 is_destination-requires c =
     let l = c.loop-r in
-    behind-few c.requires.0 c.args.k c.requires.1 l.r l.invariant
+    behind-few c.requires.0 c.args.k c.requires.1 (l.r - 1) l.invariant
 
 pub loop-r-preserved : goal.loop-r-preserved
 loop-r-preserved c =
     let l = c.loop-r in
-    behind-before c.args.store.now c.args.k l.r l.invariant
-    (omega (arith, c.start_at-start.ensures, c.loop-r-test.true)) (eqb-false _ _ (sym c.is_destination.ensures ∙ c.if-is_destination.false))
+    behind-before c.args.store.now c.args.k (l.r - 1) l.invariant
+    (omega (arith, c.start_at-start.ensures, c.loop-r-test.true)) (eqb-false _ _ (sym c.if-is_destination.ensures))
 
 pub returns-then-is_destination : goal.returns-then-is_destination
 returns-then-is_destination c =
     let l = c.loop-r in
-    last_found c.args.store.now c.args.k l.r l.invariant (eqb-true _ _ (sym c.is_destination.ensures ∙ c.if-is_destination.true))
+    last_found c.args.store.now c.args.k (l.r - 1) l.invariant (eqb-true _ _ (sym c.if-is_destination.ensures))
 
 pub returns : goal.returns
 returns c =
     let l = c.loop-r in
-    first_found c.requires.0 c.args.k c.requires.1 _ l.r c.start_at-start.ensures l.invariant (omega (arith, c.loop-r-test.false))
+    let e : l.r - 1 ≡ c.start_at-start.result = omega (arith, c.start_at-start.ensures, l.invariant.from, c.loop-r-test.false) in
+    subst (LastDestination c.args.store.now c.args.k) e
+    (first_found c.requires.0 c.args.k c.requires.1 _ (l.r - 1) c.start_at-start.ensures l.invariant (omega (arith, c.loop-r-test.false)))

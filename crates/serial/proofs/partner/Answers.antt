@@ -7,28 +7,28 @@ use Rattle.serial.proofs.Walks.{passed_start, passed-next, partner-other, partne
 use Rattle.serial.proofs.partner.Goals as goal
 
 pub is_reference-requires : goal.is_reference-requires
-is_reference-requires c = omega (arith, c.requires)
+is_reference-requires c = omega (arith, c.requires.0.few, c.requires.1)
 
 pub returns-then-not-is_reference : goal.returns-then-not-is_reference
 returns-then-not-is_reference c =
     let a = c.args in
-    partner-other a.store.now a.first a.last a.row a.past c.requires.0 (ltb-false _ _ (sym c.is_reference.ensures ∙ c.if-not-is_reference.true))
+    partner-other a.store.now a.rows.first a.rows.last a.row a.rows.past c.requires.1 (ltb-false _ _ (sym c.is_reference.ensures ∙ c.if-not-is_reference.true))
 
 pub reference_at-x-requires : goal.reference_at-x-requires
-reference_at-x-requires c = omega (arith, c.requires)
+reference_at-x-requires c = omega (arith, c.requires.0.few, c.requires.1)
 
 pub loop-other-init : goal.loop-other-init
 loop-other-init c =
     let a = c.args in
-    passed_start a.store.now a.first a.last c.reference_at-x.result (a.row + 1) a.past
+    passed_start a.store.now a.rows.first a.rows.last c.reference_at-x.result (a.row + 1) a.rows.past
 
 pub row_collides-requires : goal.row_collides-requires
 row_collides-requires c =
     let p = c.requires in
     let l = c.loop-other in
-    let small = (p.2 c.args.row p.0).offset (ltb-true _ _ (sym c.is_reference.ensures ∙ c.if-not-is_reference.false)) in (
-      omega (arith, p.1, c.loop-other-test.true),
-      p.2 l.other c.loop-other-test.true,
+    let small = (p.0.each c.args.row p.1).offset (ltb-true _ _ (sym c.is_reference.ensures ∙ c.if-not-is_reference.false)) in (
+      omega (arith, p.0.few, c.loop-other-test.true),
+      p.0.each l.other c.loop-other-test.true,
       omega (arith, small, ap (λ (x : Reference). x.offset) c.reference_at-x.ensures),
     )
 
@@ -37,19 +37,19 @@ returns-then-row_collides c =
     let a = c.args in
     let l = c.loop-other in
     let x = c.reference_at-x.ensures in
-    partner-found a.store.now a.first a.last a.row a.past c.requires.0 (ltb-true _ _ (sym c.is_reference.ensures ∙ c.if-not-is_reference.false))
+    partner-found a.store.now a.rows.first a.rows.last a.row a.rows.past c.requires.1 (ltb-true _ _ (sym c.is_reference.ensures ∙ c.if-not-is_reference.false))
     l.other (rw x at l.invariant) c.loop-other-test.true (rw x at (sym c.if-row_collides.true ∙ c.row_collides.ensures))
 
 pub loop-other-preserved : goal.loop-other-preserved
 loop-other-preserved c =
     let a = c.args in
     let l = c.loop-other in
-    passed-next a.store.now a.first a.last c.reference_at-x.result (a.row + 1) a.past l.other l.invariant
+    passed-next a.store.now a.rows.first a.rows.last c.reference_at-x.result (a.row + 1) a.rows.past l.other l.invariant
     c.loop-other-test.true (sym c.if-row_collides.false ∙ c.row_collides.ensures)
 
 pub returns : goal.returns
 returns c =
     let a = c.args in
     let l = c.loop-other in
-    partner-none a.store.now a.first a.last a.row a.past c.requires.0 (ltb-true _ _ (sym c.is_reference.ensures ∙ c.if-not-is_reference.false))
+    partner-none a.store.now a.rows.first a.rows.last a.row a.rows.past c.requires.1 (ltb-true _ _ (sym c.is_reference.ensures ∙ c.if-not-is_reference.false))
     l.other (rw c.reference_at-x.ensures at l.invariant) c.loop-other-test.false

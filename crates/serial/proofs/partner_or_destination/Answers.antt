@@ -8,22 +8,22 @@ use Rattle.serial.proofs.partner_or_destination.Goals as goal
 pub loop-other-init : goal.loop-other-init
 loop-other-init c =
     let a = c.args in
-    alone-start a.store.now a.first a.last c.reference_at-x.result a.row a.past c.requires.0
+    alone-start a.store.now a.rows.first a.rows.last c.reference_at-x.result a.rows.from a.rows.past c.requires.0.some
 
 pub returns-then-is_destination : goal.returns-then-is_destination
 returns-then-is_destination c =
     let a = c.args in
     let l = c.loop-other in
-    alone-destination a.store.now a.first a.last _ a.row a.past c.reference_at-x.ensures c.requires.0 c.requires.3 l.other l.invariant
+    alone-destination a.store.now a.rows.first a.rows.last _ a.rows.from a.rows.past c.reference_at-x.ensures c.requires.0.some c.requires.1 l.other l.invariant
     c.loop-other-test.true (eqb-true _ _ (sym c.is_destination.ensures ∙ c.if-is_destination.true))
 
 pub row_collides-requires : goal.row_collides-requires
 row_collides-requires c =
     let p = c.requires in
     let l = c.loop-other in
-    let small = (p.2 c.args.row p.0).offset (omega (arith, p.3)) in (
-      omega (arith, p.1, c.loop-other-test.true),
-      p.2 l.other c.loop-other-test.true,
+    let small = (p.0.each c.args.rows.from p.0.some).offset (omega (arith, p.1)) in (
+      omega (arith, p.0.few, c.loop-other-test.true),
+      p.0.each l.other c.loop-other-test.true,
       omega (arith, small, ap (λ (x : Reference). x.offset) c.reference_at-x.ensures),
     )
 
@@ -31,18 +31,18 @@ pub returns-then-row_collides : goal.returns-then-row_collides
 returns-then-row_collides c =
     let a = c.args in
     let l = c.loop-other in
-    alone-found a.store.now a.first a.last _ a.row a.past c.reference_at-x.ensures c.requires.0 c.requires.3 l.other l.invariant
+    alone-found a.store.now a.rows.first a.rows.last _ a.rows.from a.rows.past c.reference_at-x.ensures c.requires.0.some c.requires.1 l.other l.invariant
     c.loop-other-test.true (sym c.if-row_collides.true ∙ c.row_collides.ensures)
 
 pub loop-other-preserved : goal.loop-other-preserved
 loop-other-preserved c =
     let a = c.args in
     let l = c.loop-other in
-    alone-next a.store.now a.first a.last c.reference_at-x.result a.row a.past l.other l.invariant
+    alone-next a.store.now a.rows.first a.rows.last c.reference_at-x.result a.rows.from a.rows.past l.other l.invariant
     c.loop-other-test.true (eqb-false _ _ (sym c.is_destination.ensures ∙ c.if-is_destination.false)) (sym c.if-row_collides.false ∙ c.row_collides.ensures)
 
 pub returns : goal.returns
 returns c =
     let a = c.args in
     let l = c.loop-other in
-    alone-end a.store.now a.first a.last _ a.row a.past c.reference_at-x.ensures c.requires.0 c.requires.3 l.other l.invariant c.loop-other-test.false
+    alone-end a.store.now a.rows.first a.rows.last _ a.rows.from a.rows.past c.reference_at-x.ensures c.requires.0.some c.requires.1 l.other l.invariant c.loop-other-test.false

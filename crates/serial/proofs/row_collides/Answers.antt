@@ -8,13 +8,13 @@ use Rattle.serial.proofs.row_collides.Goals as goal
 pub returns-then-array_at-x : goal.returns-then-array_at-x
 returns-then-array_at-x c =
     let a = c.args in
-    row_apart a.store.now a.first a.last a.x a.row
+    row_apart a.store.now a.rows.first a.rows.last a.x a.row
     (λ e. c.if-array_at-x.true (c.array_at.ensures ∙ e))
 
 pub returns-then-not-is_reference : goal.returns-then-not-is_reference
 returns-then-not-is_reference c =
     let a = c.args in
-    row_other a.store.now a.first a.last a.x a.row (ltb-false _ _ (sym c.is_reference.ensures ∙ c.if-not-is_reference.true))
+    row_other a.store.now a.rows.first a.rows.last a.x a.row (ltb-false _ _ (sym c.is_reference.ensures ∙ c.if-not-is_reference.true))
 
 pub collide-requires : goal.collide-requires
 collide-requires c =
@@ -25,5 +25,5 @@ collide-requires c =
 pub returns : goal.returns
 returns c =
     let a = c.args in
-    row-reference-is a.store.now a.first a.last a.x a.row _ (ltb-true _ _ (sym c.is_reference.ensures ∙ c.if-not-is_reference.false))
+    row-reference-is a.store.now a.rows.first a.rows.last a.x a.row _ (ltb-true _ _ (sym c.is_reference.ensures ∙ c.if-not-is_reference.false))
     (rw c.reference_at-y.ensures at c.collide.ensures)
