@@ -13,12 +13,12 @@ use borrow.Rule.Slice.PartMut.{put_mid}
 use Rattle.joins.specs.Joining.{alike}
 
 -- LENGTHS: the library compares two lists as the definition does
-pub pointwise-alike : (xs ys : List ℕ) → pointwise eqb xs ys ≡ alike xs ys
+pub pointwise_alike : (xs ys : List ℕ) → pointwise eqb xs ys ≡ alike xs ys
 unfolding alike
-pointwise-alike [] [] = refl
-pointwise-alike [] (y ∷ ys) = refl
-pointwise-alike (x ∷ xs) [] = refl
-pointwise-alike (x ∷ xs) (y ∷ ys) = ap (λ (b : Bool). eqb x y && b) (pointwise-alike xs ys)
+pointwise_alike [] [] = refl
+pointwise_alike [] (y ∷ ys) = refl
+pointwise_alike (x ∷ xs) [] = refl
+pointwise_alike (x ∷ xs) (y ∷ ys) = ap (λ (b : Bool). eqb x y && b) (pointwise_alike xs ys)
 
 -- COPIES, byte by byte (the code copies slices whole): so far k bytes of `from` stand in `to` from `at` on
 module _ (from before : List ℕ) (at : ℕ) where

@@ -15,6 +15,7 @@ use refusals::{Ground, Refusal};
 const MOST_LOOPS: usize = 16;
 
 // Whether the arrays of the one are as many, and as long, as those of the other.
+#[tactic(auto, using(crate::proofs::Walks::pointwise_alike))]
 fn same_lengths(ours: &Store, theirs: &Store) -> bool
     requires { Held ours.now × Held theirs.now }
     ensures { result ≡ alike (table_in ours.now).lengths (table_in theirs.now).lengths }
