@@ -1,14 +1,14 @@
 -- Where the arrays begin, one after the other; and the statements in the rows, one after the other.
-use Prim.Native.Nat.{ℕ, zero, suc, ◌+◌, ◌-◌, ◌≤◌, ◌<◌}
+use Prim.Native.Nat.{ℕ, suc, ◌+◌, ◌-◌, ◌≤◌, ◌<◌}
 use native.Mathlib.Omega.{arith}
 use native.Mathlib.Decide.{ℕ_discrete}
 use native.Mathlib.Numerals.{add-one}
-use mathlib.Core.Path.{◌≡◌, refl, sym, ◌∙◌}
+use mathlib.Core.Path.{◌≡◌, refl, ◌∙◌}
 use mathlib.Core.List.{List, [], ◌∷◌}
 use mathlib.Core.List.Memᴰ.{head as mhere}
 use mathlib.Core.List.Memᴰ.{tail as mthere}
 use borrow.Author.Tests.{eq-eqb}
-use lib.ListN.{length, get_or, set, take, length-set}
+use lib.ListN.{length, get_or, set, length-set}
 use lib.Seq.{get_or-set_same, get_or-set_other}
 use lib.Ieee.{Float}
 use borrow.Rule.Slice.PartMut.{mid_of, put_mid, mid_len, set_mid_at}
@@ -19,17 +19,10 @@ use Rattle.reader.specs.Store.{kind_at, statement_at, body_from, statements_from
 use Rattle.grounds.specs.Statements.{sum}
 use Rattle.bodies.specs.Workable.{Based}
 use Rattle.bodies.specs.Stopped.{Opens, Stopped}
-use Rattle.iterations.specs.LoadedLaws.{begins-none, begins-next, begins-most}
+use Rattle.iterations.specs.LoadedLaws.{begins-next, begins-most}
 use Rattle.iterations.specs.Runnable.{Performable, Runnable}
 
 -- WHERE ARRAYS BEGIN
--- no length past the last of those taken
-pub untaken : (n : ℕ) (l : List ℕ) (k : ℕ) → n ≤ k → 0 ≡ get_or (take n l) k 0
-untaken zero l k h = refl
-untaken (suc n) [] k h = refl
-untaken (suc n) (x ∷ l) zero h = absurd (omega arith)
-untaken (suc n) (x ∷ l) (suc k) h = untaken n l k (omega arith)
-
 -- the entries up to k are filled, and the next array begins at `next`
 pub record Filled (ns firsts : List ℕ) (next k : ℕ) : Type 0 where
   pub long : length firsts ≡ 17
@@ -38,14 +31,6 @@ pub record Filled (ns firsts : List ℕ) (next k : ℕ) : Type 0 where
   pub filled : (a : ℕ) → a ≤ k → get_or firsts a 0 ≡ begins ns a
 
 module _ (ns firsts : List ℕ) where
-  pub filled-start : length firsts ≡ 17 → get_or firsts 0 0 ≡ 0 → Filled ns firsts 0 0
-  filled-start l e = record {
-    long = l;
-    few = omega arith;
-    next-is = sym (begins-none ns);
-    filled = λ a h. let z : a ≡ 0 = omega arith in rw z (e ∙ sym (begins-none ns));
-  }
-
   module _ (next k : ℕ) (f : Filled ns firsts next k) (h : k < 16) (n : ℕ) (e : n ≡ get_or ns k 0) where
     pub filled-most : next + n ≤ sum ns
     filled-most = omega (arith, f.next-is, e, begins-next ns k, begins-most ns (suc k))
@@ -64,9 +49,6 @@ module _ (ns firsts : List ℕ) where
         at : (a : ℕ) → a ≤ suc k → Dec (a ≡ suc k) → get_or (set firsts (suc k) (next + n)) a 0 ≡ begins ns a
         at a l (yes z) = rw z (get_or-set_same firsts (suc k) (next + n) 0 (omega (arith, f.long)) ∙ is)
         at a l (no z) = get_or-set_other firsts (suc k) a (next + n) 0 z ∙ f.filled a (omega arith)
-
-  pub filled-all : (next k : ℕ) → Filled ns firsts next k → 16 ≤ k → Based firsts ns
-  filled-all next k f h a l = f.filled a (omega arith)
 
 -- A STORE, in an array's own part of the memory
 part-long : (m : List Float) (b at : ℕ) → b + at < length m → at < length (mid_of b (length m - b) m)

@@ -20,6 +20,15 @@ pub struct Bases {
     pub firsts: [u32; 17],
 }
 
+impl Bases {
+    // How long the memory is.
+    pub fn total(&self) -> usize
+        ensures { result ≡ get_or self.now.firsts 16 0 }
+    {
+        self.firsts[16] as usize
+    }
+}
+
 // How many elements array k of so many has: none past the last.
 fn array_length(store: &Store, arrays: usize, k: usize) -> u32
     requires { k < 16 }
@@ -36,11 +45,9 @@ pub fn bases_of(store: &Store) -> Bases
     let arrays = reader::arrays_in(store);
     let mut firsts = [0u32; 17];
     let mut next: u32 = 0;
-    let mut k: usize = 0;
-    while k < 16 {
+    for k in 0..16 {
         next += array_length(store, arrays, k);
         firsts[k + 1] = next;
-        k += 1;
     }
     Bases { firsts }
 }

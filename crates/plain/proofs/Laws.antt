@@ -6,21 +6,19 @@ use mathlib.Core.Path.{◌≡◌, refl, sym, ap, ◌∙◌}
 use mathlib.Core.List.{List}
 use lib.ListN.{length, get_or}
 use lib.Ieee.{Float}
+use Rattle.std.specs.Prelude.{Result, Ok, Err}
 use Rattle.order.specs.Sequences.{run_all}
 use Rattle.model.specs.Table.{Statement, Table, count, iteration, Inside}
 use Rattle.model.specs.Bodies.{performed}
 use Rattle.model.specs.PlainRun.{upward, looped, plain_run}
 use Rattle.model.specs.PlainRunLaws.{upward-turn, upward-ended}
 use Rattle.refusals.specs.declared.Refusal.{Refusal}
-use Rattle.refusals.specs.Refusals.{met, none}
-use Rattle.refusals.specs.Answers.{accepted, refusal_of}
+use Rattle.refusals.specs.Refusals.{met}
+use Rattle.refusals.specs.Answers.{AnswerOf, accepted, refused, result_of}
 use Rattle.reader.specs.Store.{first_at, last_at, start_at, loops_in, statements_from, table_in}
 use Rattle.reader.specs.Held.{Held, count_held, loop-held, first-held, last-held}
-use Rattle.reader.specs.ReadInto.{ReadInto}
-use Rattle.reader.specs.ReadIntoLaws.{into-told}
 use Rattle.serial.specs.Serial.{table}
 use Rattle.grounds.specs.Accepted.{Valid}
-use Rattle.tables.proofs.Nine.{valid}
 use Rattle.bodies.specs.Workable.{Based}
 use Rattle.bodies.specs.Stopped.{Opens}
 use Rattle.iterations.specs.Memory.{element_total, remembered}
@@ -37,9 +35,6 @@ module _ {X : Type 0} (g : X → ℕ → List Float → List Float) (from past :
     pub low : from ≤ i
     pub long : length m ≡ length m₀
     pub rest : (x : X) → upward (g x) i (past - i) m ≡ upward (g x) from (past - from) m₀
-
-  left-start : Left from m₀
-  left-start = record { low = omega arith; long = refl; rest = λ x. refl }
 
   module _ (i : ℕ) (m : List Float) (l : Left i m) where
     left-next : i < past → (n : List Float) → length n ≡ length m → ((x : X) → n ≡ g x i m) → Left (i + 1) n
@@ -60,9 +55,6 @@ module _ (cs bs : List ℕ) (from past first last : ℕ) (m₀ : List Float) whe
 
   abbrev pub RangeLeft : ℕ → List Float → Type 0
   RangeLeft = Left turn first (suc last) m₀
-
-  pub range-start : RangeLeft first m₀
-  range-start = left-start turn first (suc last) m₀
 
   module _ (i : ℕ) (m : List Float) (l : RangeLeft i m) where
     module _ (h : i ≤ last) where
@@ -112,9 +104,6 @@ module _ (cs bs : List ℕ) (m₀ : List Float) (n : ℕ) where
   abbrev pub LoopsLeft : ℕ → List Float → Type 0
   LoopsLeft = Left (λ (x : Unit {0}). looped t) 0 n m₀
 
-  pub loops-start : LoopsLeft 0 m₀
-  loops-start = left-start (λ (x : Unit {0}). looped t) 0 n m₀
-
   module _ (r : Running cs bs m₀) (counted : n ≡ loops_in cs) (k : ℕ) (m : List Float) (l : LoopsLeft k m) where
     pub loops-asks : k < n → Running cs bs m × (k < count t)
     loops-asks h = (record { loaded = r.loaded; long = l.long ∙ r.long }, omega (arith, count_held r.loaded.holds))
@@ -130,14 +119,16 @@ module _ (cs bs : List ℕ) (m₀ : List Float) (n : ℕ) where
 
 -- A TABLE IN A STORE, ON A MEMORY
 module _ (c : List ℕ) (h : Held c × Valid (table_in c)) (bs : List ℕ) (b : Based bs (table_in c).lengths) (m : List Float) where
-  abbrev Answered : Refusal → List Float → Type 0
-  Answered r n =
-      (r ≡ refusal_of (remembered element_total (length m) (accepted (table_in c)))) × (n ≡ run_of (remembered element_total (length m) (accepted (table_in c))) m)
+  abbrev answer : AnswerOf Table
+  answer = remembered element_total (length m) (accepted (table_in c))
+
+  abbrev Answered : Result (Unit {0}) Refusal → List Float → Type 0
+  Answered r n = (r ≡ result_of {U = Unit {0}} (λ _. tt) answer) × (n ≡ run_of answer m)
 
   held-total : get_or bs 16 0 ≡ element_total (table_in c)
   held-total = based-total bs (table_in c).lengths 16 b h.1.few-arrays (omega arith)
 
-  pub held-unlike : (length m ≡ get_or bs 16 0 → ⊥) → Answered (met 12 0) m
+  pub held-unlike : (length m ≡ get_or bs 16 0 → ⊥) → Answered (Err (met 12 0)) m
   unfolding run_of
   held-unlike e = let z = remembered-unlike element_total (length m) (table_in c) (λ q. e (q ∙ sym held-total)) in rw z (refl, refl)
 
@@ -145,23 +136,18 @@ module _ (c : List ℕ) (h : Held c × Valid (table_in c)) (bs : List ℕ) (b : 
     pub held_asks : Running c bs m
     held_asks = record { loaded = record { holds = h.0; valid = h.1; based = b }; long = e ∙ held-total }
 
-    pub held-run : (n : List Float) → n ≡ plain_run (table_in c) m → Answered none n
+    pub held-run : (n : List Float) → n ≡ plain_run (table_in c) m → Answered (Ok tt) n
     unfolding run_of
     held-run n f = let z = remembered-as-long element_total (length m) (table_in c) (e ∙ held-total) in rw z (refl, f)
 
--- WHAT IS TOLD: 12 is asked of an accepted table alone
-module _ (s c : List ℕ) (r : Refusal) (through : ReadInto (table s) r c) (m : List Float) where
-  pub run-refused : (r.ground ≡ 0 → ⊥) → (r ≡ refusal_of (plain_answer s (length m))) × (m ≡ plain_memory s m)
+-- WHAT IS ANSWERED: 12 is asked of an accepted table alone
+module _ (s : List ℕ) (m : List Float) where
+  pub run-refused : (r : Refusal) → table s ≡ refused r → (Err r ≡ result_of {U = Unit {0}} (λ _. tt) (plain_answer s (length m))) × (m ≡ plain_memory s m)
   unfolding plain_answer plain_memory remembered run_of
-  run-refused some = rw (into-told (table s) c r through some) (refl, refl)
+  run-refused r e = rw e (refl, refl)
 
-  module _ (nothing : r.ground ≡ 0) where
-    pub run-held : Held c × Valid (table_in c)
-    run-held =
-        let (e, h) = through.held nothing in
-        (h, valid s (table_in c) e)
-
-    pub run-accepted : (x : Refusal) (n : List Float) → x ≡ refusal_of (remembered element_total (length m) (accepted (table_in c)))
-        → n ≡ run_of (remembered element_total (length m) (accepted (table_in c))) m → (x ≡ refusal_of (plain_answer s (length m))) × (n ≡ plain_memory s m)
-    unfolding plain_answer plain_memory
-    run-accepted x n e f = rw (through.held nothing).0 (e, f)
+  pub run-accepted : (t : Table) → table s ≡ accepted t → (x : Result (Unit {0}) Refusal) (n : List Float)
+      → x ≡ result_of {U = Unit {0}} (λ _. tt) (remembered element_total (length m) (accepted t)) → n ≡ run_of (remembered element_total (length m) (accepted t)) m
+      → (x ≡ result_of {U = Unit {0}} (λ _. tt) (plain_answer s (length m))) × (n ≡ plain_memory s m)
+  unfolding plain_answer plain_memory
+  run-accepted t e x n f g = rw e (f, g)

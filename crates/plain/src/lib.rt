@@ -6,7 +6,7 @@ ghost use Rattle.order.specs.Sequences.{run_all};
 ghost use Rattle.model.specs.Table.{count};
 ghost use Rattle.model.specs.Bodies.{performed};
 ghost use Rattle.model.specs.PlainRun.{upward, looped, plain_run};
-ghost use Rattle.refusals.specs.Answers.{accepted, refusal_of};
+ghost use Rattle.refusals.specs.Answers.{accepted, result_of};
 ghost use Rattle.reader.specs.Store.{statements_from, table_in};
 ghost use Rattle.reader.specs.Held.{Held};
 ghost use Rattle.grounds.specs.Accepted.{Valid};
@@ -34,10 +34,8 @@ pub fn run_range(
     requires by_index { (i : ℕ) → first ≤ i → i ≤ last → Runnable bases.now i (length memory.old) (statements_from store.now from (past - from)) }
     ensures { (ns : List ℕ) → Based bases.now ns → memory.new ≡ upward (λ i. run_all (performed ns i) (statements_from store.now from (past - from))) first (suc last - first) memory.old }
 {
-    let mut i = first;
-    while i <= last {
+    for i in first..=last {
         iterations::run_rows(store, bases, from, past, i, memory);
-        i += 1;
     }
 }
 
@@ -59,37 +57,31 @@ fn run_loops(store: &Store, bases: &[u32; 17], memory: &mut [f64])
     ensures { memory.new ≡ plain_run (table_in store.now) memory.old }
 {
     let loops = reader::loops_in(store);
-    let mut k: usize = 0;
-    while k < loops {
+    for k in 0..loops {
         run_loop(k, store, bases, memory);
-        k += 1;
     }
 }
 
 // The table in this store, on a memory of its length; else 12.
-fn run_table(store: &Store, memory: &mut [f64]) -> Refusal
+fn run_table(store: &Store, memory: &mut [f64]) -> Result<(), Refusal>
     requires { Held store.now × Valid (table_in store.now) }
-    ensures value { result ≡ refusal_of (remembered element_total (length memory.old) (accepted (table_in store.now))) }
+    ensures value { result ≡ result_of (λ _. tt) (remembered element_total (length memory.old) (accepted (table_in store.now))) }
     ensures memory_after { memory.new ≡ run_of (remembered element_total (length memory.old) (accepted (table_in store.now))) memory.old }
 {
-    let b = iterations::bases_of(store);
-    let bases = b.firsts;
-    if memory.len() != bases[16] as usize {
-        return Refusal::met(Ground::Memory, 0);
+    let bases = iterations::bases_of(store);
+    if memory.len() != bases.total() {
+        return Err(Refusal::met(Ground::Memory, 0));
     }
-    run_loops(store, &bases, memory);
-    Refusal::none()
+    run_loops(store, &bases.firsts, memory);
+    Ok(())
 }
 
 // A table's bytes and a memory: 1 to 9, then 12, and a refused run changes nothing.
-pub fn plain_run(s: &[u8], memory: &mut [f64]) -> Refusal
-    ensures value { result ≡ refusal_of (plain_answer s.now (length memory.old)) }
+pub fn plain_run(s: &[u8], memory: &mut [f64]) -> Result<(), Refusal>
+    ensures value { result ≡ result_of (λ _. tt) (plain_answer s.now (length memory.old)) }
     ensures memory_after { memory.new ≡ plain_memory s.now memory.old }
 {
     let mut store = [0u32; STORE];
-    let r = serial::read_through(s, &mut store);
-    if r.ground != 0 {
-        return r;
-    }
+    serial::read_through(s, &mut store)?;
     run_table(&store, memory)
 }

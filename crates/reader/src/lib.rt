@@ -46,12 +46,7 @@ impl RowKind {
     fn number(self) -> u32
         ensures { result ≡ kind_number self }
     {
-        match self {
-            RowKind::Read => 0,
-            RowKind::Destination => 1,
-            RowKind::Constant => 2,
-            RowKind::Operation => 3,
-        }
+        self as u32
     }
 }
 

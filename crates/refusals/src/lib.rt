@@ -7,24 +7,24 @@ ghost use Rattle.refusals.specs.Refusals.{number_of, none, met, naming};
 // The grounds by their words.
 #[derive(Clone, Copy, Debug, PartialEq, Eq)]
 pub enum Ground {
-    Torn,
-    Kind,
-    Field,
-    Crowd,
-    Array,
-    Body,
-    Edge,
-    Tail,
-    Serial,
-    Processors,
-    Short,
-    Memory,
-    Buffer,
-    Unlike,
-    State,
-    Line,
-    Plan,
-    Unmet,
+    Torn = 1,
+    Kind = 2,
+    Field = 3,
+    Crowd = 4,
+    Array = 5,
+    Body = 6,
+    Edge = 7,
+    Tail = 8,
+    Serial = 9,
+    Processors = 10,
+    Short = 11,
+    Memory = 12,
+    Buffer = 13,
+    Unlike = 14,
+    State = 15,
+    Line = 17,
+    Plan = 19,
+    Unmet = 20,
 }
 
 impl Ground {
@@ -32,32 +32,13 @@ impl Ground {
     pub fn number(self) -> u32
         ensures { result ≡ number_of self }
     {
-        match self {
-            Ground::Torn => 1,
-            Ground::Kind => 2,
-            Ground::Field => 3,
-            Ground::Crowd => 4,
-            Ground::Array => 5,
-            Ground::Body => 6,
-            Ground::Edge => 7,
-            Ground::Tail => 8,
-            Ground::Serial => 9,
-            Ground::Processors => 10,
-            Ground::Short => 11,
-            Ground::Memory => 12,
-            Ground::Buffer => 13,
-            Ground::Unlike => 14,
-            Ground::State => 15,
-            Ground::Line => 17,
-            Ground::Plan => 19,
-            Ground::Unmet => 20,
-        }
+        self as u32
     }
 }
 
 // The ground's number, 0 where nothing is refused; the place; and what is named, two numbers: of 9 the read, and 0; of 20, whose
 // place is the earlier loop, the later loop, and 0; else 0 and 0.
-#[derive(Clone, Copy)]
+#[derive(Clone, Copy, Debug, PartialEq, Eq)]
 pub struct Refusal {
     pub ground: u32,
     pub place: usize,

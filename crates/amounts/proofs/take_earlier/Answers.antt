@@ -1,7 +1,7 @@
 use Prim.Native.Nat.{◌<◌}
 use native.Mathlib.Omega.{arith}
 use Rattle.reader.specs.Store.{table_in}
-use Rattle.amounts.specs.Walked.{numbers_in}
+use Rattle.amounts.specs.Walked.{numbers_of}
 use Rattle.amounts.proofs.Laws.{remaining-start, remaining-step, remaining-next, remaining-end}
 use Rattle.amounts.proofs.take_earlier.Goals as goal
 
@@ -9,38 +9,38 @@ pub loop-x-init : goal.loop-x-init
 loop-x-init c =
     let a = c.args in
     let p = c.requires in
-    remaining-start (table_in a.store.now) a.columns.now a.from a.y a.made.now a.shifts.now a.peels.now p.bounded.0 p.held.2
+    let t = a.totals.now in
+    remaining-start (table_in a.store.now) a.columns.now a.from a.y t.made t.amounts.shifts t.amounts.peels p.bounded.0 p.held.2
 
 pub take_up-requires : goal.take_up-requires
 take_up-requires c =
     let l = c.loop-x in
+    let t = l.totals in
     let p = c.requires in
     let a = c.args in
-    let i : l.x < a.from = omega (arith, c.loop-x-test.true) in record {
-      held = (p.held.0, c.searched_for-column.ensures, p.held.1.each l.x i);
+    let i : l.x < a.from = omega arith in record {
+      held = (p.held.0, c.searched-column.ensures, p.held.1.each l.x i);
       bounded = (
         l.invariant.bounded,
-        remaining-step (table_in a.store.now) a.columns.now a.from a.y _ l.x l.made l.shifts l.peels i l.invariant,
+        remaining-step (table_in a.store.now) a.columns.now a.from a.y _ l.x t.made t.amounts.shifts t.amounts.peels i l.invariant,
         omega (arith, l.invariant.few, p.bounded.1, i, p.held.1.few),
       );
     }
 
-pub overflow_add-x : goal.overflow_add-x
-overflow_add-x c = let p = c.requires in omega (arith, c.loop-x-test.true, p.held.1.few)
-
 pub loop-x-preserved : goal.loop-x-preserved
 loop-x-preserved c =
     let l = c.loop-x in
+    let t = l.totals in
     let a = c.args in
-    let i : l.x < a.from = omega (arith, c.loop-x-test.true) in
-    remaining-next (table_in a.store.now) a.columns.now a.from a.y (numbers_in a.shifts.now a.peels.now a.made.now) l.x l.made
-    l.shifts l.peels i l.invariant _ _ _ (c.requires.held.1.each l.x i) c.take_up.ensures
+    let i : l.x < a.from = omega arith in
+    remaining-next (table_in a.store.now) a.columns.now a.from a.y (numbers_of a.totals.now) l.x t.made t.amounts.shifts t.amounts.peels i l.invariant _ _ _
+    (c.requires.held.1.each l.x i) c.take_up.ensures
 
 pub returns : goal.returns
 returns c =
     let l = c.loop-x in
+    let t = l.totals in
     let a = c.args in record {
-      taken = remaining-end (table_in a.store.now) a.columns.now a.from a.y (numbers_in a.shifts.now a.peels.now a.made.now) l.x l.made
-          l.shifts l.peels (omega (arith, c.loop-x-test.false)) l.invariant;
+      taken = remaining-end (table_in a.store.now) a.columns.now a.from a.y (numbers_of a.totals.now) l.x t.made t.amounts.shifts t.amounts.peels (omega arith) l.invariant;
       bounded_2 = (l.invariant.bounded, omega (arith, l.invariant.few, l.invariant.past, c.requires.held.1.few));
     }

@@ -1,11 +1,7 @@
 use native.Mathlib.Omega.{arith}
-use mathlib.Core.Path.{refl}
 use Rattle.reader.specs.Store.{table_in}
-use Rattle.iterations.proofs.Laws.{filled-start, filled-most, filled_next, filled-all}
+use Rattle.iterations.proofs.Laws.{filled-most, filled_next}
 use Rattle.iterations.proofs.bases_of.Goals as goal
-
-pub loop-k-init : goal.loop-k-init
-loop-k-init c = filled-start (table_in c.args.store.now).lengths _ refl refl
 
 pub overflow_add-next : goal.overflow_add-next
 overflow_add-next c =
@@ -16,17 +12,9 @@ overflow_add-next c =
     c.array_length-next.result e in
     omega (arith, most, c.requires)
 
-pub bounds-firsts-k : goal.bounds-firsts-k
-bounds-firsts-k c = omega (arith, c.loop-k.invariant.long)
-
 pub loop-k-preserved : goal.loop-k-preserved
 loop-k-preserved c =
     let l = c.loop-k in
     let e = rw c.arrays_in-arrays.ensures at c.array_length-next.ensures in
     filled_next (table_in c.args.store.now).lengths l.firsts l.next l.k l.invariant c.loop-k-test.true
     c.array_length-next.result e
-
-pub returns : goal.returns
-returns c =
-    let l = c.loop-k in
-    filled-all (table_in c.args.store.now).lengths l.firsts l.next l.k l.invariant c.loop-k-test.false

@@ -1,10 +1,6 @@
-use Prim.Native.Nat.{◌-◌}
 use Rattle.reader.specs.Store.{table_in}
 use Rattle.iterations.proofs.Laws.{Filled}
 use Rattle.iterations.proofs.bases_of.Given as goal
 
 abbrev pub invariant-loop-k : goal.invariant-loop-k
 invariant-loop-k l = Filled (table_in l.store).lengths l.firsts l.next l.k
-
-abbrev pub decreases-loop-k : goal.decreases-loop-k
-decreases-loop-k l = 16 - l.k

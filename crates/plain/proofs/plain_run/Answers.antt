@@ -1,24 +1,24 @@
-use Rattle.plain.proofs.Laws.{run-refused, run-held, run-accepted}
+use Rattle.std.proofs.lemmas.Result.{err_from_is_err_and}
+use Rattle.reader.specs.Store.{table_in}
+use Rattle.tables.proofs.Nine.{valid}
+use Rattle.plain.proofs.Laws.{run-refused, run-accepted}
 use Rattle.plain.proofs.plain_run.Goals as goal
 
-pub returns-then-r-ne0 : goal.returns-then-r-ne0
-returns-then-r-ne0 c =
-    let both =
+pub returns-in_err-read_through : goal.returns-in_err-read_through
+returns-in_err-read_through c =
     let a = c.args in
-    run-refused a.s.now c.read_through-r.new.store c.read_through-r.result c.read_through-r.ensures a.memory.now
-    c.if-r-ne0.true in
-    record { value = both.0; memory_after = both.1 }
+    let p = err_from_is_err_and c.from_residual.result c.from_residual.ensures.1 in
+    let (e, f) = run-refused a.s.now a.memory.now _ c.in_err-read_through.ensures in
+    record { value = rw (p.1, p.2) e; memory_after = f }
 
 pub run_table-requires : goal.run_table-requires
 run_table-requires c =
-    let a = c.args in
-    run-held a.s.now c.read_through-r.new.store c.read_through-r.result c.read_through-r.ensures a.memory.now
-    c.if-r-ne0.false
+    let (e, held) = c.in_ok-read_through.ensures in
+    (held, valid c.args.s.now (table_in c.read_through.new.store) e)
 
 pub returns : goal.returns
 returns c =
-    let both =
     let a = c.args in
-    run-accepted a.s.now c.read_through-r.new.store c.read_through-r.result c.read_through-r.ensures a.memory.now
-    c.if-r-ne0.false _ _ c.run_table.ensures.value c.run_table.ensures.memory_after in
-    record { value = both.0; memory_after = both.1 }
+    let r = c.run_table in
+    let (e, f) = run-accepted a.s.now a.memory.now _ c.in_ok-read_through.ensures.0 r.result _ r.ensures.value r.ensures.memory_after in
+    record { value = e; memory_after = f }

@@ -1,10 +1,5 @@
-use Rattle.plain.proofs.Laws.{loops-start, loops-asks, loops-next, loops-end}
+use Rattle.plain.proofs.Laws.{loops-asks, loops-next, loops-end}
 use Rattle.plain.proofs.run_loops.Goals as goal
-
-pub loop-k-init : goal.loop-k-init
-loop-k-init c =
-    let a = c.args in
-    loops-start a.store.now a.bases.now a.memory.now c.loops_in-loops.result
 
 pub run_loop-requires : goal.run_loop-requires
 run_loop-requires c =
@@ -17,9 +12,6 @@ loop-k-preserved c =
     let l = c.loop-k in
     loops-next c.args.store.now c.args.bases.now c.args.memory.now c.loops_in-loops.result c.requires c.loops_in-loops.ensures
     l.k l.memory l.invariant c.loop-k-test.true _ c.run_loop.ensures
-
-pub shape_of-memory : goal.shape_of-memory
-shape_of-memory c = c.loop-k.invariant.long
 
 pub returns : goal.returns
 returns c =

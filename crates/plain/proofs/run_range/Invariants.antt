@@ -1,9 +1,5 @@
-use Prim.Native.Nat.{suc, ◌-◌}
 use Rattle.plain.proofs.Laws.{RangeLeft}
 use Rattle.plain.proofs.run_range.Given as goal
 
 abbrev pub invariant-loop-i : goal.invariant-loop-i
 invariant-loop-i l = RangeLeft l.store l.bases l.from l.past l.first l.last l.initial.memory l.i l.memory
-
-abbrev pub decreases-loop-i : goal.decreases-loop-i
-decreases-loop-i l = suc l.last - l.i

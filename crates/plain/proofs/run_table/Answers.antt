@@ -1,19 +1,21 @@
+use mathlib.Core.Path.{◌∙◌}
 use Rattle.plain.proofs.Laws.{held_asks, held-unlike, held-run}
 use Rattle.plain.proofs.run_table.Goals as goal
 
-pub returns-then-memory-bases : goal.returns-then-memory-bases
-returns-then-memory-bases c =
-    let both = held-unlike c.args.store.now c.requires c.bases_of-b.result.firsts c.bases_of-b.ensures c.args.memory.now
-    c.if-memory-bases.true in
-    rw c.met.ensures record { value = both.0; memory_after = both.1 }
+pub returns-then-memory-total : goal.returns-then-memory-total
+returns-then-memory-total c =
+    let b = c.bases_of-bases in
+    let (e, f) = held-unlike c.args.store.now c.requires b.result.firsts b.ensures c.args.memory.now (rw c.total.ensures at c.if-memory-total.true) in
+    rw c.met.ensures record { value = e; memory_after = f }
 
 pub run_loops-requires : goal.run_loops-requires
 run_loops-requires c =
-    held_asks c.args.store.now c.requires c.bases_of-b.result.firsts c.bases_of-b.ensures c.args.memory.now
-    c.if-memory-bases.false
+    let b = c.bases_of-bases in
+    held_asks c.args.store.now c.requires b.result.firsts b.ensures c.args.memory.now (c.if-memory-total.false ∙ c.total.ensures)
 
 pub returns : goal.returns
 returns c =
-    let both = held-run c.args.store.now c.requires c.bases_of-b.result.firsts c.bases_of-b.ensures c.args.memory.now c.if-memory-bases.false _
+    let b = c.bases_of-bases in
+    let (e, f) = held-run c.args.store.now c.requires b.result.firsts b.ensures c.args.memory.now (c.if-memory-total.false ∙ c.total.ensures) _
     c.run_loops.ensures in
-    rw c.none.ensures record { value = both.0; memory_after = both.1 }
+    record { value = e; memory_after = f }

@@ -1,4 +1,0 @@
-use Rattle.iterations.proofs.store.Goals as goal
-
-pub returns : goal.returns
-returns c = rw c.canonical.ensures
