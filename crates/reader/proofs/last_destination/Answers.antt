@@ -3,7 +3,7 @@ use mathlib.Core.Path.{◌≡◌, sym, subst}
 use Prim.Native.Nat.{◌-◌}
 use borrow.Author.Tests.{eqb-true, eqb-false}
 use Rattle.reader.specs.Rows.{LastDestination}
-use Rattle.reader.specs.Held.{count_held, few-loops, rows-rise}
+use Rattle.reader.specs.Held.{count_held, few-loops}
 use Rattle.reader.specs.RowLaws.{behind-last, behind-few, behind-before, last_found, first_found}
 use Rattle.reader.proofs.last_destination.Goals as goal
 
