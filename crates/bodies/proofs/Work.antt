@@ -208,11 +208,11 @@ at-bottom xs ns i m s w e f g = let z = rw (e, f) at g in ap (λ (l : List Float
 reads : (k : ℕ) → true ≡ ltb k 2 → false ≡ eqb k 1 → k ≡ 0
 reads k e f = grind (arith, nat_tests)
 
-constants : (k : ℕ) → row.Constant ≡ row_kind k → k ≡ 2
-constants k e = grind (arith, nat_tests)
+operations : (k : ℕ) → row.Operation ≡ row_kind k → 2 < k
+operations k e = grind (arith, nat_tests)
 
-pub operations : (k : ℕ) → false ≡ ltb k 2 → (row_kind k ≡ row.Constant → ⊥) → 2 < k
-operations k e f = grind (arith, nat_tests)
+pub constants : (k : ℕ) → false ≡ ltb k 2 → (row_kind k ≡ row.Operation → ⊥) → k ≡ 2
+constants k e f = grind (arith, nat_tests)
 
 module _ (bs : List ℕ) (i : ℕ) (m : List Float) (c : List ℕ) (r : ℕ) (vs : List Float) (n : ℕ) (ready : (kind_at c r ≡ 1 → ⊥) → Ready bs i (length m) (item_at c r) n) where
   abbrev After : List Float → Option ℕ → Type 0
@@ -241,12 +241,12 @@ module _ (bs : List ℕ) (i : ℕ) (m : List Float) (c : List ℕ) (r : ℕ) (vs
     read-works x after e f g =
         rw is-read (no-destination, g.0, g.2, λ ns b. rw (g.1, f, b q (omega (arith, read-asks.1.0))))
 
-  module _ (kind : row.Constant ≡ row_kind (kind_at c r)) where
+  module _ (kind : kind_at c r ≡ 2) where
     is-constant : item_at c r ≡ constant v
-    is-constant = item-constant (kind_at c r) q v (constants (kind_at c r) kind)
+    is-constant = item-constant (kind_at c r) q v kind
 
     none : kind_at c r ≡ 1 → ⊥
-    none e = omega (arith, constants (kind_at c r) kind)
+    none e = omega (arith, kind)
 
     pub constant-asks : n < 8
     unfolding Ready
@@ -257,14 +257,17 @@ module _ (bs : List ℕ) (i : ℕ) (m : List Float) (c : List ℕ) (r : ℕ) (vs
     unfolding next worked
     constant-works x after e f g = rw is-constant (none, g.0, g.2, λ ns b. rw (g.1, f))
 
-  module _ (late : 2 < kind_at c r) where
+  module _ (kind : row.Operation ≡ row_kind (kind_at c r)) where
+    late : 2 < kind_at c r
+    late = operations (kind_at c r) kind
+
     is : item_of (kind_at c r) q v ≡ operation v
-    is = item-operation (kind_at c r) q v (λ e. omega arith) (λ e. omega arith)
+    is = item-operation (kind_at c r) q v (λ e. omega (arith, late)) (λ e. omega (arith, late))
 
     pub operation-asks : (operands v ≤ n) × (n ≤ 8)
     unfolding Ready
-    operation-asks = let z = rw is at (ready (λ e. omega arith)) in (z.2, z.3)
+    operation-asks = let z = rw is at (ready (λ e. omega (arith, late))) in (z.2, z.3)
 
     pub operation-works : (after : List Float) (e : ℕ) → Holds after e (applied v (tops vs n)) (n - operands v + 1) → After after (Some e)
     unfolding next worked
-    operation-works after e g = rw is ((λ e. omega arith), g.0, g.2, λ ns b. g.1)
+    operation-works after e g = rw is ((λ e. omega (arith, late)), g.0, g.2, λ ns b. g.1)

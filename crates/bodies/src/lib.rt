@@ -128,8 +128,8 @@ fn work_row(
         return Some(push(vs, n, element(array, value, bases, i, memory)));
     }
     match reader::kind_at(store, row) {
-        RowKind::Constant => Some(push(vs, n, constant(value))),
-        _ => Some(apply(vs, n, value)),
+        RowKind::Operation => Some(apply(vs, n, value)),
+        _ => Some(push(vs, n, constant(value))),
     }
 }
 

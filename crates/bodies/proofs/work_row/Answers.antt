@@ -1,6 +1,6 @@
-use Prim.Native.Nat.{◌<◌}
+use mathlib.Core.Path.{◌≡◌}
 use Rattle.reader.specs.Store.{kind_at}
-use Rattle.bodies.proofs.Work.{operations, read-asks, read-works, constant-asks, constant-works, operation-asks, operation-works}
+use Rattle.bodies.proofs.Work.{constants, read-asks, read-works, constant-asks, constant-works, operation-asks, operation-works}
 use Rattle.bodies.proofs.work_row.Goals as goal
 
 pub element-requires : goal.element-requires
@@ -23,29 +23,29 @@ returns-then-is_reference c =
     read-works a.bases.now a.i a.memory.now a.store.now a.row a.vs.now a.n c.requires.ready c.if-is_reference.ensures c.if-is_destination.ensures
     c.element.result c.push.new.vs c.push.result (rw (c.value_at-value.ensures, c.array_at-array.ensures) at c.element.ensures) c.push.ensures
 
-pub push-requires-in-Constant : goal.push-requires-in-Constant
-push-requires-in-Constant c =
-    let a = c.args in
-    let p = c.requires in
-    (constant-asks a.bases.now a.i a.memory.now a.store.now a.row a.vs.now a.n p.ready c.in-Constant.ensures, p.row_bound.2)
-
-pub returns-in-Constant : goal.returns-in-Constant
-returns-in-Constant c =
-    let a = c.args in
-    constant-works a.bases.now a.i a.memory.now a.store.now a.row a.vs.now a.n c.requires.ready c.in-Constant.ensures
-    c.constant.result c.push-in-Constant.new.vs c.push-in-Constant.result (rw c.value_at-value.ensures at c.constant.ensures) c.push-in-Constant.ensures
-
 pub apply-requires : goal.apply-requires
 apply-requires c =
     let a = c.args in
     let p = c.requires in
-    let late : 2 < kind_at a.store.now a.row = operations _ c.if-is_reference.ensures (rw c.kind_at.ensures at c.in_default.not-Constant) in
-    let z = operation-asks a.bases.now a.i a.memory.now a.store.now a.row a.vs.now a.n p.ready late in
+    let z = operation-asks a.bases.now a.i a.memory.now a.store.now a.row a.vs.now a.n p.ready c.in-Operation.ensures in
     rw c.value_at-value.ensures (z.0, z.1, p.row_bound.2)
+
+pub returns-in-Operation : goal.returns-in-Operation
+returns-in-Operation c =
+    let a = c.args in
+    operation-works a.bases.now a.i a.memory.now a.store.now a.row a.vs.now a.n c.requires.ready c.in-Operation.ensures
+    c.apply.new.vs c.apply.result (rw c.value_at-value.ensures at c.apply.ensures)
+
+pub push-requires-in_default : goal.push-requires-in_default
+push-requires-in_default c =
+    let a = c.args in
+    let p = c.requires in
+    let kind : kind_at a.store.now a.row ≡ 2 = constants _ c.if-is_reference.ensures (rw c.kind_at.ensures at c.in_default.not-Operation) in
+    (constant-asks a.bases.now a.i a.memory.now a.store.now a.row a.vs.now a.n p.ready kind, p.row_bound.2)
 
 pub returns-in_default : goal.returns-in_default
 returns-in_default c =
     let a = c.args in
-    let late : 2 < kind_at a.store.now a.row = operations _ c.if-is_reference.ensures (rw c.kind_at.ensures at c.in_default.not-Constant) in
-    operation-works a.bases.now a.i a.memory.now a.store.now a.row a.vs.now a.n c.requires.ready late
-    c.apply.new.vs c.apply.result (rw c.value_at-value.ensures at c.apply.ensures)
+    let kind : kind_at a.store.now a.row ≡ 2 = constants _ c.if-is_reference.ensures (rw c.kind_at.ensures at c.in_default.not-Operation) in
+    constant-works a.bases.now a.i a.memory.now a.store.now a.row a.vs.now a.n c.requires.ready kind c.constant.result
+    c.push-in_default.new.vs c.push-in_default.result (rw c.value_at-value.ensures at c.constant.ensures) c.push-in_default.ensures
