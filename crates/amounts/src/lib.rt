@@ -16,7 +16,7 @@ ghost use Rattle.chains.specs.Steps.{at, raised_by, take_up, step, walked};
 ghost use Rattle.chains.specs.Threshold.{threshold};
 ghost use Rattle.amounts.specs.Rows.{past_row};
 ghost use Rattle.columns.specs.Columns.{ref_at, searched_in, with_reference};
-ghost use Rattle.amounts.specs.Walked.{ReferenceFits, Pairable, Earlier, NextStep, SomeNext, Taken, Bounded, numbers_of, WalkedTo};
+ghost use Rattle.amounts.specs.Walked.{ReferenceFits, Pairable, Earlier, NextStep, SomeNext, Taken, Bounded, numbers_in, numbers_of, WalkedTo};
 
 use columns::{Column, Columns};
 use model::Reference;
@@ -80,26 +80,27 @@ fn raise(store: &Store, x: Reference, y: Reference, amounts: &mut Amounts)
     }
 }
 
-// One step of the walk: takes up the pair of the reference at position x and y, which is the next one. `column` is that in which y's partners are.
+// One step of the walk: takes up the pair of the reference at position x and y, which is the next one when so many steps were made. `column` is that
+// in which y's partners are. The steps are counted by the caller, since a count beside the amounts would be written to memory for each pair.
 fn take_up(
     store: &Store,
     columns: &Columns,
     column: &Column,
     x: usize,
     y: Reference,
-    totals: &mut Totals,
+    made: usize,
+    amounts: &mut Amounts,
 )
     requires held { Held store.now × (column.now ≡ searched_in columns.now y.stores) × Pairable (table_in store.now) columns.now x y }
-    requires bounded { Bounded totals.old.amounts.shifts totals.old.amounts.peels × NextStep (table_in store.now) columns.now x y totals.old.made × (totals.old.made < 1000000) }
-    ensures { numbers_of totals.new ≡ take_up (graph (table_in store.now)) (ref_at columns.now x) y (numbers_of totals.old) }
+    requires bounded { Bounded amounts.old.shifts amounts.old.peels × NextStep (table_in store.now) columns.now x y made }
+    ensures { numbers_in amounts.new.shifts amounts.new.peels (made + 1) ≡ take_up (graph (table_in store.now)) (ref_at columns.now x) y (numbers_in amounts.old.shifts amounts.old.peels made) }
 {
-    totals.made += 1;
     if columns.touches(column, x, y) {
-        raise(store, columns.reference_at(x), y, &mut totals.amounts);
+        raise(store, columns.reference_at(x), y, amounts);
     }
 }
 
-// Takes up the pairs of y with the references at positions below `from`, which are those of earlier loops.
+// Takes up the pairs of y with the references at positions below `from`, which are those of earlier loops, and counts them.
 fn take_earlier(store: &Store, columns: &Columns, from: usize, y: Reference, totals: &mut Totals)
     requires held { Held store.now × Earlier (table_in store.now) columns.now from y × SomeNext (table_in store.now) columns.now from y totals.old.made }
     requires bounded { Bounded totals.old.amounts.shifts totals.old.amounts.peels × (totals.old.made ≤ 576 * 576) }
@@ -107,9 +108,11 @@ fn take_earlier(store: &Store, columns: &Columns, from: usize, y: Reference, tot
     ensures bounded_2 { Bounded totals.new.amounts.shifts totals.new.amounts.peels × (totals.new.made ≤ totals.old.made + 576) }
 {
     let column = columns.searched(y.stores);
+    let made = totals.made;
     for x in 0..from {
-        take_up(store, columns, column, x, y, totals);
+        take_up(store, columns, column, x, y, made + x, &mut totals.amounts);
     }
+    totals.made = made + from;
 }
 
 // Takes up the pairs whose later reference is y, the next one of the table, and then puts y into the columns, at its position.
@@ -128,6 +131,7 @@ fn take_later(store: &Store, y: Reference, from: usize, walk: &mut Progress)
 
 // The walk past row r of loop k: a read's row and a destination's are a reference, other rows are none. There are `from` references in earlier
 // loops.
+#[tactic(auto, using(crate::proofs::Laws::row_bounds))]
 fn walk_row(store: &Store, k: usize, r: usize, from: usize, walk: &mut Progress)
     requires held { Held store.now × (k < count (table_in store.now)) × (from ≡ length (joined k (refs (table_in store.now)))) }
     requires k_bound { (start_at store.now k ≤ r) × (r < start_at store.now (k + 1)) }
@@ -140,6 +144,7 @@ fn walk_row(store: &Store, k: usize, r: usize, from: usize, walk: &mut Progress)
 }
 
 // The walk past the references of loop k, row by row. Of the shifts and peels it changes those of loop k.
+#[tactic(auto, using(crate::proofs::Laws::row_bounds))]
 fn walk_loop(store: &Store, k: usize, walk: &mut Progress)
     requires held { Held store.now × (k < count (table_in store.now)) }
     requires walked { WalkedTo (table_in store.now) (joined k (refs (table_in store.now))) walk.old }

@@ -4,17 +4,7 @@ use native.Mathlib.Omega.{arith}
 use Rattle.reader.specs.Store.{start_at, table_in}
 use Rattle.amounts.specs.Rows.{past_row, start-in, past-start, past_end}
 use Rattle.amounts.specs.Walked.{WalkedTo}
-use Rattle.amounts.proofs.Laws.{count-few}
 use Rattle.amounts.proofs.walk_loop.Goals as goal
-
-pub overflow_add-k : goal.overflow_add-k
-overflow_add-k c = let p = c.requires.held in omega (arith, p.1, count-few p.0)
-
-pub start_at-r-end-requires : goal.start_at-r-end-requires
-start_at-r-end-requires c = let p = c.requires.held in omega (arith, p.1, count-few p.0)
-
-pub start_at-r-requires : goal.start_at-r-requires
-start_at-r-requires c = let p = c.requires.held in omega (arith, p.1, count-few p.0)
 
 pub loop-r-init : goal.loop-r-init
 loop-r-init c = let p = c.requires.held in rw (c.start_at-r.ensures, past-start p.0 c.args.k p.1) c.requires.walked

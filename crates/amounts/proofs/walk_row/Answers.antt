@@ -1,20 +1,12 @@
 use Prim.Native.Nat.{◌<◌}
-use native.Mathlib.Omega.{arith}
 use mathlib.Core.Path.{sym, ◌∙◌}
 use borrow.Author.Tests.{ltb-true, ltb-false}
 use Rattle.reader.specs.Store.{kind_at}
-use Rattle.amounts.specs.Rows.{past-few}
 use Rattle.amounts.specs.Walked.{numbers_of}
 use Rattle.amounts.proofs.Laws.{row-few, reference-earlier, reference-steps, reference-next, item-next}
 use Rattle.amounts.proofs.walk_row.Goals as goal
 
 -- `walk_row` meets its contract: a reference is taken up, any other item passed over.
-pub is_reference-requires : goal.is_reference-requires
-is_reference-requires c = let p = c.requires in omega (arith, p.k_bound.1, past-few p.held.0 _ p.held.1)
-
-pub reference_at-requires : goal.reference_at-requires
-reference_at-requires c = let p = c.requires in omega (arith, p.k_bound.1, past-few p.held.0 _ p.held.1)
-
 pub take_later-requires : goal.take_later-requires
 take_later-requires c =
     let a = c.args in
