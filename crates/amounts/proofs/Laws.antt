@@ -7,7 +7,7 @@ use mathlib.Core.List.{Memᴰ as Mem}
 use native.Mathlib.Decide.{ℕ_discrete}
 use native.Mathlib.Numerals.{add-one}
 use native.Mathlib.Omega.{arith}
-use lib.ListN.{length, get_or, set, take, replicate, length-append, length-replicate}
+use lib.ListN.{length, get_or, set, take, length-append, length-replicate}
 use lib.Seq.{take-append_seam}
 use Rattle.order.specs.Sequences.{joined, run_all}
 use Rattle.order.specs.Lists.{mem-joined, joined-split}
@@ -29,16 +29,19 @@ use Rattle.chains.specs.Walk.{shifts, peels}
 use Rattle.chains.proofs.WalkLaws.{zeros}
 use Rattle.chains.specs.Steps.{Placed, Pair, at, pair_of, placed_from, pairs_to, steps_to, steps, raised_by, Following, Numbers, take_up, step, no_numbers, walked}
 use Rattle.chains.proofs.StepLaws.{following-first, following-next, made-steps, placed-append, steps_to-append, steps_to-one, raised_by-length, raised_by-met, raised_by-none, walked-numbers}
-use Rattle.chains.specs.Bounds.{Small}
 use Rattle.chains.proofs.Bounds.{raised_by-small}
 use Rattle.chains.proofs.Tables.{refs-number, refs-all_refs, all_refs-below}
 use Rattle.amounts.specs.Rows.{past_row, past-ahead, past-few, row_in, past_next, joined-few, past-few-references, in-range}
-use Rattle.columns.specs.Columns.{ref_at, refs_from, Marked, with_reference}
+use Rattle.columns.specs.declared.Columns.{Columns}
+use Rattle.columns.specs.Columns.{ref_at, refs_from, Marked, no_references, with_reference}
 use Rattle.columns.specs.ColumnLaws.{with-sized, other-marked, here-marked, refs-with, refs-length, refs-mem, refs-first, refs-next, refs_end}
 use Rattle.amounts.specs.Walked.{ReferenceFits, Pairable, Earlier, NextStep, SomeNext, Taken, Bounded, numbers_in, Walked}
 
 pub count-few : {c : List ℕ} → Held c → count (table_in c) ≤ 16
 count-few h = omega (arith, count_held h, few-loops h)
+
+-- where a loop's rows are, and how many loops there are: what is asked where code reads a row or a loop
+pub ruleset row_bounds = (past-few, count-few)
 
 -- ONE PAIR
 -- the test of two references, on the bounds as they are stored
@@ -75,10 +78,6 @@ taken-touching t x y s p s' p' made (e, f) = rw (e, f, add-one made)
 pub taken-apart : (t : Table) (x y : Reference) (s p : List ℕ) (made : ℕ) → touch x y ≡ false → numbers_in s p (made + 1) ≡ take_up (graph t) x y (numbers_in s p made)
 taken-apart t x y s p made e = taken-touching t x y s p s p made (sym (raised-untouched t backward x y s e), sym (raised-untouched t forward x y p e))
 
--- a number that fits, with an amount, is no large one
-pub small-sum : (s : List ℕ) (j w d : ℕ) → Small 510 s → j < 16 → w ≡ get_or s j 0 → d ≤ 510 → w + d < 4294967296
-small-sum s j w d small few e l = omega (arith, small j)
-
 -- what a pair leaves fits
 pub raised-bounded : (t : Table) (x y : Reference) (s p : List ℕ) → x.offset ≤ 510 → ReferenceFits t y → Bounded s p
     → Bounded (raised_by (graph t) backward x y s) (raised_by (graph t) forward x y p)
@@ -91,18 +90,18 @@ raised-bounded t x y s p l v b = record {
 
 -- PAIRS OF ONE REFERENCE
 -- the pairs of y, which is at position n, with the references of the columns from position i on
-abbrev pub to_take : (columns : List ℕ) (from n : ℕ) (y : Reference) (i : ℕ) → List (Pair Reference)
+abbrev pub to_take : (columns : Columns) (from n : ℕ) (y : Reference) (i : ℕ) → List (Pair Reference)
 to_take columns from n y i = pairs_to (at n y) (placed_from i (refs_from columns i (from - i)))
 
 -- to take them up, from these numbers, gives what to take up all of them gives
-pub record Remaining (t : Table) (columns : List ℕ) (from : ℕ) (y : Reference) (start : Numbers) (i made : ℕ) (shifts peels : List ℕ) : Type 0 where
+pub record Remaining (t : Table) (columns : Columns) (from : ℕ) (y : Reference) (start : Numbers) (i made : ℕ) (shifts peels : List ℕ) : Type 0 where
   pub bounded : Bounded shifts peels
   pub few : made ≤ start.made + i
   pub past : i ≤ from
   pub next : (n : ℕ) × Following (graph t) made (to_take columns from n y i)
   pub rest : (n : ℕ) → run_all (step (graph t)) (to_take columns from n y i) (numbers_in shifts peels made) ≡ run_all (step (graph t)) (to_take columns from n y 0) start
 
-module _ (t : Table) (columns : List ℕ) (from : ℕ) (y : Reference) where
+module _ (t : Table) (columns : Columns) (from : ℕ) (y : Reference) where
   pub remaining-start : (made : ℕ) (shifts peels : List ℕ) → Bounded shifts peels → SomeNext t columns from y made
       → Remaining t columns from y (numbers_in shifts peels made) 0 made shifts peels
   remaining-start made shifts peels b (n, f) =
@@ -153,7 +152,7 @@ module _ {c : List ℕ} (h : Held c) (k : ℕ) (l : k < count (table_in c)) wher
       )
 
   -- they stand first in the columns
-  first-kept : (columns : List ℕ) (own : List Reference) → refs_from columns 0 (length (joined k (refs (table_in c)) ++ own)) ≡ joined k (refs (table_in c)) ++ own
+  first-kept : (columns : Columns) (own : List Reference) → refs_from columns 0 (length (joined k (refs (table_in c)) ++ own)) ≡ joined k (refs (table_in c)) ++ own
       → refs_from columns 0 (length (joined k (refs (table_in c)))) ≡ joined k (refs (table_in c))
   first-kept columns own e =
       let xs = joined k (refs (table_in c)) in
@@ -164,7 +163,7 @@ module _ {c : List ℕ} (h : Held c) (k : ℕ) (l : k < count (table_in c)) wher
       ∙ take-append_seam (refs_from columns 0 n) (refs_from columns (0 + n) (length own)) in
       sym m ∙ ap (take n) split ∙ take-append_seam xs own
 
-  module _ (own : List Reference) (n : ℕ) (columns : List ℕ) (a : Numbers) (w : Walked (table_in c) (joined k (refs (table_in c)) ++ own) n columns a) (y : Reference)
+  module _ (own : List Reference) (n : ℕ) (columns : Columns) (a : Numbers) (w : Walked (table_in c) (joined k (refs (table_in c)) ++ own) n columns a) (y : Reference)
       (mine : y.number ≡ k) (array : y.array < 16) (offset : y.offset ≤ 510) where
     y-fits : ReferenceFits (table_in c) y
     y-fits = record { number = omega arith; few = omega (arith, count-few h); offset = offset }
@@ -229,13 +228,13 @@ module _ {c : List ℕ} (h : Held c) (k : ℕ) (l : k < count (table_in c)) wher
         mine-steps = rw (early from e) (steps_next n)
 
     -- and what the walk has come to when they are made
-    pub walked_next : (from : ℕ) → from ≡ length (joined k (refs (table_in c))) → n < 576 → (columns' : List ℕ) (d : Numbers)
+    pub walked_next : (from : ℕ) → from ≡ length (joined k (refs (table_in c))) → n < 576 → (columns' : Columns) (d : Numbers)
         → columns' ≡ with_reference n y columns
         → Taken (table_in c) columns from y a d
         → Bounded d.shifts d.peels × (d.made ≤ a.made + 576)
         → Walked (table_in c) ((joined k (refs (table_in c)) ++ own) ++ (y ∷ [])) (n + 1) columns' d
     walked_next from e few columns' d put made (bounded, more) = record {
-      sized = rw put (with-sized n y columns few ∙ w.sized);
+      sized = rw put (with-sized n y columns w.sized);
       references = omega (arith, w.references, longer);
       kept = rw (put, longer, w.references, add-one (length ys)) (refs-with (length ys) y columns (omega (arith, w.references)) w.sized array ∙ ap (λ (xs : List Reference). xs ++ (y ∷ [])) w.kept);
       marked = λ x i. rw put (mark x (omega (arith, w.references, longer)) (ℕ_discrete x n));
@@ -267,10 +266,10 @@ module _ {c : List ℕ} (h : Held c) (k : ℕ) (l : k < count (table_in c)) wher
 
         mark : (x : ℕ) → x ≤ n → Dec (x ≡ n) → Marked (with_reference n y columns) x
         mark x i (yes q) = rw q (here-marked n y columns few w.sized)
-        mark x i (no q) = other-marked n y columns few x (omega arith) q (w.marked x (omega (arith, w.references)))
+        mark x i (no q) = other-marked n y columns x q (w.marked x (omega (arith, w.references)))
 
 -- A ROW OF A LOOP
-module _ {c : List ℕ} (h : Held c) (k : ℕ) (l : k < count (table_in c)) (n : ℕ) (columns : List ℕ) (a : Numbers) (from : ℕ) (e : from ≡ length (joined k (refs (table_in c))))
+module _ {c : List ℕ} (h : Held c) (k : ℕ) (l : k < count (table_in c)) (n : ℕ) (columns : Columns) (a : Numbers) (from : ℕ) (e : from ≡ length (joined k (refs (table_in c))))
     (r : ℕ) (u : start_at c k ≤ r) (v : r < start_at c (k + 1)) (w : Walked (table_in c) (past_row c k r) n columns a) where
   pub row-few : n < 576
   row-few = omega (arith, w.references, past-few-references h k r l u, past-few h k l)
@@ -289,7 +288,7 @@ module _ {c : List ℕ} (h : Held c) (k : ℕ) (l : k < count (table_in c)) (n :
         next-steps h k l _ n columns a w (ref_in c k r) refl (omega arith) offset-here from e (refs_in c k (r + 1) (start_at c (k + 1)) ++ rest)
         (rw (rows_next c k r (start_at c (k + 1)) v, row-reference c k r q) at same)
 
-    pub reference-next : (columns' : List ℕ) (d : Numbers)
+    pub reference-next : (columns' : Columns) (d : Numbers)
         → columns' ≡ with_reference n (ref_in c k r) columns
         → Taken (table_in c) columns from (ref_in c k r) a d
         → Bounded d.shifts d.peels × (d.made ≤ a.made + 576)
@@ -303,10 +302,10 @@ module _ {c : List ℕ} (h : Held c) (k : ℕ) (l : k < count (table_in c)) (n :
   item-next none = rw (past_next h k l r u, row-none c k r none, append-nil (past_row c k r)) w
 
 -- the walk before its first step, and after its last
-pub walked_start : (t : Table) → Walked t [] 0 (replicate 2304 0) no_numbers
+pub walked_start : (t : Table) → Walked t [] 0 no_references no_numbers
 unfolding refs_from
 walked_start t = record {
-  sized = length-replicate {A = ℕ} 2304 0;
+  sized = record { arrays = length-replicate {A = ℕ} 576 0; stored = length-replicate {A = ℕ} 576 0; loops = length-replicate {A = ℕ} 576 0; offsets = length-replicate {A = ℕ} 576 0 };
   references = refl;
   kept = refl;
   marked = λ x i. absurd (omega arith);
@@ -320,7 +319,7 @@ walked_start t = record {
   };
 }
 
-pub walked_all : {t : Table} {n : ℕ} {columns : List ℕ} {a : Numbers} → Walked t (all_refs t) n columns a → a ≡ walked (graph t)
+pub walked_all : {t : Table} {n : ℕ} {columns : Columns} {a : Numbers} → Walked t (all_refs t) n columns a → a ≡ walked (graph t)
 unfolding steps
 walked_all w = w.numbers
 

@@ -1,5 +1,5 @@
 -- What the code's contracts cite: barriers, ground 15 and who can step, by the numbers where each processor's phases end. Assumes nothing.
-use Rattle.std.specs.Prelude.{ℕ, zero, suc, ◌+◌, ◌-◌, ◌*◌, ◌≤◌, ◌<◌, ◌≡◌, Bool, cond, List, ltb, leb, length}
+use Rattle.std.specs.Prelude.{ℕ, zero, suc, ◌+◌, ◌-◌, ◌*◌, ◌≤◌, ◌<◌, ◌≡◌, Bool, cond, Option, Some, None, List, ltb, leb}
 use Rattle.blocks.specs.Sums.{column, some, total}
 use Rattle.turns.specs.Turn.{Work, before}
 
@@ -58,13 +58,9 @@ listed_by P ends phases = total P (before_by ends phases)
 abbrev pub EndsFit : List ℕ → Type 0
 EndsFit ends = (k : ℕ) → column ends k ≤ 3200000
 
--- the sizes that the code asks for: its columns are long enough
-pub record Sized (P phases : ℕ) (counts ends : List ℕ) : Type 0 where
-  pub many : P ≤ 64
-  pub some-phase : 0 < phases
-  pub few : phases ≤ 3
-  pub counts-long : length counts ≡ 64
-  pub ends-long : length ends ≡ 192
+-- the number, if it is below n: of the lowest below n that passes a test, the one that passes, if there is one
+abbrev pub below : ℕ → ℕ → Option ℕ
+below n m = cond (ltb m n) (Some m) None
 
 -- the numbers are where the phases of w end
 pub record Ended {A : Type 0} (w : Work A) (ends : List ℕ) : Type 0 where

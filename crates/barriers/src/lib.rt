@@ -2,130 +2,126 @@
 // that a processor has come to, and who can step.
 #![tactic(auto)]
 
-ghost use Rattle.std.specs.Prelude.{◌≡◌, ◌≤◌, ◌<◌, length};
+ghost use Rattle.std.specs.Prelude.{◌≡◌, ◌≤◌, ◌<◌};
 ghost use Rattle.turns.specs.Row.{lowest};
-ghost use Rattle.barriers.specs.Code.{before_by, left_by, closed_by, phase_by, last_open_by, most_by, wrong_by, ready_by, listed_by, EndsFit, Sized};
-
-use arithmetic::wide;
+ghost use Rattle.barriers.specs.Code.{before_by, left_by, closed_by, phase_by, last_open_by, most_by, wrong_by, ready_by, listed_by, below, EndsFit};
 
 // For each phase and processor how many iterations it has up to the end of that phase: processor b's at 64 * phase + b.
 pub const ENDS: usize = 192;
 
 pub type Ends = [u32; ENDS];
 
-// How many iterations processor b has in the phases before phase n.
-pub fn before_of(ends: &Ends, n: u32, b: u32) -> u32
-    requires { (n ≤ 3) × (b < 64) × (length ends.now ≡ 192) }
-    ensures { result ≡ before_by ends.now n b }
-{
-    if n == 0 {
-        return 0;
-    }
-    ends[wide(64 * (n - 1) + b)]
+// Where the phases of so many processors end.
+#[derive(Clone, Copy)]
+pub struct Barriers<'a> {
+    pub ends: &'a Ends,
+    pub processors: u32,
+    pub phases: u32,
+    ghost sized: { (processors ≤ 64) × (0 < phases) × (phases ≤ 3) },
 }
 
-// The lowest-numbered processor with an iteration left in the phases before phase n, P if there is none.
-fn lowest_left(counts: &[u32; 64], ends: &Ends, processors: u32, n: u32) -> u32
-    requires { (processors ≤ 64) × (n ≤ 3) × (length counts.now ≡ 64) × (length ends.now ≡ 192) }
-    ensures { result ≡ lowest processors (left_by ends.now counts.now n) }
-{
-    let mut b: u32 = 0;
-    while b < processors {
-        if counts[wide(b)] < before_of(ends, n, b) {
-            return b;
+impl Barriers<'_> {
+    // How many iterations processor b has in the phases before phase n.
+    pub fn before(&self, n: u32, b: u32) -> u32
+        requires { (n ≤ 3) × (b < 64) }
+        ensures { result ≡ before_by self.now.ends.now n b }
+    {
+        if n == 0 {
+            return 0;
         }
-        b += 1;
+        self.ends[(64 * (n - 1) + b) as usize]
     }
-    b
-}
 
-// Whether the barrier before a phase is closed: some list of an earlier phase is not used up. There is none before phase 0.
-pub fn is_closed(counts: &[u32; 64], ends: &Ends, processors: u32, phase: u32) -> bool
-    requires { (processors ≤ 64) × (phase ≤ 3) × (length counts.now ≡ 64) × (length ends.now ≡ 192) }
-    ensures { result ≡ closed_by processors ends.now counts.now phase }
-{
-    if phase == 0 {
-        return false;
-    }
-    lowest_left(counts, ends, processors, phase) < processors
-}
-
-// The last phase that processor b has come to, with so many iterations done.
-pub fn phase_of(ends: &Ends, phases: u32, b: u32, done: u32) -> u32
-    requires { (0 < phases) × (phases ≤ 3) × (b < 64) × (length ends.now ≡ 192) }
-    ensures { (result ≡ phase_by ends.now phases b done) × (result < phases) }
-{
-    let mut n = phases - 1;
-    while 0 < n {
-        if before_of(ends, n, b) <= done {
-            return n;
+    // The lowest-numbered processor with an iteration left in the phases before phase n.
+    fn lowest_left(&self, counts: &[u32; 64], n: u32) -> Option<u32>
+        requires { n ≤ 3 }
+        ensures { result ≡ below self.now.processors (lowest self.now.processors (left_by self.now.ends.now counts.now n)) }
+    {
+        for b in 0..self.processors {
+            if counts[b as usize] < self.before(n, b) {
+                return Some(b);
+            }
         }
-        n -= 1;
+        None
     }
-    0
-}
 
-// The last phase whose barrier is open.
-pub fn last_open(counts: &[u32; 64], ends: &Ends, processors: u32, phases: u32) -> u32
-    requires { Sized processors phases counts.now ends.now }
-    ensures { (result ≡ last_open_by processors ends.now counts.now phases) × (result < phases) }
-{
-    let mut n = phases - 1;
-    while 0 < n {
-        if !is_closed(counts, ends, processors, n) {
-            return n;
+    // Whether the barrier before a phase is closed: some list of an earlier phase is not used up. There is none before phase 0.
+    pub fn is_closed(&self, counts: &[u32; 64], phase: u32) -> bool
+        requires { phase ≤ 3 }
+        ensures { result ≡ closed_by self.now.processors self.now.ends.now counts.now phase }
+    {
+        phase != 0 && self.lowest_left(counts, phase).is_some()
+    }
+
+    // The last phase that processor b has come to, with so many iterations done.
+    pub fn phase_of(&self, b: u32, done: u32) -> u32
+        requires { b < 64 }
+        ensures is { result ≡ phase_by self.now.ends.now self.now.phases b done }
+        ensures within { result < self.now.phases }
+    {
+        for n in (1..self.phases).rev() {
+            if self.before(n, b) <= done {
+                return n;
+            }
         }
-        n -= 1;
+        0
     }
-    0
-}
 
-// How many iterations processor b may have done, phase m being the last one whose barrier is open.
-fn most_of(ends: &Ends, processors: u32, m: u32, b: u32) -> u32
-    requires { (m < 3) × (b < 64) × (length ends.now ≡ 192) }
-    ensures { result ≡ most_by processors ends.now m b }
-{
-    if b < processors {
-        return before_of(ends, m + 1, b);
-    }
-    0
-}
-
-// Ground 15.
-pub fn wrong_state(counts: &[u32; 64], ends: &Ends, processors: u32, phases: u32) -> bool
-    requires { Sized processors phases counts.now ends.now }
-    ensures { result ≡ wrong_by processors ends.now counts.now phases }
-{
-    let m = last_open(counts, ends, processors, phases);
-    let mut b: u32 = 0;
-    while b < 64 {
-        if most_of(ends, processors, m, b) < counts[wide(b)] {
-            return true;
+    // The last phase whose barrier is open.
+    pub fn last_open(&self, counts: &[u32; 64]) -> u32
+        ensures is { result ≡ last_open_by self.now.processors self.now.ends.now counts.now self.now.phases }
+        ensures within { result < self.now.phases }
+    {
+        for n in (1..self.phases).rev() {
+            if !self.is_closed(counts, n) {
+                return n;
+            }
         }
-        b += 1;
+        0
     }
-    false
-}
 
-// The lowest-numbered processor that can step, P if there is none.
-pub fn lowest_ready(counts: &[u32; 64], ends: &Ends, processors: u32, phases: u32) -> u32
-    requires { Sized processors phases counts.now ends.now }
-    ensures { result ≡ lowest processors (ready_by processors ends.now counts.now phases) }
-{
-    let m = last_open(counts, ends, processors, phases);
-    lowest_left(counts, ends, processors, m + 1)
-}
-
-// How many iterations all lists have together.
-pub fn listed(ends: &Ends, processors: u32, phases: u32) -> u32
-    requires { (processors ≤ 64) × (0 < phases) × (phases ≤ 3) × (length ends.now ≡ 192) × EndsFit ends.now }
-    ensures { result ≡ listed_by processors ends.now phases }
-{
-    let mut sum: u32 = 0;
-    let mut b: u32 = 0;
-    while b < processors {
-        sum += before_of(ends, phases, b);
-        b += 1;
+    // How many iterations processor b may have done, phase m being the last one whose barrier is open.
+    fn most_of(&self, m: u32, b: u32) -> u32
+        requires { (m < 3) × (b < 64) }
+        ensures { result ≡ most_by self.now.processors self.now.ends.now m b }
+    {
+        if b < self.processors {
+            self.before(m + 1, b)
+        } else {
+            0
+        }
     }
-    sum
+
+    // Ground 15.
+    pub fn wrong_state(&self, counts: &[u32; 64]) -> bool
+        ensures { result ≡ wrong_by self.now.processors self.now.ends.now counts.now self.now.phases }
+    {
+        let m = self.last_open(counts);
+        for b in 0..64 {
+            if self.most_of(m, b) < counts[b as usize] {
+                return true;
+            }
+        }
+        false
+    }
+
+    // The lowest-numbered processor that can step.
+    pub fn lowest_ready(&self, counts: &[u32; 64]) -> Option<u32>
+        ensures { result ≡ below self.now.processors (lowest self.now.processors (ready_by self.now.processors self.now.ends.now counts.now self.now.phases)) }
+    {
+        let m = self.last_open(counts);
+        self.lowest_left(counts, m + 1)
+    }
+
+    // How many iterations all lists have together.
+    pub fn listed(&self) -> u32
+        requires { EndsFit self.now.ends.now }
+        ensures { result ≡ listed_by self.now.processors self.now.ends.now self.now.phases }
+    {
+        let mut sum: u32 = 0;
+        for b in 0..self.processors {
+            sum += self.before(self.phases, b);
+        }
+        sum
+    }
 }

@@ -1,5 +1,5 @@
 -- One call of a run: what it keeps, and how a row goes on past it.
-use Prim.Native.Nat.{ℕ, ◌+◌, ◌*◌, ◌≤◌, ◌<◌}
+use Prim.Native.Nat.{ℕ, ◌+◌, ◌≤◌, ◌<◌}
 use native.Mathlib.Omega.{arith}
 use native.Mathlib.Decide.{dec_lt}
 use mathlib.Core.Path.{◌≡◌, refl, sym, ap, subst, ◌∙◌}
@@ -20,7 +20,7 @@ use Rattle.turns.proofs.Reach.{turn-reachable}
 use Rattle.stepping.specs.declared.Report.{Report}
 use Rattle.stepping.specs.declared.Report.TheVariants.{Refused, Performed, Waiting, Finished}
 use Rattle.stepping.specs.Step.{report_of}
-use Rattle.steps.specs.Lent.{Phased, Lent}
+use Rattle.steps.specs.Lent.{Phased}
 use Rattle.steps.specs.Called.{called}
 use Rattle.steps.proofs.Same.{called-below, called-past}
 use Rattle.steps.specs.Leaves.{Leaves}
@@ -56,10 +56,6 @@ module _ {w : Work Iteration} {step : Step} {P : ℕ} {es xs c bs : List ℕ} (g
   -- whatever number is named
   pub phased : Phased w P es
   phased = (g.lent 0).phased
-
-  -- its lists are at its place
-  pub lent_at : (b own : ℕ) → own ≡ b → Lent w P b es xs (96 * own) c bs
-  lent_at b own e = rw e (g.lent b)
 
   module _ (b : ℕ) (cs : List ℕ) (m : List Float) (long : length m ≡ element_total (table_in c)) (r : Reachable w cs) where
     called-keeps : Reachable w (called w (table_in c) b cs m).counts × (length (called w (table_in c) b cs m).memory ≡ element_total (table_in c))

@@ -9,6 +9,7 @@ use lib.Dec.{ltb}
 use lib.ListN.{length}
 use lib.Ieee.{Float}
 use borrow.Author.Tests.{lt-ltb, le-ltb}
+use Rattle.std.specs.Prelude.{Some, None}
 use Rattle.model.specs.declared.Iteration.{Iteration}
 use Rattle.model.specs.Table.{iteration}
 use Rattle.model.specs.Bodies.{run}
@@ -20,7 +21,8 @@ use Rattle.turns.specs.Lowest.{lowest-same, lowest-holds}
 use Rattle.turns.specs.RowLaws.{memory-append, idle-append}
 use Rattle.turns.specs.Reachable.{Reachable}
 use Rattle.turns.proofs.Meaning.{turn-said}
-use Rattle.barriers.specs.Code.{ready_by, listed_by}
+use Rattle.barriers.specs.Code.{ready_by, listed_by, below}
+use Rattle.barriers.proofs.Laws.{below-some, below-none}
 use Rattle.barriers.proofs.Same.{ready-is, listed-is}
 use Rattle.stepping.specs.declared.Report.{Report}
 use Rattle.steps.specs.Called.{called}
@@ -58,34 +60,41 @@ module _ {w : Work Iteration} {step : Step} {P : ℕ} {es xs c bs : List ℕ} (g
     closing-start e r = record { reachable = r; long = e; left = refl }
 
     module _ (cs : List ℕ) (m : List Float) (n : ℕ) (y : Closing w step P c most from begun cs m n) where
-      module _ (some : 0 < n) (b : ℕ) (is : b ≡ lowest P (ready_by P es cs 2)) where
-        at : lowest P (can_step step cs m) ≡ b
-        at = sym (is ∙ lowest-can cs m y.long y.reachable)
+      module _ (some : 0 < n) (phases : ℕ) (two : phases ≡ 2) where
+        lowest-now : lowest P (can_step step cs m) ≡ lowest P (ready_by P es cs phases)
+        lowest-now = rw two (sym (lowest-can cs m y.long y.reachable))
 
-        pub closing-next : b < P → (ds : List ℕ) (o : List Float) (r : Report) → Leaves (called w (table_in c) b cs m) ds o r
-            → Closing w step P c most from begun ds o (n - 1)
+        pub closing-next : (b : ℕ) → Some b ≡ below P (lowest P (ready_by P es cs phases)) → (ds : List ℕ) (o : List Float) (r : Report)
+            → Leaves (called w (table_in c) b cs m) ds o r → Closing w step P c most from begun ds o (n - 1)
         unfolding closing
-        closing-next i ds o r h = record {
+        closing-next b found ds o r h = record {
           reachable = leaves-reachable g b cs m y.long y.reachable h;
           long = leaves-long g b cs m y.long y.reachable h;
           left = go n some ∙ y.left;
         }
           where
+            lower : (b ≡ lowest P (ready_by P es cs phases)) × (b < P)
+            lower = below-some P (lowest P (ready_by P es cs phases)) b found
+
             go : (k : ℕ) → 0 < k → memory_after step (closing step P (k - 1) ds o) ds o ≡ memory_after step (closing step P k cs m) cs m
             go zero z = absurd (omega arith)
             go (suc k) z =
                 let one : suc k - 1 ≡ k = omega arith in
+                let at : lowest P (can_step step cs m) ≡ b = lowest-now ∙ sym lower.0 in
                 let first : closing step P (suc k) cs m ≡ b ∷ closing step P k ds o =
-                rw (at, lt-ltb b P i, g.calls b cs m y.long y.reachable, h.counts-are, h.memory-is) in
+                rw (at, lt-ltb b P lower.1, g.calls b cs m y.long y.reachable, h.counts-are, h.memory-is) in
                 rw one (sym (ap (λ (l : List ℕ). memory_after step l cs m) first ∙ then-memory g b cs m y.long y.reachable h (closing step P k ds o)))
 
-        pub closing-stop : P ≤ b → m ≡ memory_after step (closing step P most from begun) from begun
+        pub closing-stop : None ≡ below P (lowest P (ready_by P es cs phases)) → m ≡ memory_after step (closing step P most from begun) from begun
         unfolding closing memory_after
-        closing-stop i = go n some ∙ y.left
+        closing-stop none = go n some ∙ y.left
           where
+            past : P ≤ lowest P (can_step step cs m)
+            past = rw lowest-now (below-none P (lowest P (ready_by P es cs phases)) none)
+
             go : (k : ℕ) → 0 < k → m ≡ memory_after step (closing step P k cs m) cs m
             go zero z = absurd (omega arith)
-            go (suc k) z = rw (at, le-ltb b P i)
+            go (suc k) z = rw (le-ltb (lowest P (can_step step cs m)) P past)
 
       pub closing_end : n ≤ 0 → m ≡ memory_after step (closing step P most from begun) from begun
       unfolding closing memory_after

@@ -1,14 +1,14 @@
 -- What a run of an accepted plan leaves, and what a refused one does.
 use Prim.Native.Nat.{ℕ, ◌*◌, ◌≤◌, ◌<◌}
 use native.Mathlib.Omega.{arith}
-use mathlib.Core.Path.{◌≡◌, refl, sym, ap, ◌∙◌}
+use mathlib.Core.Path.{◌≡◌, refl, ap, ◌∙◌}
 use mathlib.Core.List.{List}
 use lib.ListN.{length}
 use lib.Ieee.{Float}
+use Rattle.std.specs.Prelude.{Ok, Err}
 use Rattle.refusals.specs.declared.Refusal.{Refusal}
-use Rattle.refusals.specs.Refusals.{met, none}
-use Rattle.refusals.specs.Answers.{accepted, refused, refusal_of}
-use Rattle.refusals.proofs.AnswerLaws.{told-refused}
+use Rattle.refusals.specs.Refusals.{met}
+use Rattle.refusals.specs.Answers.{accepted, refused}
 use Rattle.reader.specs.Store.{table_in}
 use Rattle.blocks.specs.declared.Axis.{Axis}
 use Rattle.iterations.specs.Memory.{element_total, remembered}
@@ -53,24 +53,24 @@ module _ (a : Axis) (c : List ℕ) (h : Laid a c) (es xs bs : List ℕ) (loaded 
 
 -- THE RUN
 module _ (s : List ℕ) (w : Settings) (order : List ℕ) (m : List Float) where
-  run-refused : (r : Refusal) → run_answer s w (length m) ≡ refused r → Runs s w order m (record { refusal = r; idle = 0 }) m
-  unfolding run_memory run_idle
-  run-refused r e = record { tells = rw e refl; memory-is = rw e refl; idle-is = rw e refl }
+  run-refused : (r : Refusal) → run_answer s w (length m) ≡ refused r → Runs s w order m (Err r) m
+  unfolding run_memory
+  run-refused r e = record { tells = rw e refl; memory-is = rw e refl }
 
   -- 1 to 11
-  pub runs-refused : (r : Refusal) → r ≡ refusal_of (planned s w) → (r.ground ≡ 0 → ⊥) → Runs s w order m (record { refusal = r; idle = 0 }) m
+  pub runs-refused : (r : Refusal) → planned s w ≡ refused r → Runs s w order m (Err r) m
   unfolding remembered
-  runs-refused r h some = run-refused r (ap (remembered elements (length m)) (told-refused (planned s w) r h some))
+  runs-refused r e = run-refused r (ap (remembered elements (length m)) e)
 
   module _ (q : Planned) (planned-is : planned s w ≡ accepted q) where
     -- 12
-    pub runs-unlike : (length m ≡ element_total q.table → ⊥) → Runs s w order m (record { refusal = met 12 0; idle = 0 }) m
+    pub runs-unlike : (length m ≡ element_total q.table → ⊥) → Runs s w order m (Err (met 12 0)) m
     runs-unlike n = run-refused (met 12 0) (ap (remembered elements (length m)) planned-is ∙ remembered-unlike elements (length m) q n)
 
     pub runs-made : length m ≡ element_total q.table → (left : List Float) (n : ℕ) → Rowed (work_of q) (step s w) q.plan.processors order m left n
-        → Runs s w order m (record { refusal = none; idle = n }) left
+        → Runs s w order m (Ok n) left
     unfolding run_memory run_idle
-    runs-made long left n h = record { tells = sym (ap refusal_of f); memory-is = rw f h.memory-is; idle-is = rw f h.idle-is }
+    runs-made long left n h = record { tells = rw f (ap Ok h.idle-is); memory-is = rw f h.memory-is }
       where
         f : run_answer s w (length m) ≡ accepted q
         f = ap (remembered elements (length m)) planned-is ∙ remembered-as-long elements (length m) q long

@@ -6,6 +6,7 @@ use Rattle.iterations.specs.Memory.{element_total}
 use Rattle.turns.specs.Turn.{Work, After}
 use Rattle.turns.specs.Row.{none_done, reports, counts_after, memory_after, idle, listed, row_of}
 use Rattle.turns.specs.Reachable.{Reachable}
+use Rattle.steps.specs.declared.Layout.{Layout}
 use Rattle.steps.specs.Lent.{Lent}
 use Rattle.steps.specs.Called.{called}
 
@@ -17,6 +18,10 @@ Step = ℕ → List ℕ → List Float → After Iteration (List Float)
 pub record Calling (w : Work Iteration) (step : Step) (P : ℕ) (ends xs c bs : List ℕ) : Type 0 where
   pub lent : (b : ℕ) → Lent w P b ends xs (96 * b) c bs
   pub calls : (b : ℕ) (cs : List ℕ) (m : List Float) → length m ≡ element_total (table_in c) → Reachable w cs → step b cs m ≡ called w (table_in c) b cs m
+
+-- as the code keeps it: in a layout
+abbrev pub CallingIn : Work Iteration → Step → Layout → Type 0
+CallingIn w step l = Calling w step l.barriers.now.processors l.barriers.now.ends.now l.lists.now l.store.now l.bases.now
 
 -- what the calls of an order leave, from counts of 0 and the memory m
 pub record Ordered (w : Work Iteration) (step : Step) (c order : List ℕ) (m : List Float) (counts : List ℕ) (left : List Float) (n : ℕ) : Type 0 where

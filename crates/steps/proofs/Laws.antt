@@ -7,8 +7,8 @@ use lib.ListN.{length}
 use lib.Ieee.{Float}
 use Rattle.model.specs.declared.Iteration.{Iteration}
 use Rattle.refusals.specs.Refusals.{met}
-use Rattle.refusals.specs.Answers.{accepted}
-use Rattle.refusals.proofs.AnswerLaws.{told-refused}
+use Rattle.refusals.specs.Answers.{accepted, refused}
+use Rattle.refusals.specs.declared.Refusal.{Refusal}
 use Rattle.reader.specs.Store.{table_in}
 use Rattle.blocks.specs.declared.Axis.{Axis}
 use Rattle.iterations.specs.Memory.{element_total, remembered}
@@ -16,9 +16,8 @@ use Rattle.iterations.specs.MemoryLaws.{remembered-as-long, remembered-unlike}
 use Rattle.turns.specs.Turn.{After, stepped, wrong_state}
 use Rattle.barriers.specs.Code.{Ended, wrong_by}
 use Rattle.barriers.proofs.Same.{wrong-by-open}
-use Rattle.plans.specs.declared.Plan.{Plan}
 use Rattle.plans.specs.Plans.{Settings, planned_for}
-use Rattle.plans.specs.Code.{planned_in, Laid, Plans}
+use Rattle.plans.specs.Code.{planned_in, Made, Laid}
 use Rattle.plans.proofs.CodeLaws.{named-made, made-laid}
 use Rattle.plans.proofs.Accepted.{named-accepts}
 use Rattle.layouts.specs.Layout.{work_in}
@@ -60,19 +59,18 @@ module _ (a : Axis) (c : List ℕ) (b : ℕ) (cs : List ℕ) (m : List Float) wh
         rw (remembered-as-long elements (length m) (planned_in a c) long, wrong ∙ e) (rw (called-below (work_in a c) (table_in c) b cs m proper) at l)
 
 -- A STEP FROM BYTES
-module _ (s : List ℕ) (w : Settings) (b : ℕ) (p : Plan) (c : List ℕ) (h : Plans (planned_for s w b) p c) (k : Counts) (m : List Float) where
-  pub steps-refused : (p.refusal.ground ≡ 0 → ⊥) → Leaves (step s w b k.done m) k.done m (Refused p.refusal)
+module _ (s : List ℕ) (w : Settings) (b : ℕ) (k : Counts) (m : List Float) where
+  pub steps-refused : (r : Refusal) → planned_for s w b ≡ refused r → Leaves (step s w b k.done m) k.done m (Refused r)
   unfolding step stepped_by remembered
-  steps-refused some = rw (told-refused (planned_for s w b) p.refusal h.tells some) (record { counts-are = refl; memory-is = refl; report-is = refl })
+  steps-refused r e = rw e (record { counts-are = refl; memory-is = refl; report-is = refl })
 
-  module _ (nothing : p.refusal.ground ≡ 0) where
-    pub laid-named : Laid p.axis c × (b < p.axis.blocks)
+  module _ (a : Axis) (c : List ℕ) (made : Made (planned_for s w b) a c) where
+    pub laid-named : Laid a c × (b < a.blocks)
     laid-named =
-        let made = h.made nothing in
-        let (e, l) = named-accepts s w b (planned_in p.axis c) made.is in
-        (made-laid s w p c (named-made s w b p c made), l)
+        let (e, l) = named-accepts s w b (planned_in a c) made.is in
+        (made-laid s w a c (named-made s w b a c made), l)
 
-    pub steps-made : (r : Stepped) (left : List Float) → Leaves (outcome p.axis c b k.done m) r.counts.done left r.report
+    pub steps-made : (r : Stepped) (left : List Float) → Leaves (outcome a c b k.done m) r.counts.done left r.report
         → Leaves (step s w b k.done m) r.counts.done left r.report
     unfolding step
-    steps-made r left l = rw (h.made nothing).is l
+    steps-made r left l = rw made.is l

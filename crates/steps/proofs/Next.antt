@@ -76,11 +76,10 @@ module _ {w : Work Iteration} {P b : ℕ} {es xs : List ℕ} {at : ℕ} {c : Lis
       rw (← come, opens false e, lt-ltb done (before w (suc n) b) (omega (arith, late)), z)
 
   -- as the code finds it
-  module _ (place loops m : ℕ) (at-phase : place ≡ at + 48 * n) (loops-are : loops ≡ loops_in c) (m-is : m ≡ done - before_by es n b)
-      (more : done < before_by es (n + 1) b) where
-    pub nth-asks : (loops ≤ 16) × (place + 48 ≤ length xs) × (m < length (list_of xs place loops n))
-    nth-asks = (omega (arith, h.few-loops), omega (arith, h.room), rw (at-phase, loops-are, m-is) (asks more))
+  module _ (loops m : ℕ) (loops-are : loops ≡ loops_in c) (m-is : m ≡ done - before_by es n b) (more : done < before_by es (n + 1) b) where
+    pub nth-asks : (loops ≤ 16) × (at + 48 * n + 48 ≤ length xs) × (m < length (list_of xs (at + 48 * n) loops n))
+    nth-asks = (omega (arith, h.few-loops), omega (arith, h.room), rw (loops-are, m-is) (asks more))
 
-    pub nth-says : false ≡ closed_by P es cs n → (x : Iteration) → x ≡ get_or (list_of xs place loops n) m (iteration 0 0)
+    pub nth-says : false ≡ closed_by P es cs n → (x : Iteration) → x ≡ get_or (list_of xs (at + 48 * n) loops n) m (iteration 0 0)
         → Performed x.number x.index ≡ report_of (next (iteration 0 0) w b cs)
-    nth-says e x q = says-performs e more x (rw (at-phase, loops-are, m-is) at q)
+    nth-says e x q = says-performs e more x (rw (loops-are, m-is) at q)

@@ -9,6 +9,7 @@ use Rattle.turns.specs.Turn.{Work}
 use Rattle.barriers.specs.Code.{Ended}
 use Rattle.iterations.specs.Loaded.{Loaded}
 use Rattle.ranges.specs.Code.{list_of}
+use Rattle.steps.specs.declared.Layout.{Layout}
 
 -- the numbers say where both phases of w end, for P processors
 pub record Phased (w : Work Iteration) (P : ℕ) (ends : List ℕ) : Type 0 where
@@ -30,3 +31,14 @@ pub record Lent (w : Work Iteration) (P b : ℕ) (ends xs : List ℕ) (at : ℕ)
   pub phased : Phased w P ends
   pub listed : b < P → Listed w b xs at c
   pub loaded : Loaded (table_in c) c bs
+
+-- as the code keeps it: P, the ends, the lists, the store and where the arrays begin are those of a layout
+module _ (w : Work Iteration) where
+  abbrev pub PhasedIn : Layout → Type 0
+  PhasedIn l = Phased w l.barriers.now.processors l.barriers.now.ends.now
+
+  abbrev pub ListedIn : ℕ → Layout → ℕ → Type 0
+  ListedIn b l at = Listed w b l.lists.now at l.store.now
+
+  abbrev pub LentIn : ℕ → Layout → ℕ → Type 0
+  LentIn b l at = Lent w l.barriers.now.processors b l.barriers.now.ends.now l.lists.now at l.store.now l.bases.now

@@ -11,13 +11,11 @@ ghost use Rattle.turns.specs.Turn as turns;
 ghost use Rattle.turns.specs.Turn.{Work};
 ghost use Rattle.plans.specs.Code.{Laid, planned_in};
 ghost use Rattle.stepping.specs.Step.{report_of, elements, stepped_by, step};
-ghost use Rattle.steps.specs.Lent.{Phased, Listed, Lent};
 ghost use Rattle.steps.specs.Called.{called};
 ghost use Rattle.steps.specs.Leaves.{Leaves};
 ghost use Rattle.steps.specs.Refusing.{refusing};
 
-use arithmetic::wide;
-use barriers::{ENDS, Ends};
+use barriers::{Barriers, ENDS};
 use blocks::Axis;
 use layouts::LISTS;
 use plans::Settings;
@@ -39,38 +37,47 @@ pub struct Stepped {
     pub report: Report,
 }
 
-// What processor b's next call reports. Its lists stand from `at` on, and `ends` says where all phases end.
-fn next_of(
-    counts: &[u32; 64],
-    b: u32,
-    processors: u32,
-    ends: &Ends,
-    lists: &[u32],
-    at: usize,
-    store: &Store,
-) -> Report
-    requires { ((w : Work Iteration) × Phased w processors ends.now × Listed w b lists.now at store.now) × (b < processors) × (length counts.now ≡ 64) }
-    ensures { (w : Work Iteration) → Phased w processors ends.now → Listed w b lists.now at store.now → result ≡ report_of (turns.next (iteration 0 0) w b counts.now) }
-{
-    let done = counts[wide(b)];
-    let phase = barriers::phase_of(ends, PHASES, b, done);
-    if barriers::is_closed(counts, ends, processors, phase) {
-        return Report::Waiting;
-    }
-    if barriers::before_of(ends, phase + 1, b) <= done {
-        return Report::Finished;
-    }
-    let loops = reader::loops_in(store);
-    let place = at + PHASE * wide(phase);
-    let n = done - barriers::before_of(ends, phase, b);
-    let x = ranges::nth_of(phase, loops, lists, place, wide(n));
-    Report::Performed {
-        number: x.number,
-        index: x.index,
+// A plan that is laid out, for all steps of a run: where its phases end, the lists of its processors, and its table with where each array begins.
+#[derive(Clone, Copy)]
+pub struct Layout<'a> {
+    pub barriers: &'a Barriers<'a>,
+    pub lists: &'a [u32],
+    pub store: &'a Store,
+    pub bases: &'a [u32; 17],
+    ghost in_two_phases: { barriers.now.phases ≡ 2 },
+}
+
+impl Layout<'_> {
+    ghost use Rattle.steps.specs.Lent.{PhasedIn, ListedIn};
+
+    // What processor b's next call reports. Its lists stand from `at` on.
+    fn next_of(&self, counts: &[u32; 64], b: u32, at: usize) -> Report
+        requires { ((w : Work Iteration) × PhasedIn w self.now × ListedIn w b self.now at) × (b < self.now.barriers.now.processors) }
+        ensures { (w : Work Iteration) → PhasedIn w self.now → ListedIn w b self.now at → result ≡ report_of (turns.next (iteration 0 0) w b counts.now) }
+    {
+        let barriers = self.barriers;
+        let done = counts[b as usize];
+        let phase = barriers.phase_of(b, done);
+        if barriers.is_closed(counts, phase) {
+            return Report::Waiting;
+        }
+        if barriers.before(phase + 1, b) <= done {
+            return Report::Finished;
+        }
+        let loops = reader::loops_in(self.store);
+        let place = at + PHASE * phase as usize;
+        let n = done - barriers.before(phase, b);
+        let x = ranges::nth_of(phase, loops, self.lists, place, n as usize);
+        Report::Performed {
+            number: x.number,
+            index: x.index,
+        }
     }
 }
 
 impl Counts {
+    ghost use Rattle.steps.specs.Lent.{LentIn};
+
     // A refused call hands back the counts as found.
     fn refused(self, r: Refusal) -> Stepped
         ensures { result ≡ refusing self r }
@@ -83,27 +90,17 @@ impl Counts {
 
     // One step of a plan that is laid out, whatever number b it names: 10 if that is not below P, else what processor b reports, performed.
     // The public step makes it, and so does every call of a run.
-    pub fn step_laid(
-        mut self,
-        b: u32,
-        processors: u32,
-        ends: &Ends,
-        lists: &[u32],
-        at: usize,
-        store: &Store,
-        bases: &[u32; 17],
-        memory: &mut [f64],
-    ) -> Stepped
-        requires { ((w : Work Iteration) × Lent w processors b ends.now lists.now at store.now bases.now) × (length memory.old ≡ element_total (table_in store.now)) }
-        ensures { (w : Work Iteration) → Lent w processors b ends.now lists.now at store.now bases.now → Leaves (called w (table_in store.now) b self.done memory.old) result.counts.done memory.new result.report }
+    pub fn step_laid(mut self, layout: &Layout, b: u32, at: usize, memory: &mut [f64]) -> Stepped
+        requires { ((w : Work Iteration) × LentIn w b layout.now at) × (length memory.old ≡ element_total (table_in layout.now.store.now)) }
+        ensures { (w : Work Iteration) → LentIn w b layout.now at → Leaves (called w (table_in layout.now.store.now) b self.done memory.old) result.counts.done memory.new result.report }
     {
-        if processors <= b {
+        if layout.barriers.processors <= b {
             return self.refused(Refusal::met(Ground::Processors, 0));
         }
-        let report = next_of(&self.done, b, processors, ends, lists, at, store);
+        let report = layout.next_of(&self.done, b, at);
         if let Report::Performed { number, index } = report {
-            iterations::iterate(store, bases, number, index, memory);
-            self.done[wide(b)] += 1;
+            iterations::iterate(layout.store, layout.bases, number, index, memory);
+            self.done[b as usize] += 1;
         }
         Stepped {
             counts: self,
@@ -116,19 +113,29 @@ impl Counts {
         requires { Laid a store.now × (b < a.blocks) }
         ensures { Leaves (stepped_by b self.done memory.old (remembered elements (length memory.old) (accepted (planned_in a store.now)))) result.counts.done memory.new result.report }
     {
-        let bases = iterations::bases_of(store);
-        let firsts = bases.firsts;
-        if memory.len() != wide(firsts[16]) {
+        let bases = iterations::bases_of(store).firsts;
+        if memory.len() != bases[16] as usize {
             return self.refused(Refusal::met(Ground::Memory, 0));
         }
         let mut ends = [0u32; ENDS];
         layouts::put_ends(a, store, &mut ends);
-        if barriers::wrong_state(&self.done, &ends, a.blocks, PHASES) {
+        let barriers = Barriers {
+            ends: &ends,
+            processors: a.blocks,
+            phases: PHASES,
+        };
+        if barriers.wrong_state(&self.done) {
             return self.refused(Refusal::met(Ground::State, 0));
         }
         let mut lists = [0u32; LISTS];
         layouts::put_lists(a, b, store, &mut lists[..], 0);
-        self.step_laid(b, a.blocks, &ends, &lists[..], 0, store, &firsts, memory)
+        let layout = Layout {
+            barriers: &barriers,
+            lists: &lists[..],
+            store,
+            bases: &bases,
+        };
+        self.step_laid(&layout, b, 0, memory)
     }
 
     // One step of a processor.
@@ -136,12 +143,9 @@ impl Counts {
         ensures { Leaves (step s.now w processor self.done memory.old) result.counts.done memory.new result.report }
     {
         let mut store = [0u32; STORE];
-        let p = plans::plan_for(s, w, processor, &mut store);
-        let r = p.refusal;
-        if r.ground != 0 {
-            return self.refused(r);
+        match plans::plan_for(s, w, processor, &mut store) {
+            Ok(a) => self.step_planned(a, processor, &store, memory),
+            Err(r) => self.refused(r),
         }
-        let a = p.axis;
-        self.step_planned(a, processor, &store, memory)
     }
 }

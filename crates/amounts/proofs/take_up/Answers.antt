@@ -5,20 +5,15 @@ use Rattle.amounts.proofs.Laws.{taken-touching, taken-apart}
 use Rattle.amounts.proofs.take_up.Goals as goal
 
 -- `take_up` meets its contract: a pair that can make a dependence raises what it requires, any other leaves the numbers.
-pub raise-requires : goal.raise-requires
-raise-requires c =
-    let p = c.requires in
-    rw c.reference_in-e.ensures
-    record { held = (p.held.0, p.held.2.fits, p.held.2.later); number_lt_number = (p.held.2.earlier, sym c.touches.ensures ∙ c.if-touches.true, p.bounded.0) }
-
 pub returns-then-touches : goal.returns-then-touches
 returns-then-touches c =
     let a = c.args in
-    rw (← c.reference_in-e.ensures)
-    (taken-touching (table_in a.store.now) _ a.y a.shifts.now a.peels.now _ _ a.made.now (c.raise.ensures.shifts_after, c.raise.ensures.peels_after))
+    let t = a.amounts.now in
+    rw (← c.reference_at.ensures)
+    (taken-touching (table_in a.store.now) _ a.y t.shifts t.peels _ _ a.made (c.raise.ensures.shifts_after, c.raise.ensures.peels_after))
 
 pub returns-else-touches : goal.returns-else-touches
 returns-else-touches c =
     let a = c.args in
-    taken-apart (table_in a.store.now) (ref_at a.columns.now a.x) a.y a.shifts.now a.peels.now a.made.now
-    (sym c.touches.ensures ∙ c.if-touches.false)
+    let t = a.amounts.now in
+    taken-apart (table_in a.store.now) (ref_at a.columns.now a.x) a.y t.shifts t.peels a.made (sym c.touches.ensures ∙ c.if-touches.false)

@@ -1,4 +1,3 @@
-use Prim.Native.Nat.{◌≤◌, ◌-◌}
 use mathlib.Core.Path.{◌≡◌}
 use Rattle.chains.specs.Maximum.{maximum_below}
 use Rattle.chains.specs.Threshold.{sum_at}
@@ -6,7 +5,4 @@ use Rattle.amounts.proofs.threshold_of.Given as goal
 
 -- `threshold_of` meets its contract. The invariant: t is the largest sum of the loops below k.
 abbrev pub invariant-loop-k : goal.invariant-loop-k
-invariant-loop-k l = (l.k ≤ 16) × (l.t ≡ maximum_below l.k (sum_at l.a.shifts l.a.peels))
-
-abbrev pub decreases-loop-k : goal.decreases-loop-k
-decreases-loop-k l = 16 - l.k
+invariant-loop-k l = l.t ≡ maximum_below l.k (sum_at l.a.shifts l.a.peels)

@@ -1,12 +1,12 @@
-use native.Mathlib.Omega.{arith}
+use Prim.Native.Nat.{ℕ}
+use mathlib.Core.Path.{ap, ◌∙◌}
+use Rattle.barriers.specs.Code.{listed_by}
 use Rattle.running.proofs.Calls.{phased}
 use Rattle.running.proofs.Closing.{rowed}
 use Rattle.running.proofs.run_row.Goals as goal
 
-pub listed-most-requires : goal.listed-most-requires
-listed-most-requires c =
-    let h = phased c.requires.0.1.1 in
-    (h.few, omega arith, omega arith, h.ends-long, h.ended.small)
+pub listed-requires : goal.listed-requires
+listed-requires c = (phased c.requires.0.1.1).ended.small
 
 pub close-requires : goal.close-requires
 close-requires c =
@@ -19,6 +19,6 @@ close-requires c =
 
 pub returns : goal.returns
 returns c =
-    let x = c.listed-most in
-    let t = c.take_order-taken in
-    λ w step g. let o = t.ensures w step g in rowed g o x.result x.ensures (c.close.ensures w step g o.reachable)
+    let b = c.args.layout.now.barriers.now in
+    let most = c.listed.ensures ∙ ap (λ (n : ℕ). listed_by b.processors b.ends.now n) c.args.layout.now.in_two_phases in
+    λ w step g. let o = c.take_order-taken.ensures w step g in rowed g o c.listed.result most (c.close.ensures w step g o.reachable)

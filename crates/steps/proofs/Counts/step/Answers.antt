@@ -1,25 +1,18 @@
 use Rattle.steps.proofs.Laws.{steps-refused, laid-named, steps-made}
 use Rattle.steps.proofs.Counts.step.Goals as goal
 
-pub returns-then-r-ne0 : goal.returns-then-r-ne0
-returns-then-r-ne0 c =
-    let x = c.plan_for-p in
-    let a = c.args in
-    rw c.refused.ensures
-    (steps-refused a.s.now a.w a.processor x.result x.new.store x.ensures a.self
-    a.memory.now c.if-r-ne0.true)
-
 pub step_planned-requires : goal.step_planned-requires
 step_planned-requires c =
-    let x = c.plan_for-p in
     let a = c.args in
-    laid-named a.s.now a.w a.processor x.result x.new.store x.ensures a.self
-    a.memory.now c.if-r-ne0.false
+    laid-named a.s.now a.w a.processor a.self a.memory.now c.in-Ok.a _ c.in-Ok.ensures
 
-pub returns : goal.returns
-returns c =
-    let y = c.step_planned in
-    let x = c.plan_for-p in
+pub returns-in-Ok : goal.returns-in-Ok
+returns-in-Ok c =
     let a = c.args in
-    steps-made a.s.now a.w a.processor x.result x.new.store x.ensures a.self
-    a.memory.now c.if-r-ne0.false y.result _ y.ensures
+    let y = c.step_planned in
+    steps-made a.s.now a.w a.processor a.self a.memory.now c.in-Ok.a _ c.in-Ok.ensures y.result _ y.ensures
+
+pub returns-in-Err : goal.returns-in-Err
+returns-in-Err c =
+    let a = c.args in
+    rw c.refused.ensures (steps-refused a.s.now a.w a.processor a.self a.memory.now c.in-Err.r c.in-Err.ensures)
