@@ -307,6 +307,7 @@ fn passing(r: Record, n: usize) -> Tested
 }
 
 // The record at a place and the place after it, or the ground that it meets; the arrays' lengths are lent.
+#[tactic(auto, unfolding(records::specs::Grounds::ground, records::specs::Bytes::record_at))]
 fn record_at(s: &[u8], at: usize, t: Summary, lens: &Store) -> Result<(Record, usize), Ground>
     requires { t.arrays ≤ 16 }
     ensures met { number_met result ≡ ground s.now at t lens.now }
