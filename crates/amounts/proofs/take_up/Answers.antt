@@ -10,10 +10,10 @@ returns-then-touches c =
     let a = c.args in
     let t = a.amounts.now in
     rw (← c.reference_at.ensures)
-    (taken-touching (table_in a.store.now) _ a.y t.shifts t.peels _ _ a.made (c.raise.ensures.shifts_after, c.raise.ensures.peels_after))
+    (taken-touching (table_in a.store.now) _ a.y t.shifts t.peels _ _ a.made.now (c.raise.ensures.shifts_after, c.raise.ensures.peels_after))
 
 pub returns-else-touches : goal.returns-else-touches
 returns-else-touches c =
     let a = c.args in
     let t = a.amounts.now in
-    taken-apart (table_in a.store.now) (ref_at a.columns.now a.x) a.y t.shifts t.peels a.made (sym c.touches.ensures ∙ c.if-touches.false)
+    taken-apart (table_in a.store.now) (ref_at a.columns.now a.x) a.y t.shifts t.peels a.made.now (sym c.touches.ensures ∙ c.if-touches.false)

@@ -21,4 +21,4 @@ returns c =
     let p = c.requires.held in
     let some = start-in p.0 a.k p.1 in
     let all : l.r ≡ start_at a.store.now (a.k + 1) = omega (arith, l.auto.r-end (omega (arith, some))) in
-    rw (← (past_end p.0 a.k p.1)) (subst (λ (m : ℕ). WalkedTo (table_in a.store.now) (past_row a.store.now a.k m) l.walk) all l.invariant)
+    rw (← (past_end p.0 a.k p.1)) (subst (λ (m : ℕ). WalkedTo (table_in a.store.now) (past_row a.store.now a.k m) l.walk l.made) all l.invariant)

@@ -12,7 +12,7 @@ take_later-requires c =
     let a = c.args in
     let p = c.requires in
     let w = a.walk.now in
-    let n = numbers_of w.totals in
+    let n = numbers_of w.amounts a.made.now in
     let q : kind_at a.store.now a.r < 2 = ltb-true _ 2 (sym c.is_reference.ensures ∙ c.if-is_reference.true) in
     rw c.reference_at.ensures record {
       held = (
@@ -36,7 +36,7 @@ returns-then-is_reference c =
     let columns_after = rw c.reference_at.ensures at c.take_later.ensures.columns_after in
     let taken = rw c.reference_at.ensures at c.take_later.ensures.taken in
     rw c.take_later.ensures.references_after
-    (reference-next p.held.0 a.k p.held.1 w.references w.columns (numbers_of w.totals) a.from p.held.2 a.r p.k_bound.0 p.k_bound.1 p.walked q _ _
+    (reference-next p.held.0 a.k p.held.1 w.references w.columns (numbers_of w.amounts a.made.now) a.from p.held.2 a.r p.k_bound.0 p.k_bound.1 p.walked q _ _
     columns_after taken c.take_later.ensures.bounded_2)
 
 pub returns-else-is_reference : goal.returns-else-is_reference
@@ -44,5 +44,5 @@ returns-else-is_reference c =
     let a = c.args in
     let p = c.requires in
     let w = a.walk.now in
-    item-next p.held.0 a.k p.held.1 w.references w.columns (numbers_of w.totals) a.from p.held.2 a.r p.k_bound.0 p.k_bound.1 p.walked
+    item-next p.held.0 a.k p.held.1 w.references w.columns (numbers_of w.amounts a.made.now) a.from p.held.2 a.r p.k_bound.0 p.k_bound.1 p.walked
     (ltb-false _ 2 (sym c.is_reference.ensures ∙ c.if-is_reference.false))
