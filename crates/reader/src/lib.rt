@@ -167,6 +167,7 @@ pub fn last_destination(store: &Store, k: usize) -> usize
 }
 
 // One row more: loop k begins past it.
+#[tactic(auto, unfolding(crate::specs::Store::with_row))]
 fn put_row(k: usize, r: usize, kind: RowKind, q: u32, v: u32, store: &mut Store) -> usize
     requires { (k < 17) × (r < 576) × (q < 16) }
     ensures value { result ≡ r + 1 }
@@ -179,6 +180,7 @@ fn put_row(k: usize, r: usize, kind: RowKind, q: u32, v: u32, store: &mut Store)
     r + 1
 }
 
+#[tactic(auto, unfolding(crate::specs::Store::with_bounds))]
 fn put_bounds(k: usize, first: u32, last: u32, store: &mut Store)
     requires { k < 16 }
     ensures { store.new ≡ with_bounds k first last store.old }
@@ -187,6 +189,7 @@ fn put_bounds(k: usize, first: u32, last: u32, store: &mut Store)
     store[LASTS_AT + k] = last;
 }
 
+#[tactic(auto, unfolding(crate::specs::Store::with_counts))]
 fn put_counts(arrays: u32, loops: u32, store: &mut Store)
     ensures { store.new ≡ with_counts arrays loops store.old }
 {
@@ -195,6 +198,7 @@ fn put_counts(arrays: u32, loops: u32, store: &mut Store)
 }
 
 // Stores a record that met no ground, in row r; answers how many rows there are then.
+#[tactic(auto, unfolding(crate::specs::Store::kept, crate::specs::Store::rows_after))]
 fn keep(x: Record, t: Summary, r: usize, store: &mut Store) -> usize
     requires room { Room x t }
     requires places { Places t r × (rows_after x r ≤ 576) × ArrayFits x }
@@ -203,10 +207,9 @@ fn keep(x: Record, t: Summary, r: usize, store: &mut Store) -> usize
 {
     let k = t.loops as usize;
     match x {
-        Record::Unknown => r,
+        Record::Unknown | Record::End => r,
         Record::Array(n) => {
-            let at = t.arrays as usize;
-            store[at] = n;
+            store[t.arrays as usize] = n;
             r
         }
         Record::Loop {
@@ -221,7 +224,6 @@ fn keep(x: Record, t: Summary, r: usize, store: &mut Store) -> usize
         Record::Read { array, offset } => put_row(k, r, RowKind::Read, array, offset, store),
         Record::Constant(n) => put_row(k, r, RowKind::Constant, 0, n, store),
         Record::Operation(o) => put_row(k, r, RowKind::Operation, 0, o, store),
-        Record::End => r,
         Record::Statement { array, offset } => put_row(
             k,
             r,
