@@ -8,7 +8,7 @@ ghost use Rattle.records.specs.Grounds.{early, edge, fields, passed, tested};
 ghost use Rattle.records.specs.Clear.{span_of};
 
 use arithmetic::wide;
-use records::{Kind, Record, Store, Summary, Tested};
+use records::{Kind, MOST_ARRAYS, Record, Summary, Tested};
 use refusals::Refusal;
 
 // The grounds that a record can meet, by their numbers.
@@ -212,7 +212,7 @@ fn edge_ground(first: u32, last: u32, o: u32, n: u32) -> u32
     }
 }
 
-fn array_tests(n: u32, t: Summary, lens: &Store) -> u32
+fn array_tests(n: u32, t: Summary, lens: &[u32; MOST_ARRAYS]) -> u32
     ensures { result ≡ fields (Record.Array n) t lens.now }
 {
     if n == 0 {
@@ -228,7 +228,7 @@ fn array_tests(n: u32, t: Summary, lens: &Store) -> u32
     }
 }
 
-fn loop_tests(first: u32, last: u32, q: u32, o: u32, t: Summary, lens: &Store) -> u32
+fn loop_tests(first: u32, last: u32, q: u32, o: u32, t: Summary, lens: &[u32; MOST_ARRAYS]) -> u32
     requires { t.arrays ≤ 16 }
     ensures { result ≡ fields (Record.Loop first last q o) t lens.now }
 {
@@ -248,7 +248,7 @@ fn loop_tests(first: u32, last: u32, q: u32, o: u32, t: Summary, lens: &Store) -
     edge_ground(first, last, o, lens[at])
 }
 
-fn read_tests(q: u32, o: u32, t: Summary, lens: &Store) -> u32
+fn read_tests(q: u32, o: u32, t: Summary, lens: &[u32; MOST_ARRAYS]) -> u32
     requires { t.arrays ≤ 16 }
     ensures { result ≡ fields (Record.Read q o) t lens.now }
 {
@@ -265,13 +265,13 @@ fn read_tests(q: u32, o: u32, t: Summary, lens: &Store) -> u32
     edge_ground(t.first, t.last, o, lens[at])
 }
 
-fn constant_tests(n: u32, t: Summary, lens: &Store) -> u32
+fn constant_tests(n: u32, t: Summary, lens: &[u32; MOST_ARRAYS]) -> u32
     ensures { result ≡ fields (Record.Constant n) t lens.now }
 {
     if 8 <= t.waiting { BODY } else { 0 }
 }
 
-fn operation_tests(o: u32, t: Summary, lens: &Store) -> u32
+fn operation_tests(o: u32, t: Summary, lens: &[u32; MOST_ARRAYS]) -> u32
     ensures { result ≡ fields (Record.Operation o) t lens.now }
 {
     if o == 0 {
@@ -284,7 +284,7 @@ fn operation_tests(o: u32, t: Summary, lens: &Store) -> u32
     if t.waiting < n { BODY } else { 0 }
 }
 
-fn statement_tests(q: u32, o: u32, t: Summary, lens: &Store) -> u32
+fn statement_tests(q: u32, o: u32, t: Summary, lens: &[u32; MOST_ARRAYS]) -> u32
     requires { t.arrays ≤ 16 }
     ensures { result ≡ fields (Record.Statement q o) t lens.now }
 {
@@ -299,7 +299,7 @@ fn statement_tests(q: u32, o: u32, t: Summary, lens: &Store) -> u32
 }
 
 // The tests on a record's fields.
-fn fields_ground(r: Record, t: Summary, lens: &Store) -> u32
+fn fields_ground(r: Record, t: Summary, lens: &[u32; MOST_ARRAYS]) -> u32
     requires { t.arrays ≤ 16 }
     ensures { result ≡ fields r t lens.now }
 {
@@ -360,7 +360,7 @@ fn refused(ground: u32, at: usize) -> Tested
 }
 
 // Reads one record and tests it; the arrays' lengths are lent.
-pub fn read_record(s: &[u8], at: usize, t: Summary, lens: &Store) -> Tested
+pub fn read_record(s: &[u8], at: usize, t: Summary, lens: &[u32; MOST_ARRAYS]) -> Tested
     requires { t.arrays ≤ 16 }
     ensures { result ≡ tested s.now at t lens.now }
 {

@@ -4,21 +4,21 @@
 ghost use Rattle.std.specs.Prelude.{◌≡◌, ◌+◌, ◌<◌, ◌≤◌};
 ghost use Rattle.records.specs.History.{operands, with_array, with_loop, with_item, with_statement, advanced, blank};
 ghost use Rattle.records.specs.Clear.{Room};
+ghost use Rattle.records.specs.Store.{new_store};
 
 use refusals::Refusal;
+
+mod storage;
+
+pub use storage::{Row, RowKind, Store};
 
 // How many rows all loops have: sixteen loops, each with four destinations and 32 items.
 pub const MOST_ROWS: usize = 576;
 
-// A table as it is kept (reader/specs/Store.antt): the lengths of the arrays come first, then what is known of the loops, then the rows, each
-// of so many numbers, and the counts of arrays and of loops come last.
-pub const ROWS_AT: usize = 65;
+// How many arrays and how many loops there are at most.
+pub const MOST_ARRAYS: usize = 16;
 
-pub const ROW: usize = 2;
-
-pub const STORE: usize = ROWS_AT + ROW * MOST_ROWS + 2;
-
-pub type Store = [u32; STORE];
+pub const MOST_LOOPS: usize = 16;
 
 #[derive(Clone, Copy)]
 pub enum Kind {
@@ -174,6 +174,27 @@ impl Summary {
                 array: _,
                 offset: _,
             } => self.with_statement(),
+        }
+    }
+}
+
+impl Store {
+    // With no table in it yet.
+    pub fn new() -> Self
+        ensures { result ≡ new_store }
+    {
+        Store {
+            lengths: [0; MOST_ARRAYS],
+            firsts: [0; MOST_LOOPS],
+            lasts: [0; MOST_LOOPS],
+            starts: [0; MOST_LOOPS + 1],
+            rows: [Row {
+                kind: RowKind::Read,
+                array: 0,
+                value: 0,
+            }; MOST_ROWS],
+            arrays: 0,
+            loops: 0,
         }
     }
 }
