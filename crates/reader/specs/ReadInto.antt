@@ -1,5 +1,5 @@
 -- What code tells of a reading, and what it leaves in the store.
-use Rattle.std.specs.Prelude.{ℕ, ◌≡◌, Result}
+use Rattle.std.specs.Prelude.{◌≡◌, Result}
 use Rattle.std.specs.Result.{MatchResult}
 use Rattle.refusals.specs.declared.Refusal.{Refusal}
 use Rattle.records.specs.declared.storage.Store.{Store}

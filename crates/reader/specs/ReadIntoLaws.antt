@@ -1,5 +1,5 @@
 -- Laws of what reading into a store tells and leaves, by either arm of what is told.
-use Rattle.std.specs.Prelude.{ℕ, ◌≡◌, Result, Ok, Err}
+use Rattle.std.specs.Prelude.{◌≡◌, Result, Ok, Err}
 use Rattle.refusals.specs.declared.Refusal.{Refusal}
 use Rattle.records.specs.declared.storage.Store.{Store}
 use Rattle.refusals.specs.Answers.{result_of}

@@ -1,6 +1,6 @@
 -- What is read off a store, and what a row, bounds and counts that are put there leave and hold.
 use Prim.Native.Nat.{ℕ, zero, suc, ◌+◌, ◌<◌}
-use Rattle.std.specs.Prelude.{◌≡◌, get_or, set, length}
+use Rattle.std.specs.Prelude.{◌≡◌, get_or, length}
 use native.Mathlib.Omega.{arith}
 use Rattle.std.proofs.Math.Path.{refl, ap}
 use Rattle.std.proofs.Common.{◌∙◌}

@@ -1,14 +1,14 @@
 -- The store holds what was read: before the first record, after each that meets no ground, and at the end.
-use Prim.Native.Nat.{ℕ, zero, suc, ◌+◌, ◌-◌, ◌*◌, ◌/◌, ◌%◌, ◌≤◌, ◌<◌}
+use Prim.Native.Nat.{ℕ, zero, suc, ◌+◌, ◌-◌, ◌≤◌, ◌<◌}
 use native.Mathlib.Omega.{arith}
 use Rattle.std.proofs.Math.Decide.{ℕ_discrete}
 use Rattle.std.proofs.Math.Numerals.{add-one}
-use Rattle.std.specs.Prelude.{◌≡◌, set, take}
+use Rattle.std.specs.Prelude.{◌≡◌, set}
 use Rattle.std.proofs.Math.Path.{refl, sym, ap, subst}
 use Rattle.std.proofs.Common.{◌∙◌, eq-eqb, ne_eqb}
 use mathlib.Core.List.{List, [], ◌∷◌, ◌++◌}
 use Rattle.std.proofs.Math.ListN.{length, get_or, length-set}
-use Rattle.std.proofs.Math.Seq.{take-suc, take-set-le, get_or-set_same, get_or-set_other}
+use Rattle.std.proofs.Math.Seq.{take-suc, take-set-le, get_or-set_same}
 use Rattle.records.specs.declared.Record.{Record}
 use Rattle.records.specs.declared.Record.TheVariants as rec
 use Rattle.records.specs.declared.Summary.{Summary}
@@ -60,20 +60,28 @@ record Agree (c d : Store) (n past : ℕ) : Type 0 where
   starts : (k : ℕ) → k ≤ n → start_at c k ≡ start_at d k
   inside : (k : ℕ) → k < n → start_at c k < past
   within : (k : ℕ) → k ≤ n → start_at c k ≤ past
-  rows : (r : ℕ) → r < past → row_at c r ≡ row_at d r
+  kinds : (r : ℕ) → r < past → kind_at c r ≡ kind_at d r
+  arrays : (r : ℕ) → r < past → array_at c r ≡ array_at d r
+  values : (r : ℕ) → r < past → value_at c r ≡ value_at d r
 
 module _ (c d : Store) (m past : ℕ) (a : Agree c d m past) where
   lead-agree : (xs : List Item) (r n : ℕ) → r + n ≤ past → lead_from c r n xs ≡ lead_from d r n xs
   unfolding lead_from
   lead-agree xs r zero h = refl
   lead-agree xs r (suc n) h =
-      rw (a.rows r (omega arith), lead-agree xs (suc r) n (omega arith))
+      rw (a.kinds r (omega arith), a.arrays r (omega arith), a.values r (omega arith), lead-agree xs (suc r) n (omega arith))
 
   body-agree : (xs : List Item) (ss : List Statement) (r n : ℕ) → r + n ≤ past → body_from c r n xs ss ≡ body_from d r n xs ss
   unfolding body_from
   body-agree xs ss r zero h = refl
   body-agree xs ss r (suc n) h =
-      rw (a.rows r (omega arith), lead-agree xs (suc r) n (omega arith), body-agree xs ss (suc r) n (omega arith))
+      rw (
+        a.kinds r (omega arith),
+        a.arrays r (omega arith),
+        a.values r (omega arith),
+        lead-agree xs (suc r) n (omega arith),
+        body-agree xs ss (suc r) n (omega arith),
+      )
 
   loop-agree : (k : ℕ) → k < m → loop_at c k ≡ loop_at d k
   loop-agree k h =
@@ -121,7 +129,9 @@ starts-up c a n rows h j (suc k) l m = go (ℕ_discrete j (suc k)) (starts-up c 
 record Grown (c d : Store) (j rows : ℕ) (kind : RowKind) (q v : ℕ) : Type 0 where
   agree : Agree c d j rows
   past : start_at d (suc j) ≡ rows + 1
-  row-is : row_at d rows ≡ record { kind = kind; array = q; value = v }
+  kind-is : kind_at d rows ≡ kind_number kind
+  array-is : array_at d rows ≡ q
+  value-is : value_at d rows ≡ v
 
 module _ (c d : Store) (j rows : ℕ) (kind : RowKind) (q v : ℕ) (g : Grown c d j rows kind q v) where
   row-grown : (kind_number kind < 2 → v ≤ 510) → ((r : ℕ) → r < rows → Row c r) → (r : ℕ) → r < rows + 1 → Row d r
@@ -129,10 +139,10 @@ module _ (c d : Store) (j rows : ℕ) (kind : RowKind) (q v : ℕ) (g : Grown c 
     where
       go : Dec (r ≡ rows) → Row d r
       go (yes e) =
-          rw e (record { offset = λ h. rw g.row-is (offset (rw g.row-is at h)) })
+          rw e (record { offset = λ h. rw g.value-is (offset (rw g.kind-is at h)) })
       go (no e) =
           let m : r < rows = omega arith in
-          record { offset = λ h. rw (← (g.agree.rows r m)) ((old r m).offset (rw (← (g.agree.rows r m)) at h)) }
+          record { offset = λ h. rw (← (g.agree.values r m)) ((old r m).offset (rw (← (g.agree.kinds r m)) at h)) }
 
   kept-grown : (a n : ℕ) → InPlace c a n rows → (start_at c j ≡ rows → kind_number kind ≡ 1) → j ≤ n → suc j ≤ 16 → rows < 576 → (kind_number kind < 2 → v ≤ 510)
       → InPlace d a (suc j) (rows + 1)
@@ -151,11 +161,11 @@ module _ (c d : Store) (j rows : ℕ) (kind : RowKind) (q v : ℕ) (g : Grown c 
       heads k m (yes e) = at (ℕ_discrete k j)
         where
           at : Dec (k ≡ j) → kind_at d (start_at c k) ≡ 1
-          at (yes s) = rw (e, g.row-is) (top (rw s at e))
+          at (yes s) = rw (e, g.kind-is) (top (rw s at e))
           at (no s) = absurd (omega (arith, g.agree.inside k (omega arith)))
       heads k m (no e) =
           let low : start_at c k < rows = omega (arith, g.agree.within k (omega arith)) in
-          rw (← (g.agree.rows (start_at c k) low)) (h.opening k (before (ℕ_discrete k n)))
+          rw (← (g.agree.kinds (start_at c k) low)) (h.opening k (before (ℕ_discrete k n)))
         where
           before : Dec (k ≡ n) → k < n
           before (yes s) = absurd (e (rw s h.end))
@@ -226,12 +236,18 @@ row_more c b a n j rows kind q v h l few room same = record {
         sym (row-starts b (suc j) rows kind q v k (λ e. omega arith) ∙ ap (λ (ns : List ℕ). get_or ns k 0) same.starts);
     inside = λ k m. omega (arith, h.rising k (omega arith), starts-up c a n rows h (suc k) n (omega arith) (omega arith), h.end);
     within = λ k m. omega (arith, starts-up c a n rows h k n (omega arith) (omega arith), h.end);
-    rows = λ r m.
-        sym (row-others b (suc j) rows kind q v r (λ e. omega arith) ∙ ap (λ (ns : List StoreRow). get_or ns r no_row) same.rows);
+    kinds = λ r m. ap (λ (y : StoreRow). kind_number y.kind) (old r m);
+    arrays = λ r m. ap (λ (y : StoreRow). y.array) (old r m);
+    values = λ r m. ap (λ (y : StoreRow). y.value) (old r m);
   };
   past = row-start b (suc j) rows kind q v (omega arith);
-  row-is = row-put b (suc j) rows kind q v room;
+  kind-is = ap (λ (y : StoreRow). kind_number y.kind) (row-put b (suc j) rows kind q v room);
+  array-is = ap (λ (y : StoreRow). y.array) (row-put b (suc j) rows kind q v room);
+  value-is = ap (λ (y : StoreRow). y.value) (row-put b (suc j) rows kind q v room);
 }
+  where
+    old : (r : ℕ) → r < rows → row_at c r ≡ row_at (with_row (suc j) rows kind q v b) r
+    old r m = sym (row-others b (suc j) rows kind q v r (λ e. omega arith) ∙ ap (λ (ns : List StoreRow). get_or ns r no_row) same.rows)
 
 module _ (c : Store) (rs : List Record) (rows : ℕ) (s : Stored c rs rows) where
   few : (summary rs).statements + (summary rs).items < 36 → rows < 576
@@ -239,8 +255,8 @@ module _ (c : Store) (rs : List Record) (rows : ℕ) (s : Stored c rs rows) wher
 
   -- a row more in the latest loop, for an item or a further statement: ys and ts are what the record makes of what follows
   module _ (r : Record) (kind : RowKind) (q v m : ℕ) (ys : List Item → List Item) (ts : List Item → List Statement → List Statement)
-      (lead : (d : Store) (xs : List Item) → row_at d rows ≡ record { kind = kind; array = q; value = v } → lead_from d rows 1 xs ≡ ys xs)
-      (body : (d : Store) (xs : List Item) (ss : List Statement) → row_at d rows ≡ record { kind = kind; array = q; value = v }
+      (lead : (d : Store) (xs : List Item) → kind_at d rows ≡ kind_number kind → array_at d rows ≡ q → value_at d rows ≡ v → lead_from d rows 1 xs ≡ ys xs)
+      (body : (d : Store) (xs : List Item) (ss : List Statement) → kind_at d rows ≡ kind_number kind → array_at d rows ≡ q → value_at d rows ≡ v
       → body_from d rows 1 xs ss ≡ ts xs ss)
       (arrays : (summary (r ∷ rs)).arrays ≡ (summary rs).arrays) (loops : (summary (r ∷ rs)).loops ≡ (summary rs).loops)
       (counted : (summary (r ∷ rs)).statements + (summary (r ∷ rs)).items ≡ suc ((summary rs).statements + (summary rs).items))
@@ -265,8 +281,8 @@ module _ (c : Store) (rs : List Record) (rows : ℕ) (s : Stored c rs rows) wher
     latest : (xs : List Item) (ss : List Statement) → shown c (suc m) rows (ys xs) (ts xs ss) ≡ shown d (suc m) (rows + 1) xs ss
     unfolding d
     latest xs ss =
-        shown-grown c d m rows kind q v grown xs (ys xs) ss (ts xs ss) (lead d xs grown.row-is)
-        (body d xs ss grown.row-is)
+        shown-grown c d m rows kind q v grown xs (ys xs) ss (ts xs ss) (lead d xs grown.kind-is grown.array-is grown.value-is)
+        (body d xs ss grown.kind-is grown.array-is grown.value-is)
         (sym (ap (λ (ns : List ℕ). get_or ns m 0) (row-firsts c (suc m) rows kind q v)))
         (sym (ap (λ (ns : List ℕ). get_or ns m 0) (row-lasts c (suc m) rows kind q v)))
         (omega (arith, kept_then.rising m (omega arith), kept_then.end))
@@ -320,14 +336,13 @@ module _ (c : Store) (rs : List Record) (rows : ℕ) (s : Stored c rs rows) wher
         let at : start_at e n ≡ rows = sym (begun.agree.starts n (omega arith)) ∙ s.kept.end in
         let z : rows + 1 - rows ≡ 1 = omega arith in
         rw (
-          row-firsts b (suc n) rows row.Destination q o,
-          bounds-first c n f l free,
-          row-lasts b (suc n) rows row.Destination q o,
-          bounds-last c n f l free,
+          ap (λ (ns : List ℕ). get_or ns n 0) (row-firsts b (suc n) rows row.Destination q o) ∙ bounds-first c n f l free,
+          ap (λ (ns : List ℕ). get_or ns n 0) (row-lasts b (suc n) rows row.Destination q o) ∙ bounds-last c n f l free,
           at,
           z,
-          opening-body e rows xs ss (ap (λ (y : StoreRow). kind_number y.kind) begun.row-is),
-          begun.row-is,
+          opening-body e rows xs ss begun.kind-is,
+          begun.array-is,
+          begun.value-is,
         )
 
     lens-begun : e.lengths ≡ c.lengths
@@ -399,8 +414,8 @@ module _ (c : Store) (rs : List Record) (rows : ℕ) (s : Stored c rs rows) wher
       let statements : (summary (r ∷ rs)).statements ≡ (summary rs).statements = ap (λ (t : Summary). t.statements) counted in
       subst (λ (k : ℕ). Stored (with_row k rows kind q v c) (r ∷ rs) (rows + 1)) (sym open_loop)
       (row-stored r kind q v ((summary rs).loops - 1) (λ xs. x ∷ xs) (λ xs ss. ss)
-      (λ d xs a. item-lead d rows xs [] (λ e. other (rw a at e)) ∙ ap (λ (y : Item). y ∷ xs) (rw a i))
-      (λ d xs ss a. item-body d rows xs ss (λ e. other (rw a at e)))
+      (λ d xs a b g. item-lead d rows xs [] (λ e. other (sym a ∙ e)) ∙ ap (λ (y : Item). y ∷ xs) (rw (a, b, g) i))
+      (λ d xs ss a b g. item-body d rows xs ss (λ e. other (sym a ∙ e)))
       (ap (λ (t : Summary). t.arrays) counted) (ap (λ (t : Summary). t.loops) counted) (omega arith)
       (omega (arith, s.statements)) (omega arith) same added open_loop offset)
 
@@ -412,8 +427,7 @@ module _ (c : Store) (rs : List Record) (rows : ℕ) (s : Stored c rs rows) wher
       let open_loop : (summary rs).loops ≡ suc ((summary rs).loops - 1) = omega arith in
       subst (λ (k : ℕ). Stored (with_row k rows row.Destination q o c) (rec.Statement q o ∷ rs) (rows + 1)) (sym open_loop)
       (row-stored (rec.Statement q o) row.Destination q o ((summary rs).loops - 1) (λ xs. []) (λ xs ss. record { array = q; offset = o; items = xs } ∷ ss)
-      (λ d xs a. opening-lead d rows xs [] (ap (λ (y : StoreRow). kind_number y.kind) a))
-      (λ d xs ss a. opening-body d rows xs ss (ap (λ (y : StoreRow). kind_number y.kind) a) ∙ rw a)
+      (λ d xs a b g. opening-lead d rows xs [] a) (λ d xs ss a b g. opening-body d rows xs ss a ∙ rw (b, g))
       refl refl (omega arith) (omega arith) s.items refl (λ xs ss. refl) open_loop (λ h. offset))
 
   -- every record that meets no ground; its array is one of those before it, of which there are at most sixteen
@@ -480,7 +494,9 @@ module _ (c : Store) (a l rows : ℕ) (h : InPlace c a l rows) where
     starts = λ k m. refl;
     inside = λ k m. omega (arith, h.rising k m, before-end (suc k) m);
     within = before-end;
-    rows = λ r m. refl;
+    kinds = λ r m. refl;
+    arrays = λ r m. refl;
+    values = λ r m. refl;
   }
 
   pub counted-table : table_in (with_counts a l c) ≡ table_at c a l

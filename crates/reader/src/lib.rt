@@ -5,7 +5,7 @@ ghost use Rattle.std.specs.Prelude.{◌≡◌, ◌+◌, ◌<◌, ◌≤◌, eqb,
 ghost use Rattle.model.specs.Table.{count};
 ghost use Rattle.records.specs.Clear.{Room};
 ghost use Rattle.reader.specs.Reading.{reading};
-ghost use Rattle.reader.specs.Store.{first_at, last_at, start_at, kind_at, array_at, value_at, row_kind, arrays_in, loops_in, table_in, kept, rows_after, with_row, with_bounds, with_counts, Places, ArrayFits};
+ghost use Rattle.reader.specs.Store.{first_at, last_at, start_at, kind_at, array_at, value_at, row_kind, arrays_in, loops_in, table_in, kept, rows_after, with_length, with_row, with_bounds, with_counts, Places, ArrayFits};
 ghost use Rattle.reader.specs.Held.{Held};
 ghost use Rattle.reader.specs.Rows.{ref_in, refers_to, LastDestination};
 ghost use Rattle.reader.specs.ReadInto.{ReadInto};
@@ -125,6 +125,15 @@ pub fn last_destination(store: &Store, k: usize) -> usize
     start
 }
 
+// An array's length.
+#[tactic(auto, unfolding(crate::specs::Store::with_length))]
+fn put_length(q: usize, n: u32, store: &mut Store)
+    requires { q < 16 }
+    ensures { store.new ≡ with_length q n store.old }
+{
+    store.lengths[q] = n;
+}
+
 // One row more: loop k begins past it.
 #[tactic(auto, unfolding(crate::specs::Store::with_row))]
 fn put_row(k: usize, r: usize, kind: RowKind, q: u32, v: u32, store: &mut Store) -> usize
@@ -169,8 +178,7 @@ fn keep(x: Record, t: Summary, r: usize, store: &mut Store) -> usize
     match x {
         Record::Unknown => r,
         Record::Array(n) => {
-            let at = t.arrays as usize;
-            store.lengths[at] = n;
+            put_length(t.arrays as usize, n, store);
             r
         }
         Record::Loop {

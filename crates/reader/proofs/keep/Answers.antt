@@ -6,6 +6,11 @@ use Rattle.records.specs.Clear.{Room}
 use Prim.Native.Nat.{◌≤◌}
 use Rattle.reader.proofs.keep.Goals as goal
 
+pub put_length-requires : goal.put_length-requires
+put_length-requires c =
+    let room = subst (λ (x : Record). Room x c.args.t) c.in-Array.is c.requires.room in
+    omega (arith, room)
+
 pub put_bounds-requires : goal.put_bounds-requires
 put_bounds-requires c =
     let room = subst (λ (x : Record). Room x c.args.t) c.in-Loop.is c.requires.room in
@@ -54,7 +59,7 @@ returns-in-Unknown c = rw c.in-Unknown.is record { value = refl; store_after = r
 
 pub returns-in-Array : goal.returns-in-Array
 unfolding kept rows_after
-returns-in-Array c = rw c.in-Array.is record { value = refl; store_after = refl }
+returns-in-Array c = rw c.in-Array.is record { value = refl; store_after = c.put_length.ensures }
 
 pub returns-in-Loop : goal.returns-in-Loop
 unfolding kept rows_after

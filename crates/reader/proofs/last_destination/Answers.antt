@@ -3,7 +3,7 @@ use mathlib.Core.Path.{◌≡◌, sym, subst}
 use Prim.Native.Nat.{◌-◌}
 use borrow.Author.Tests.{eqb-true, eqb-false}
 use Rattle.reader.specs.Rows.{LastDestination}
-use Rattle.reader.specs.Held.{count_held, few-loops, rows-rise}
+use Rattle.reader.specs.Held.{count_held, few-loops, few-rows}
 use Rattle.reader.specs.RowLaws.{behind-last, behind-few, behind-before, last_found, first_found}
 use Rattle.reader.proofs.last_destination.Goals as goal
 
@@ -42,3 +42,8 @@ returns c =
     let e : l.r - 1 ≡ c.start_at-start.result = omega (arith, c.start_at-start.ensures, l.invariant.from, c.loop-r-test.false) in
     subst (LastDestination c.args.store.now c.args.k) e
     (first_found c.requires.0 c.args.k c.requires.1 _ (l.r - 1) c.start_at-start.ensures l.invariant (omega (arith, c.loop-r-test.false)))
+
+pub overflow_add-r-start : goal.overflow_add-r-start
+overflow_add-r-start c =
+    let p = c.requires in
+    omega (arith, c.start_at-start.ensures, few-rows p.0 c.args.k (omega (arith, p.1)))
