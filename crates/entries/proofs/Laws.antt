@@ -19,9 +19,9 @@ use Rattle.blocks.specs.Code.{Cuttable}
 use Rattle.blocks.specs.declared.Range.{Range}
 use Rattle.blocks.specs.Sums.{column}
 use Rattle.lists.specs.Fusion.{fusion_in, work}
-use Rattle.text.specs.Lent.{Put}
+use Rattle.text.specs.declared.Writer.{Writer}
+use Rattle.text.specs.Puts.{Puts}
 use Rattle.numbers.specs.Numbers.{encoded}
-use Rattle.plans.specs.declared.Plan.{Plan}
 use Rattle.plans.specs.Plans.{Settings, threshold_of, planned_for}
 use Rattle.plans.proofs.Accepted.{threshold-small, named-accepts}
 use Rattle.plans.specs.Code.{planned_in, Made, Laid}
@@ -49,10 +49,10 @@ list-pairs (x ∷ l) =
     joined-front (length l) (λ n. loop_at (x ∷ l) n ∷ index_at (x ∷ l) n ∷ []) ∙ ap (λ (w : List ℕ). x.number ∷ x.index ∷ w) (list-pairs l)
 
 module _ (size : ℕ) (l : List Iteration) (e : size ≡ length l) where
-  pub list_put : {out left : List ℕ} {past most : ℕ} → Put out 0 (encoded (joined size (λ n. loop_at l n ∷ index_at l n ∷ []))) most left past
-      → Put out 0 (encoded (pairs_of l)) most left past
-  list_put {out} {left} {past} {most} p =
-      subst (λ (w : List ℕ). Put out 0 (encoded w) most left past)
+  pub list_put : {old new : Writer} {most : ℕ} → Puts old (encoded (joined size (λ n. loop_at l n ∷ index_at l n ∷ []))) most new
+      → Puts old (encoded (pairs_of l)) most new
+  list_put {old} {new} {most} p =
+      subst (λ (w : List ℕ). Puts old (encoded w) most new)
       (ap (λ (m : ℕ). joined m (λ n. loop_at l n ∷ index_at l n ∷ [])) e ∙ list-pairs l) p
 
   pub list-size : length (encoded (pairs_of l)) ≡ 8 * size
@@ -124,8 +124,6 @@ pub ranges-size : (a : Axis) (c : List ℕ) → Laid a c → (phase b : ℕ) →
 ranges-size a c h phase b = pairs-length (count (table_in c)) _ _ ∙ ap (λ (n : ℕ). 8 * n) (sym (loops-are a c h))
 
 -- a call that names a processor has a plan with that processor
-module _ (s : List ℕ) (w : Settings) (b : ℕ) (r : Plan) (c : List ℕ) (m : Made (planned_for s w b) r c) where
-  pub named-laid : Laid r.axis c × (b < r.axis.blocks)
-  named-laid =
-      let (e, l) = named-accepts s w b (planned_in r.axis c) m.is in
-      (made-laid s w r c (named-made s w b r c m), l)
+module _ (s : List ℕ) (w : Settings) (b : ℕ) (x : Axis) (c : List ℕ) (m : Made (planned_for s w b) x c) where
+  pub named-laid : Laid x c × (b < x.blocks)
+  named-laid = (made-laid s w x c (named-made s w b x c m), (named-accepts s w b (planned_in x c) m.is).1)

@@ -13,21 +13,20 @@ use Rattle.reader.specs.Store.{first_at, last_at, arrays_in, loops_in, table_in}
 use Rattle.reader.specs.Held.{Held, few-arrays, arrays-held, count_held, few-loops, first-held, last-held}
 use Rattle.bodies.specs.Workable.{Based}
 use Rattle.iterations.specs.LoadedLaws.{based-total}
-use Rattle.text.specs.Lent.{Put}
-use Rattle.text.specs.Written.{put_then, put-most}
+use Rattle.text.specs.declared.Writer.{Writer}
+use Rattle.text.specs.Puts.{Puts, puts_then, puts-most}
 use Rattle.numbers.specs.Numbers.{four, encoded}
 use Rattle.numbers.specs.NumberLaws.{encoded-length, encoded-append}
 use Rattle.numbers.specs.Pairs.{pairs-length}
 use Rattle.facts.specs.Facts.{arrays, counts_of, arrays_of, bounds_of, facts_of}
 
 -- a pair of numbers and one more
-pub three-put : {x y u v : ℕ} (z : ℕ) {out mid left : List ℕ} {at past : ℕ} → u ≡ x → v ≡ y → Put out 0 (four u ++ four v) 8 mid at → Put mid at (four z) 4 left past
-    → Put out 0 (encoded (x ∷ y ∷ z ∷ [])) 12 left past
+pub three-put : (x y z : ℕ) {old mid new : Writer} → Puts old (four x ++ four y) 8 mid → Puts mid (four z) 4 new → Puts old (encoded (x ∷ y ∷ z ∷ [])) 12 new
 unfolding encoded
-three-put {x} {y} {u} {v} z {out} {mid} {left} {at} {past} e f p q =
-    let w : (four u ++ four v) ++ four z ≡ four x ++ (four y ++ (four z ++ [])) =
-    rw (e, f) (append_assoc (four x) (four y) (four z) ∙ ap (λ (l : List ℕ). four x ++ (four y ++ l)) (sym (append-nil (four z)))) in
-    subst (λ (l : List ℕ). Put out 0 l 12 left past) w (put_then p q)
+three-put x y z {old} {new = new} p q =
+    let w : (four x ++ four y) ++ four z ≡ four x ++ (four y ++ (four z ++ [])) =
+    append_assoc (four x) (four y) (four z) ∙ ap (λ (l : List ℕ). four x ++ (four y ++ l)) (sym (append-nil (four z))) in
+    subst (λ (l : List ℕ). Puts old l 12 new) w (puts_then p q)
 
 module _ (c bs : List ℕ) (h : Held c) (based : Based bs (table_in c).lengths) where
   pub arrays-are : arrays_in c ≡ arrays (table_in c)
@@ -61,14 +60,14 @@ module _ (c bs : List ℕ) (h : Held c) (based : Based bs (table_in c).lengths) 
       ∙ ap (λ (n : ℕ). joined n (λ k. first (table_in c) k ∷ last (table_in c) k ∷ [])) loops-are
 
   -- three texts one after the other
-  pub facts-put : {out mid more left : List ℕ} {at next past : ℕ}
-      → Put out 0 (encoded (arrays_in c ∷ loops_in c ∷ get_or bs 16 0 ∷ [])) 12 mid at
-      → Put mid at (encoded (joined (arrays_in c) (λ q. get_or bs q 0 ∷ get_or c q 0 ∷ []))) (8 * arrays_in c) more next
-      → Put more next (encoded (joined (loops_in c) (λ k. first_at c k ∷ last_at c k ∷ []))) (8 * loops_in c) left past
-      → Put out 0 (encoded (facts_of (table_in c))) 268 left past
-  facts-put {out} {mid} {more} {left} {at} {next} {past} p q r =
-      subst (λ (l : List ℕ). Put out 0 l 268 left past) row
-      (put-most 268 (omega (arith, few-arrays h, few-loops h)) (put_then (rw counts-are at p) (put_then (rw listed-are at q) (rw bounds-are at r))))
+  pub facts-put : {old mid more new : Writer}
+      → Puts old (encoded (arrays_in c ∷ loops_in c ∷ get_or bs 16 0 ∷ [])) 12 mid
+      → Puts mid (encoded (joined (arrays_in c) (λ q. get_or bs q 0 ∷ get_or c q 0 ∷ []))) (8 * arrays_in c) more
+      → Puts more (encoded (joined (loops_in c) (λ k. first_at c k ∷ last_at c k ∷ []))) (8 * loops_in c) new
+      → Puts old (encoded (facts_of (table_in c))) 268 new
+  facts-put {old} {mid} {more} {new} p q r =
+      subst (λ (l : List ℕ). Puts old l 268 new) row
+      (puts-most 268 (omega (arith, few-arrays h, few-loops h)) (puts_then (rw counts-are at p) (puts_then (rw listed-are at q) (rw bounds-are at r))))
     where
       row : encoded (counts_of (table_in c)) ++ (encoded (arrays_of (table_in c)) ++ encoded (bounds_of (table_in c))) ≡ encoded (facts_of (table_in c))
       row =

@@ -1,14 +1,15 @@
 -- The answers of joining, case by case.
 use Prim.Native.Nat.{ℕ, ◌+◌, ◌*◌, ◌-◌, ◌≤◌, ◌<◌}
 use native.Mathlib.Omega.{arith}
-use mathlib.Core.Path.{◌≡◌, sym, ap, subst, ◌∙◌}
+use mathlib.Core.Path.{◌≡◌, refl, sym, ap, subst, ◌∙◌}
 use mathlib.Core.Bool.{Bool, true, false, not}
 use mathlib.Core.List.{List, ◌++◌}
-use lib.ListN.{length, take, drop}
-use lib.Seq.{length-take-le, paste}
+use lib.ListN.{length, take, drop, length-append}
+use borrow.Rule.Slice.PartMut.{put_mid}
 use lib.Dec.{ltb}
 use borrow.Author.Tests.{lt-ltb, le-ltb}
 use Rattle.records.specs.Encoding.{encode_all, Bytes}
+use Rattle.std.specs.Prelude.{Result, Ok, Err}
 use Rattle.refusals.specs.declared.Refusal.{Refusal}
 use Rattle.refusals.specs.Refusals.{met}
 use Rattle.refusals.specs.Answers.{accepted, refused, ◌if◌else◌}
@@ -17,9 +18,8 @@ use Rattle.reader.specs.Store.{arrays_in, loops_in, table_in}
 use Rattle.reader.specs.Held.{Held, few-arrays, arrays-held, count_held}
 use Rattle.serial.specs.Serial.{table}
 use Rattle.serial.proofs.Parallel.{accepted-parallel}
-use Rattle.outputs.specs.declared.Outcome.{Outcome}
 use Rattle.outputs.specs.Given.{Given, fitted}
-use Rattle.outputs.specs.Gives.{refusing, writing, Gives}
+use Rattle.outputs.specs.Gives.{Gives}
 use Rattle.outputs.proofs.GivesLaws.{gives-refused, after-refuses, after-gives, gives-short, gives-written}
 use Rattle.joins.specs.Joining.{alike, joined_records, joining}
 use Rattle.joins.proofs.Written.{alike_same}
@@ -37,38 +37,34 @@ module _ (left right out : List ℕ) (arrays : ℕ) where
   size = length left - 1 + (length right - 5 * arrays)
 
   module _ (some : 0 < length left) where
-    pub too_long_lem : length out < size → Gives (fitted (length out) (bytes left right arrays)) out out (refusing (met 13 0))
+    pub too_long_lem : length out < size → Gives (fitted (length out) (bytes left right arrays)) out out (Err (met 13 0))
     too_long_lem h = gives-short (bytes left right arrays) out (omega (arith, bytes-length left right arrays some))
 
-    both-copied : (one two : List ℕ) → one ≡ paste out 0 (take (length left - 1) left) (length (take (length left - 1) left))
-        → two ≡ paste one (length left - 1) (drop (5 * arrays) right) (length (drop (5 * arrays) right))
-        → two ≡ bytes left right arrays ++ drop (length (bytes left right arrays)) out
+    pub wrote : (xs ys : List ℕ) (n : ℕ) → size ≤ length out → xs ≡ take (length left - 1) left → ys ≡ drop (5 * arrays) right
+        → n ≡ length ys → Gives (fitted (length out) (bytes left right arrays)) out (put_mid (length xs) n (xs ++ drop (length xs) out) ys) (Ok (length xs + length ys))
     unfolding bytes
-    both-copied one two f g =
-        copied-both (take (length left - 1) left) (drop (5 * arrays) right) out one two (length left - 1)
-        (length-take-le (length left - 1) left (omega arith)) f g
-
-    pub wrote : (one two ys : List ℕ) → size ≤ length out → ys ≡ drop (5 * arrays) right
-        → one ≡ paste out 0 (take (length left - 1) left) (length (take (length left - 1) left))
-        → two ≡ paste one (length left - 1) ys (length ys) → Gives (fitted (length out) (bytes left right arrays)) out two (writing size)
-    wrote one two ys h is f g =
-        let n = bytes-length left right arrays some in
-        gives-written (bytes left right arrays) out two size (omega (arith, n)) (sym n) (both-copied one two f (rw is at g))
+    wrote xs ys n h e f g =
+        let all : length (xs ++ ys) ≡ length xs + length ys = length-append xs ys in
+        let z : xs ++ ys ≡ bytes left right arrays = rw (e, f) refl in
+        let long : length (bytes left right arrays) ≡ size = bytes-length left right arrays some in
+        let k : length (xs ++ ys) ≡ size = ap length z ∙ long in
+        gives-written (bytes left right arrays) out _ (length xs + length ys) (omega (arith, long)) (sym all ∙ ap length z)
+        (copied-both xs ys out n g (omega (arith, k, all)) ∙ ap (λ (l : List ℕ). l ++ drop (length l) out) z)
 
 -- BOTH TABLES
 module _ (left right out : List ℕ) where
   -- what joining answers and leaves
-  abbrev pub Result : Outcome → List ℕ → Type 0
-  Result o then = Gives (joining left right (length out)) out then o
+  abbrev pub Told : Result ℕ Refusal → List ℕ → Type 0
+  Told o then = Gives (joining left right (length out)) out then o
 
-  pub left-refused : (r : Refusal) → table left ≡ refused r → Result (refusing r) out
+  pub left-refused : (r : Refusal) → table left ≡ refused r → Told (Err r) out
   unfolding joining
   left-refused r e = after-refuses (table left) _ out r e
 
   module _ (ours : List ℕ) (l : table left ≡ accepted (table_in ours)) (h : Held ours) where
-    pub right-refused : (r : Refusal) → table right ≡ refused r → Result (refusing r) out
+    pub right-refused : (r : Refusal) → table right ≡ refused r → Told (Err r) out
     unfolding joining
-    right-refused r e = after-gives (table left) _ out (table_in ours) l out (refusing r) (after-refuses (table right) _ out r e)
+    right-refused r e = after-gives (table left) _ out (table_in ours) l out (Err r) (after-refuses (table right) _ out r e)
 
     module _ (theirs : List ℕ) (r : table right ≡ accepted (table_in theirs)) (k : Held theirs) where
       abbrev same : Bool
@@ -82,11 +78,11 @@ module _ (left right out : List ℕ) where
       unfolding joining
       both = rw (l, r, count_held h, count_held k)
 
-      pub unlike-arrays : false ≡ same → Result (refusing (met 14 0)) out
+      pub unlike-arrays : false ≡ same → Told (Err (met 14 0)) out
       unlike-arrays e = gives-refused (joining left right (length out)) out (met 14 0) (both ∙ rw (← e))
 
       module _ (like : true ≡ same) where
-        pub many-loops : 16 < loops_in ours + loops_in theirs → Result (refusing (met 4 0)) out
+        pub many-loops : 16 < loops_in ours + loops_in theirs → Told (Err (met 4 0)) out
         many-loops m = gives-refused (joining left right (length out)) out (met 4 0) (both ∙ rw (← like, lt-ltb _ _ m))
 
         same-arrays : (table_in ours).lengths ≡ (table_in theirs).lengths
@@ -99,8 +95,8 @@ module _ (left right out : List ℕ) where
             ∙ bytes-joined (table_in ours) (table_in theirs) left right b c (accepted-parallel left (table_in ours) l).0
             (accepted-parallel right (table_in theirs) r).0 same-arrays
 
-        pub joined : Bytes left → Bytes right → (o : Outcome) (then : List ℕ) → loops_in ours + loops_in theirs ≤ 16
-            → Gives (fitted (length out) (bytes left right (arrays_in ours))) out then o → Result o then
+        pub joined : Bytes left → Bytes right → (o : Result ℕ Refusal) (then : List ℕ) → loops_in ours + loops_in theirs ≤ 16
+            → Gives (fitted (length out) (bytes left right (arrays_in ours))) out then o → Told o then
         joined b c o then m g =
             subst (λ (x : Given). Gives x out then o) (ap (fitted (length out)) (copied b c) ∙ sym (both ∙ rw (← like, le-ltb _ _ m))) g
 

@@ -1,15 +1,15 @@
 -- Lines one after the other.
-use mathlib.Core.Path.{◌≡◌, refl, ap, ◌∙◌}
+use mathlib.Core.Path.{◌≡◌, ap, ◌∙◌}
 use mathlib.Core.List.{List, [], ◌∷◌, ◌++◌}
-use Prim.Native.Nat.{ℕ, zero, suc, ◌+◌, ◌-◌, ◌*◌, ◌≤◌, ◌<◌}
+use Prim.Native.Nat.{ℕ, suc, ◌+◌, ◌-◌, ◌*◌, ◌≤◌, ◌<◌}
 use native.Mathlib.Nat.{mul-suc}
 use native.Mathlib.Numerals.{add-one}
 use native.Mathlib.Omega.{arith}
 use borrow.Author.Tests.{lt-ltb, le-ltb}
 use Rattle.reader.specs.Store.{loops_in, table_in}
 use Rattle.text.specs.Line.{line}
-use Rattle.text.specs.Lent.{Put}
-use Rattle.text.specs.Written.{put-none, put_then, put-most}
+use Rattle.text.specs.declared.Writer.{Writer}
+use Rattle.text.specs.Puts.{Puts, puts-none, puts_then, puts-most}
 use Rattle.blocks.specs.declared.Axis.{Axis}
 use Rattle.blocks.specs.declared.Range.{Range}
 use Rattle.blocks.specs.Sums.{column}
@@ -22,41 +22,26 @@ use Rattle.listing.specs.Listing.{loop_line, block_line, range_line, sweeps_line
 use Rattle.listing.proofs.Same.{ranges-same}
 
 -- A RANGE, empty or not
-pub peeled-name : (phase : ℕ) → (phase ≡ 0 → ⊥) → phase_name phase ≡ phase_name 1
-peeled-name zero n = absurd (n refl)
-peeled-name (suc m) n = refl
+module _ (word : List ℕ) (b k : ℕ) (r : Range) where
+  pub range-empty : {old : Writer} → r.past ≤ r.from → Puts old (range_line word b k r) 100 old
+  range-empty {old} l = rw (le-ltb r.from r.past l) (puts-most 100 (omega arith) (puts-none old))
 
-module _ (word : List ℕ) (b k : ℕ) (r : Range) {out : List ℕ} {at : ℕ} where
-  pub range-empty : r.past ≤ r.from → Put out at (range_line word b k r) 100 out at
-  range-empty l = rw (le-ltb r.from r.past l) (put-most 100 (omega arith) (put-none out at))
-
-  pub range-some : {to : ℕ} {left : List ℕ} {next : ℕ} → r.from < r.past → to ≡ r.past - 1
-      → Put out at (line word (b ∷ k ∷ r.from ∷ to ∷ [])) 100 left next → Put out at (range_line word b k r) 100 left next
-  range-some l e p = rw (lt-ltb r.from r.past l) (rw e at p)
+  pub range-some : {old new : Writer} → r.from < r.past → Puts old (line word (b ∷ k ∷ r.from ∷ (r.past - 1) ∷ [])) 100 new
+      → Puts old (range_line word b k r) 100 new
+  range-some l p = rw (lt-ltb r.from r.past l) p
 
 -- LINES one after the other, each of at most m bytes: k of n are written
-pub record Lines (out : List ℕ) (at m : ℕ) (f : ℕ → List ℕ) (n k : ℕ) (left : List ℕ) (past : ℕ) : Type 0 where
+pub record Lines (old : Writer) (m : ℕ) (f : ℕ → List ℕ) (n k : ℕ) (new : Writer) : Type 0 where
   pub within : k ≤ n
-  pub put : Put out at (each k f) (m * k) left past
+  pub puts : Puts old (each k f) (m * k) new
 
-module _ {out : List ℕ} {at m : ℕ} {f : ℕ → List ℕ} {n : ℕ} where
-  pub lines_start : Lines out at m f n 0 out at
-  lines_start = record { within = omega arith; put = put-most (m * 0) (omega arith) (put-none out at) }
+module _ {old : Writer} {m : ℕ} {f : ℕ → List ℕ} {n : ℕ} where
+  pub lines_start : Lines old m f n 0 old
+  lines_start = record { within = omega arith; puts = puts-most (m * 0) (omega arith) (puts-none old) }
 
-  pub lines_next : {k : ℕ} {mid left : List ℕ} {next past : ℕ} → Lines out at m f n k mid next → k < n → Put mid next (f k) m left past
-      → Lines out at m f n (k + 1) left past
+  pub lines_next : {k : ℕ} {mid new : Writer} → Lines old m f n k mid → k < n → Puts mid (f k) m new → Lines old m f n (k + 1) new
   lines_next {k} inv l p =
-      rw (add-one k) (record { within = l; put = put-most (m * suc k) (omega (arith, mul-suc m k)) (put_then inv.put p) })
-
-  pub lines_end : (most : ℕ) {k : ℕ} {left : List ℕ} {past : ℕ} → m * n ≤ most → Lines out at m f n k left past → n ≤ k
-      → Put out at (each n f) most left past
-  lines_end most {k} h inv l =
-      let e : k ≡ n = omega (arith, inv.within) in
-      put-most most h (rw e at inv.put)
-
--- TEXTS one after the other, as long as all together
-pub past-most : {out left : List ℕ} {at past : ℕ} {text : List ℕ} {m : ℕ} (most : ℕ) → at ≤ most → Put out at text m left past → past ≤ most + m
-past-most most l p = omega (arith, p.place, p.few)
+      rw (add-one k) (record { within = l; puts = puts-most (m * suc k) (omega (arith, mul-suc m k)) (puts_then inv.puts p) })
 
 -- THE LINES ARE THE LISTING'S
 module _ (a : Axis) (before after : ℕ) where

@@ -23,5 +23,5 @@ pub fn union(a: u16, b: u16) -> u16
 pub fn size_of(m: u16) -> u32
     ensures { (result ≡ size (marked m)) × (result ≤ 16) }
 {
-    u16::count_ones(m)
+    m.count_ones()
 }

@@ -1,15 +1,13 @@
 -- Laws of numbers that are asked for: what code tells and leaves of them.
-use Rattle.std.specs.Prelude.{ℕ, ◌≤◌, ◌<◌, ◌≡◌, List, [], ◌∷◌, ◌++◌, length}
+use Rattle.std.specs.Prelude.{ℕ, ◌≤◌, ◌<◌, ◌≡◌, List, [], ◌∷◌, ◌++◌, length, Result, Ok, Err}
 use Rattle.std.proofs.Common.{arith, sym, ap, subst, ◌∙◌, append-nil}
 use Rattle.refusals.specs.declared.Refusal.{Refusal}
 use Rattle.refusals.specs.Refusals.{met}
-use Rattle.refusals.specs.Answers.{AnswerOf, accepted, after, refusal_of}
-use Rattle.refusals.proofs.AnswerLaws.{told-refused}
+use Rattle.refusals.specs.Answers.{AnswerOf, accepted, refused, after}
 use Rattle.text.specs.Lent.{Put}
 use Rattle.text.specs.Written.{written-front}
-use Rattle.outputs.specs.declared.Outcome.{Outcome}
 use Rattle.outputs.specs.Given.{Given, fitted}
-use Rattle.outputs.specs.Gives.{refusing, writing, Gives}
+use Rattle.outputs.specs.Gives.{Gives}
 use Rattle.outputs.proofs.GivesLaws.{after-refuses, after-gives, gives-short, gives-written}
 use Rattle.numbers.specs.Numbers.{four, encoded}
 use Rattle.numbers.specs.NumberLaws.{encoded-length}
@@ -17,10 +15,10 @@ use Rattle.numbers.specs.Asked.{numbers}
 
 -- NUMBERS IN LENT BYTES, or 13
 module _ (xs out : List ℕ) (size : ℕ) (sized : length (encoded xs) ≡ size) where
-  pub numbers-short : length out < size → Gives (fitted (length out) (encoded xs)) out out (refusing (met 13 0))
+  pub numbers-short : length out < size → Gives (fitted (length out) (encoded xs)) out out (Err (met 13 0))
   numbers-short l = gives-short (encoded xs) out (omega arith)
 
-  pub numbers-put : size ≤ length out → {left : List ℕ} {past most : ℕ} → Put out 0 (encoded xs) most left past → Gives (fitted (length out) (encoded xs)) out left (writing past)
+  pub numbers-put : size ≤ length out → {left : List ℕ} {past most : ℕ} → Put out 0 (encoded xs) most left past → Gives (fitted (length out) (encoded xs)) out left (Ok past)
   numbers-put l {left} {past} p =
       gives-written (encoded xs) out left past (omega arith) (omega (arith, p.place)) (p.bytes ∙ written-front out (encoded xs) (omega arith))
 
@@ -46,8 +44,8 @@ module _ {T : Type 0} (a : AnswerOf T) (f : T → List ℕ) (out : List ℕ) whe
   abbrev pub given : Given
   given = after a (λ t. numbers (length out) (f t))
 
-  pub entry-refused : (r : Refusal) → r ≡ refusal_of a → (r.ground ≡ 0 → ⊥) → Gives given out out (refusing r)
-  entry-refused r e some = after-refuses a _ out r (told-refused a r e some)
+  pub entry-refused : (r : Refusal) → a ≡ refused r → Gives given out out (Err r)
+  entry-refused r e = after-refuses a _ out r e
 
-  pub entry-given : {t : T} → a ≡ accepted t → {left : List ℕ} {o : Outcome} → Gives (numbers (length out) (f t)) out left o → Gives given out left o
+  pub entry-given : {t : T} → a ≡ accepted t → {left : List ℕ} {o : Result ℕ Refusal} → Gives (numbers (length out) (f t)) out left o → Gives given out left o
   entry-given {t} e {left} {o} g = after-gives a _ out t e left o g

@@ -2,8 +2,8 @@
 use Rattle.std.specs.Prelude.{ℕ, zero, suc, ◌+◌, ◌*◌, ◌≤◌, ◌<◌, ◌≡◌, refl, List, [], ◌∷◌, ◌++◌, length}
 use Rattle.std.proofs.Common.{arith, add-one, sym, ap, subst, ◌∙◌, append-nil, length-append}
 use Rattle.order.specs.Sequences.{joined}
-use Rattle.text.specs.Lent.{Put}
-use Rattle.text.specs.Written.{put-none, put_then, put-most}
+use Rattle.text.specs.declared.Writer.{Writer}
+use Rattle.text.specs.Puts.{Puts, puts-none, puts_then, puts-most, puts-past}
 use Rattle.numbers.specs.Numbers.{four, encoded}
 use Rattle.numbers.specs.NumberLaws.{encoded-length, encoded-append}
 
@@ -23,24 +23,23 @@ pairs-length n x y = encoded-length (joined n (λ k. x k ∷ y k ∷ [])) ∙ go
     go zero = refl
     go (suc n) = omega (arith, go n, length-append (joined n (λ k. x k ∷ y k ∷ [])) (x n ∷ y n ∷ []))
 
--- the first k of n pairs are written from `from` on
-pub record Rowed (x y : ℕ → ℕ) (n from : ℕ) (out left : List ℕ) (k at : ℕ) : Type 0 where
-  pub put : Put out from (joined k (λ j. four (x j) ++ four (y j))) (8 * k) left at
+-- the first k of n pairs are written
+pub record Rowed (x y : ℕ → ℕ) (n : ℕ) (old : Writer) (k : ℕ) (new : Writer) : Type 0 where
+  pub puts : Puts old (joined k (λ j. four (x j) ++ four (y j))) (8 * k) new
   pub within : k ≤ n
 
-module _ {x y : ℕ → ℕ} {n from : ℕ} {out : List ℕ} where
-  pub rowed-none : Rowed x y n from out out 0 from
-  rowed-none = record { put = put-none out from; within = omega arith }
+module _ {x y : ℕ → ℕ} {n : ℕ} {old : Writer} where
+  pub rowed-none : Rowed x y n old 0 old
+  rowed-none = record { puts = puts-none old; within = omega arith }
 
-  pub rowed-next : {mid left : List ℕ} {k at past : ℕ} → Rowed x y n from out mid k at → k < n → Put mid at (four (x k) ++ four (y k)) 8 left past
-      → Rowed x y n from out left (k + 1) past
-  rowed-next {k = k} r l p = record { put = rw (add-one k) (put-most (8 * suc k) (omega arith) (put_then r.put p)); within = omega arith }
+  pub rowed-next : {k : ℕ} {mid new : Writer} → Rowed x y n old k mid → k < n → Puts mid (four (x k) ++ four (y k)) 8 new → Rowed x y n old (k + 1) new
+  rowed-next {k} r l p = record { puts = rw (add-one k) (puts-most (8 * suc k) (omega arith) (puts_then r.puts p)); within = omega arith }
 
-  pub rowed-at : {left : List ℕ} {k at : ℕ} → Rowed x y n from out left k at → at ≤ from + 8 * k
-  rowed-at r = omega (arith, r.put.place, r.put.few)
+  pub rowed-at : {k : ℕ} {new : Writer} → Rowed x y n old k new → new.at ≤ old.at + 8 * k
+  rowed-at r = puts-past r.puts
 
-  pub rowed-end : {left : List ℕ} {k at : ℕ} → Rowed x y n from out left k at → n ≤ k → Put out from (encoded (joined n (λ j. x j ∷ y j ∷ []))) (8 * n) left at
-  rowed-end {left} {k} {at} r l =
+  pub rowed-end : {k : ℕ} {new : Writer} → Rowed x y n old k new → n ≤ k → Puts old (encoded (joined n (λ j. x j ∷ y j ∷ []))) (8 * n) new
+  rowed-end {k} {new} r l =
       let e : k ≡ n = omega (arith, r.within) in
-      let p = subst (λ (m : ℕ). Put out from (joined m (λ j. four (x j) ++ four (y j))) (8 * m) left at) e r.put in
-      subst (λ (w : List ℕ). Put out from w (8 * n) left at) (pairs n x y) p
+      let p = subst (λ (m : ℕ). Puts old (joined m (λ j. four (x j) ++ four (y j))) (8 * m) new) e r.puts in
+      subst (λ (w : List ℕ). Puts old w (8 * n) new) (pairs n x y) p

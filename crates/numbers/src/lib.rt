@@ -2,8 +2,10 @@
 #![tactic(auto)]
 
 ghost use Rattle.std.specs.Prelude.{◌++◌, ◌+◌, ◌<◌, ◌^◌};
-ghost use Rattle.text.specs.Lent.{Put};
+ghost use Rattle.text.specs.Puts.{Puts};
 ghost use Rattle.numbers.specs.Numbers.{four};
+
+use text::Writer;
 
 // How many bytes a number has, and a pair of numbers.
 pub const NUMBER: usize = 4;
@@ -11,21 +13,18 @@ pub const NUMBER: usize = 4;
 pub const PAIR: usize = 8;
 
 // One number.
-pub fn put_number(out: &mut [u8], at: usize, x: u32) -> usize
-    requires { at + 4 < 2 ^ 64 }
-    ensures { Put out.old at (four x) 4 out.new result }
+pub fn put_number(out: &mut Writer, x: u32)
+    requires { out.old.at + 4 < 2 ^ 64 }
+    ensures { Puts out.old (four x) 4 out.new }
 {
-    let b = text::put_byte(out, at, (x % 256) as u8);
-    let c = text::put_byte(out, b, (x / 256 % 256) as u8);
-    let d = text::put_byte(out, c, (x / 65536 % 256) as u8);
-    text::put_byte(out, d, (x / 16777216 % 256) as u8)
+    out.put_word(&x.to_le_bytes());
 }
 
 // Two numbers.
-pub fn put_pair(out: &mut [u8], at: usize, x: u32, y: u32) -> usize
-    requires { at + 8 < 2 ^ 64 }
-    ensures { Put out.old at (four x ++ four y) 8 out.new result }
+pub fn put_pair(out: &mut Writer, x: u32, y: u32)
+    requires { out.old.at + 8 < 2 ^ 64 }
+    ensures { Puts out.old (four x ++ four y) 8 out.new }
 {
-    let b = put_number(out, at, x);
-    put_number(out, b, y)
+    put_number(out, x);
+    put_number(out, y);
 }

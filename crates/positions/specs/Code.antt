@@ -6,7 +6,7 @@ use Rattle.lists.specs.Lists.{ranges}
 use Rattle.lists.specs.Below.{weighted}
 use Rattle.positions.specs.Search.{below_columns, bound_columns, Bracket, Located}
 use Rattle.positions.specs.Lines.{Linear}
-use Rattle.positions.specs.declared.columns.Columns.{Columns}
+use Rattle.positions.specs.declared.list.Columns.{Columns}
 use Rattle.positions.specs.declared.Position.{Position}
 use Rattle.positions.specs.declared.Search.{Search}
 use Rattle.positions.specs.declared.Line.{Line}

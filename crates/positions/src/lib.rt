@@ -9,10 +9,10 @@ ghost use Rattle.positions.specs.Search.{Aligned};
 ghost use Rattle.positions.specs.Lines.{Extended, OnLine};
 ghost use Rattle.positions.specs.Code.{loops_in, range_in, shift_in, weighted_in, below_in, bound_in, BracketIn, LocatedIn, LinearIn};
 
-mod columns;
+mod list;
 
 use blocks::Range;
-use columns::Columns;
+use list::Columns;
 use model::Iteration;
 
 // Every sum of an index and a shift is below it.

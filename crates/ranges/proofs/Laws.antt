@@ -1,23 +1,19 @@
--- The walk over the loops that keeps their ranges, and the parts that the n-th iteration is found in.
-use Prim.Native.Nat.{ℕ, zero, suc, ◌+◌, ◌-◌, ◌*◌, ◌≤◌, ◌<◌}
+-- The walk over the loops that keeps their ranges, and the sum of their indices.
+use Prim.Native.Nat.{ℕ, ◌+◌, ◌-◌, ◌*◌, ◌≤◌, ◌<◌}
 use native.Mathlib.Omega.{arith}
 use native.Mathlib.Decide.{ℕ_discrete}
 use mathlib.Core.Path.{◌≡◌, refl, sym, ap, ◌∙◌}
 use mathlib.Core.List.{List}
-use lib.ListN.{length, get_or, set, take, drop, length-set}
+use lib.ListN.{length, get_or, set, length-set}
 use lib.Seq.{get_or-set_same, get_or-set_other}
-use Rattle.model.specs.Table.{iteration}
-use Rattle.model.specs.declared.Iteration.{Iteration}
 use Rattle.blocks.specs.declared.Axis.{Axis}
 use Rattle.blocks.specs.declared.Range.{Range}
 use Rattle.reader.specs.Store.{loops_in}
 use Rattle.plans.specs.Code.{Laid}
 use Rattle.blocks.specs.SumLaws.{total-next}
 use Rattle.lists.proofs.BelowLaws.{indices_in}
-use Rattle.lists.specs.Lists.{fused_columns, peeled_columns}
-use Rattle.positions.specs.Search.{Aligned}
-use Rattle.ranges.specs.Code.{range_of, cut, list_of, RangesKept, Apart}
-use Rattle.ranges.specs.Listed.{range_small, kept-aligned}
+use Rattle.ranges.specs.Code.{range_of, RangesKept, Apart}
+use Rattle.ranges.specs.Listed.{range_small}
 
 -- the first k loops' ranges are kept, and `sum` counts their indices
 pub record Filled (old xs : List ℕ) (at k : ℕ) (f : ℕ → Range) (s : ℕ → ℕ) (sum : ℕ) : Type 0 where
@@ -101,27 +97,3 @@ summed-next a c h n b k sum x r l s e f =
       sum_is = total-next k (λ j. (range_of n a c b j).past - (range_of n a c b j).from) sum x s.sum_is w;
       small = omega (arith, s.small, range_small a c h n b k l);
     }
-
--- THE PARTS
-module _ (xs : List ℕ) (at l n : ℕ) (few : l ≤ 16) (room : at + 48 ≤ length xs) where
-  -- l numbers from a place on, as the code cuts them out
-  abbrev pub piece : ℕ → List ℕ
-  piece i = take (i + l - i) (drop i xs)
-
-  piece_is : (i : ℕ) → piece i ≡ cut xs i l
-  piece_is i = let e : i + l - i ≡ l = omega arith in ap (λ (m : ℕ). take m (drop i xs)) e
-
-  pub fused-asks : (phase : ℕ) → phase ≡ 0 → n < length (list_of xs at l phase)
-      → ((length (piece at) ≤ 16) × Aligned (piece at) (piece (at + 16)) (piece (at + 32)))
-      × (n < length (fused_columns (piece at) (piece (at + 16)) (piece (at + 32))))
-  fused-asks phase e h =
-      rw (piece_is at, piece_is (at + 16), piece_is (at + 32)) (kept-aligned xs at l few room, rw e at h)
-
-  pub fused-is : (phase : ℕ) (x : Iteration) → phase ≡ 0 → x ≡ get_or (fused_columns (piece at) (piece (at + 16)) (piece (at + 32))) n (iteration 0 0)
-      → x ≡ get_or (list_of xs at l phase) n (iteration 0 0)
-  fused-is phase x e q = rw e (rw (piece_is at, piece_is (at + 16), piece_is (at + 32)) at q)
-
-  pub peeled-is : (phase : ℕ) (x : Iteration) → (phase ≡ 0 → ⊥) → x ≡ get_or (peeled_columns (piece at) (piece (at + 16))) n (iteration 0 0)
-      → x ≡ get_or (list_of xs at l phase) n (iteration 0 0)
-  peeled-is zero x e q = absurd (e refl)
-  peeled-is (suc phase) x e q = rw (piece_is at, piece_is (at + 16)) at q

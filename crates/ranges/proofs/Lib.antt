@@ -1,2 +1,2 @@
--- the walk over the loops that keeps their ranges, and the parts that the n-th iteration is found in
+-- the walk over the loops that keeps their ranges, and the sum of their indices
 pub mod Laws

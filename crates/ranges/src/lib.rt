@@ -101,18 +101,13 @@ pub fn nth_of(phase: u32, loops: usize, lists: &[u32], at: usize, n: usize) -> I
     requires { (loops ≤ 16) × (at + 48 ≤ length lists.now) × (n < length (list_of lists.now at loops phase)) }
     ensures { result ≡ get_or (list_of lists.now at loops phase) n (iteration 0 0) }
 {
-    let past = at + PASTS;
-    let from_end = at + loops;
-    let past_end = past + loops;
-    if phase == 0 {
-        let shift = at + SHIFTS;
-        let shift_end = shift + loops;
-        return positions::fused_nth(
-            &lists[at..from_end],
-            &lists[past..past_end],
-            &lists[shift..shift_end],
-            n,
-        );
+    let froms = &lists[at..at + loops];
+    let pasts = &lists[at + PASTS..at + PASTS + loops];
+    match part_in(phase) {
+        Part::Fused => {
+            let shifts = &lists[at + SHIFTS..at + SHIFTS + loops];
+            positions::fused_nth(froms, pasts, shifts, n)
+        }
+        Part::Peeled => positions::peeled_nth(froms, pasts, n),
     }
-    positions::peeled_nth(&lists[at..from_end], &lists[past..past_end], n)
 }

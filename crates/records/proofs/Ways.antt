@@ -2,7 +2,9 @@
 use Rattle.std.specs.Prelude.{ℕ, zero, suc, ◌≤◌, ◌<◌, ◌+◌, ◌≡◌, refl, List, length, eqb, Bool, true, false, cond}
 use Rattle.std.proofs.Common.{arith, ap, ◌∙◌}
 use borrow.Author.Tests.{lt-ltb, le-ltb, le-leb, lt-leb, ne_eqb}
-use Rattle.refusals.specs.Refusals.{met}
+use Rattle.refusals.specs.declared.Ground.{Ground}
+use Rattle.refusals.specs.declared.Ground.TheVariants as of
+use Rattle.refusals.specs.Refusals.{met, number_of}
 use Rattle.records.specs.declared.Kind.{Kind}
 use Rattle.records.specs.declared.Kind.TheVariants.{Unknown}
 use Rattle.records.specs.declared.Record.{Record}
@@ -11,6 +13,27 @@ use Rattle.records.specs.declared.Tested.TheVariants.{Refused}
 use Rattle.records.specs.Bytes.{byte, kind_of, body_length, record_of, record_at}
 use Rattle.records.specs.History.{operands}
 use Rattle.records.specs.Grounds.{ground, early, fields, passed, tested}
+
+-- no ground's number stands for none
+pub ground_some : (g : Ground) → number_of g ≡ 0 → ⊥
+ground_some of.Torn e = absurd (omega arith)
+ground_some of.Kind e = absurd (omega arith)
+ground_some of.Field e = absurd (omega arith)
+ground_some of.Crowd e = absurd (omega arith)
+ground_some of.Array e = absurd (omega arith)
+ground_some of.Body e = absurd (omega arith)
+ground_some of.Edge e = absurd (omega arith)
+ground_some of.Tail e = absurd (omega arith)
+ground_some of.Serial e = absurd (omega arith)
+ground_some of.Processors e = absurd (omega arith)
+ground_some of.Short e = absurd (omega arith)
+ground_some of.Memory e = absurd (omega arith)
+ground_some of.Buffer e = absurd (omega arith)
+ground_some of.Unlike e = absurd (omega arith)
+ground_some of.State e = absurd (omega arith)
+ground_some of.Line e = absurd (omega arith)
+ground_some of.Plan e = absurd (omega arith)
+ground_some of.Unmet e = absurd (omega arith)
 
 -- a byte that is no kind
 pub no_kind : (b : ℕ) → (b ≡ 1 → ⊥) → (b ≡ 2 → ⊥) → (b ≡ 3 → ⊥) → (b ≡ 4 → ⊥) → (b ≡ 5 → ⊥) → (b ≡ 6 → ⊥) → (b ≡ 7 → ⊥) → Unknown ≡ kind_of b

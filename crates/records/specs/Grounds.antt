@@ -1,6 +1,7 @@
 -- The tests of one record, in docs/TABLE.md's order. 0: none of the grounds holds.
-use Rattle.std.specs.Prelude.{ℕ, ◌+◌, Bool, true, false, not, List, get_or, length, ltb, leb, eqb}
-use Rattle.refusals.specs.Refusals.{met}
+use Rattle.std.specs.Prelude.{ℕ, ◌+◌, Bool, true, false, not, List, get_or, length, ltb, leb, eqb, Result, Ok, Err}
+use Rattle.refusals.specs.declared.Ground.{Ground}
+use Rattle.refusals.specs.Refusals.{met, number_of}
 use Rattle.records.specs.declared.Kind.{Kind}
 use Rattle.records.specs.declared.Kind.TheVariants as kind
 use Rattle.records.specs.declared.Record.{Record}
@@ -15,6 +16,11 @@ infixr 20 ◌if◌else◌
 abbrev pub ◌if◌else◌ : ℕ → Bool → ℕ → ℕ
 ◌if◌else◌ g true r = g
 ◌if◌else◌ g false r = r
+
+-- what code answers of tests, as a number: that of the ground which they meet, 0 where they meet none
+abbrev pub number_met : {T : Type 0} → Result T Ground → ℕ
+number_met (Ok t) = 0
+number_met (Err g) = number_of g
 
 -- 2; then 6 for a body left unfinished; then 4 for one array, loop, item or statement too many
 unfoldable pub early : Kind → Summary → ℕ

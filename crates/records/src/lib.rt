@@ -3,6 +3,7 @@
 
 ghost use Rattle.std.specs.Prelude.{◌≡◌, ◌+◌, ◌<◌, ◌≤◌};
 ghost use Rattle.records.specs.History.{operands, with_array, with_loop, with_item, with_statement, advanced, blank};
+ghost use Rattle.records.specs.Bytes.{kind_of};
 ghost use Rattle.records.specs.Clear.{Room};
 ghost use Rattle.records.specs.Store.{new_store};
 
@@ -20,7 +21,7 @@ pub const MOST_ARRAYS: usize = 16;
 
 pub const MOST_LOOPS: usize = 16;
 
-#[derive(Clone, Copy)]
+#[derive(Clone, Copy, Debug, PartialEq, Eq)]
 pub enum Kind {
     Unknown,
     Array,
@@ -32,8 +33,27 @@ pub enum Kind {
     Statement,
 }
 
+// The kind that a byte stands for.
+impl From<u8> for Kind {
+    ghost from_gives = { λ b k. k ≡ kind_of b };
+
+    #[tactic(auto, unfolding(crate::specs::Bytes::kind_of))]
+    fn from(b: u8) -> Kind {
+        match b {
+            1 => Kind::Array,
+            2 => Kind::Loop,
+            3 => Kind::Read,
+            4 => Kind::Constant,
+            5 => Kind::Operation,
+            6 => Kind::End,
+            7 => Kind::Statement,
+            _ => Kind::Unknown,
+        }
+    }
+}
+
 // A record with its fields. An offset o is kept as o + 255.
-#[derive(Clone, Copy)]
+#[derive(Clone, Copy, Debug, PartialEq, Eq)]
 pub enum Record {
     Unknown,
     Array(u32),
@@ -58,7 +78,7 @@ pub enum Record {
 
 // What the tests look at in the records before: counts of arrays, of elements in all and of loops; of the latest loop its first and
 // last, how many statements and items it has, and how many numbers wait in its latest statement.
-#[derive(Clone, Copy)]
+#[derive(Clone, Copy, Debug, PartialEq, Eq)]
 pub struct Summary {
     pub arrays: u32,
     pub elements: u32,
@@ -79,6 +99,7 @@ pub enum Tested {
 }
 
 // How many numbers an operation takes.
+#[tactic(auto, unfolding(crate::specs::History::operands))]
 pub fn operands_of(o: u32) -> u32
     ensures { result ≡ operands o }
 {
@@ -87,6 +108,7 @@ pub fn operands_of(o: u32) -> u32
 
 impl Summary {
     // Before the first record: no body is unfinished, and no loop has room.
+    #[tactic(auto, unfolding(crate::specs::History::blank))]
     pub fn blank() -> Self
         ensures { result ≡ blank }
     {
@@ -102,48 +124,56 @@ impl Summary {
         }
     }
 
+    #[tactic(auto, unfolding(crate::specs::History::with_array))]
     fn with_array(self, n: u32) -> Self
         requires { (self.arrays < 16) × (self.elements + n ≤ 262144) }
         ensures { result ≡ with_array n self }
     {
-        let mut t = self;
-        t.arrays = self.arrays + 1;
-        t.elements = self.elements + n;
-        t
+        Summary {
+            arrays: self.arrays + 1,
+            elements: self.elements + n,
+            ..self
+        }
     }
 
+    #[tactic(auto, unfolding(crate::specs::History::with_loop))]
     fn with_loop(self, first: u32, last: u32) -> Self
         requires { self.loops < 16 }
         ensures { result ≡ with_loop first last self }
     {
-        let mut t = self;
-        t.loops = self.loops + 1;
-        t.first = first;
-        t.last = last;
-        t.statements = 1;
-        t.items = 0;
-        t.waiting = 0;
-        t
+        Summary {
+            loops: self.loops + 1,
+            first,
+            last,
+            statements: 1,
+            items: 0,
+            waiting: 0,
+            ..self
+        }
     }
 
+    #[tactic(auto, unfolding(crate::specs::History::with_item))]
     fn with_item(self, waiting: u32) -> Self
         requires { self.items < 32 }
         ensures { result ≡ with_item waiting self }
     {
-        let mut t = self;
-        t.items = self.items + 1;
-        t.waiting = waiting;
-        t
+        Summary {
+            items: self.items + 1,
+            waiting,
+            ..self
+        }
     }
 
+    #[tactic(auto, unfolding(crate::specs::History::with_statement))]
     fn with_statement(self) -> Self
         requires { self.statements < 4 }
         ensures { result ≡ with_statement self }
     {
-        let mut t = self;
-        t.statements = self.statements + 1;
-        t.waiting = 0;
-        t
+        Summary {
+            statements: self.statements + 1,
+            waiting: 0,
+            ..self
+        }
     }
 
     // After a record that met no ground.
@@ -152,28 +182,12 @@ impl Summary {
         ensures { result ≡ advanced r self }
     {
         match r {
-            Record::Unknown => self,
+            Record::Unknown | Record::End => self,
             Record::Array(n) => self.with_array(n),
-            Record::Loop {
-                first,
-                last,
-                array: _,
-                offset: _,
-            } => self.with_loop(first, last),
-            Record::Read {
-                array: _,
-                offset: _,
-            } => self.with_item(self.waiting + 1),
-            Record::Constant(_) => self.with_item(self.waiting + 1),
-            Record::Operation(o) => {
-                let n = operands_of(o);
-                self.with_item(self.waiting - n + 1)
-            }
-            Record::End => self,
-            Record::Statement {
-                array: _,
-                offset: _,
-            } => self.with_statement(),
+            Record::Loop { first, last, .. } => self.with_loop(first, last),
+            Record::Read { .. } | Record::Constant(_) => self.with_item(self.waiting + 1),
+            Record::Operation(o) => self.with_item(self.waiting - operands_of(o) + 1),
+            Record::Statement { .. } => self.with_statement(),
         }
     }
 }

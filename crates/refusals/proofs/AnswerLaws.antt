@@ -1,13 +1,13 @@
 -- Laws of answers: what is accepted and what is refused after an answer, and before a test.
 use Rattle.std.specs.Prelude.{ℕ, ◌≡◌, refl, ◌⊎◌, Bool, true, false, Ok, Err}
-use Rattle.std.proofs.Common.{arith, sym, ap, subst, inl, inr}
+use Rattle.std.proofs.Common.{sym, ap, subst, inl, inr}
 use Rattle.refusals.specs.declared.Refusal.{Refusal}
 use Rattle.refusals.specs.Refusals.{met}
 use Rattle.refusals.specs.Answers.{AnswerOf, ◌if◌else◌, after, refusal_of, result_of, Only, accepted, refused}
 
 module _ {T : Type 0} where
   pub not-both : {r : Refusal} {t : T} → refused r ≡ accepted t → ⊥
-  not-both e = let z : ◌≡◌ {A = ℕ} 0 1 = cc in omega arith
+  not-both e = cc
 
   -- where something is refused, what is told is what is refused
   pub told-refused : (a : AnswerOf T) (r : Refusal) → r ≡ refusal_of a → (r.ground ≡ 0 → ⊥) → a ≡ refused r

@@ -5,6 +5,7 @@ use Rattle.std.proofs.Math.Decide.{dec_lt}
 use Rattle.std.specs.Prelude.{◌≡◌, ◌≢◌, Bool, not, get_or, eqb}
 use Rattle.std.proofs.Math.Path.{refl, sym}
 use Rattle.std.proofs.Math.Bool.{true, false}
+use Rattle.std.proofs.lemmas.Bool.{false≢true}
 use mathlib.Core.List.{List, [], ◌∷◌, ◌++◌, append-nil}
 use mathlib.Core.List.Memᴰ.{head as mhere}
 use mathlib.Core.List.Memᴰ.{tail as mthere}
@@ -23,9 +24,6 @@ use Rattle.serial.specs.Serial.{Collision, pair, collides, pick, hit, or_else, p
 use Rattle.serial.specs.Meeting.{Serial, numbered, Collides}
 
 -- THE TEST OF A PAIR
-false-true : false ≡ true → ⊥
-false-true e = let z : ◌≡◌ {A = ℕ} 0 1 = cc in omega arith
-
 module _ (f l : ℕ) (r q : Reference) where
   -- what a collision is
   abbrev Colliding : Type 0
@@ -63,7 +61,7 @@ module _ (f l : ℕ) (d : Reference) where
       (ap (λ (x : ℕ × ℕ). x.0) p, ap (λ (x : ℕ × ℕ). x.1) p)
 
   no-pair : {A : Type 0} (n m : ℕ) → None ≡ pair n m → A
-  no-pair n m e = let z : ◌≡◌ {A = ℕ} 0 1 = cc in absurd (omega arith)
+  no-pair n m e = absurd cc
 
   hit-found : (n : ℕ) (r : Reference) (qs : List Reference) (m a b : ℕ) → hit f l n r qs m ≡ pair a b → Hit n r qs m a b
   unfolding hit
@@ -248,7 +246,7 @@ module _ (t : Table) (k : ℕ) where
 
   apart_none : (m n : ℕ) → collides (first t k) (last t k) (numbered t k m) (numbered t k n) ≡ false → Collides t k m n → ⊥
   apart_none m n e c =
-      false-true (sym e ∙ meet-collides (numbered t k m) (numbered t k n) c.one c.other c.one_inside c.other-inside c.differ c.meet)
+      false≢true (sym e ∙ meet-collides (numbered t k m) (numbered t k n) c.one c.other c.one_inside c.other-inside c.differ c.meet)
 
   module _ (m n : ℕ) (e : loop_hit (loop t k) ≡ pair m n) where
     found : Pairs (first t k) (last t k) none (refs t k) 0 m n
@@ -295,10 +293,10 @@ module _ (t : Table) (k : ℕ) where
       go : (i j : ℕ) → i < length (refs t k) → j < length (refs t k) → numbered t k i ≡ x.left → numbered t k j ≡ x.right
           → Dec (i < j) → Dec (j < i) → ⊥
       go i j l m p q (yes a) b =
-          false-true (sym (rw (p, q) at (apart i j a m))
+          false≢true (sym (rw (p, q) at (apart i j a m))
           ∙ meet-collides x.left x.right x.one x.other x.one_inside x.other-inside x.differ x.meet)
       go i j l m p q (no a) (yes b) =
-          false-true (sym (rw (q, p) at (apart j i b l))
+          false≢true (sym (rw (q, p) at (apart j i b l))
           ∙ meet-collides x.right x.left x.other x.one x.other-inside x.one_inside (λ z. x.differ (sym z))
           ((sym x.meet.0.0, ⊎_elim inr inl x.meet.0.1), sym x.meet.1))
       go i j l m p q (no a) (no b) =
@@ -344,5 +342,5 @@ module _ (t : Table) (k : ℕ) (s : Statement) (only : (loop t k).body ≡ s ∷
   one-statement zero n c = refl
   one-statement (suc m) zero c = absurd (omega (arith, c.lower))
   one-statement (suc m) (suc n) c =
-      ⊎_elim (λ e. absurd (false-true (sym (later-reads m (omega (arith, c.lower, c.there))) ∙ e)))
-      (λ e. absurd (false-true (sym (later-reads n c.there) ∙ e))) c.meet.0.1
+      ⊎_elim (λ e. absurd (false≢true (sym (later-reads m (omega (arith, c.lower, c.there))) ∙ e)))
+      (λ e. absurd (false≢true (sym (later-reads n c.there) ∙ e))) c.meet.0.1

@@ -5,7 +5,7 @@ use native.Mathlib.Decide.{ℕ_discrete}
 use native.Mathlib.Numerals.{add-one}
 use mathlib.Core.Path.{◌≡◌, refl, sym, ap, subst, ◌∙◌}
 use mathlib.Core.Logic.{◌⊎◌, inl, inr, ⊎_elim}
-use mathlib.Core.Bool.{Bool, true, false, not, ◌||◌, false≢true, and-false}
+use mathlib.Core.Bool.{Bool, true, false, not, ◌||◌, false≢true}
 use mathlib.Core.List.{List}
 use mathlib.Core.List.{Memᴰ as Mem}
 use lib.Dec.{eqb, ltb}
@@ -17,7 +17,6 @@ use Rattle.overlap.specs.Overlap.{some_from}
 use Rattle.overlap.proofs.OverlapLaws.{is_some}
 use Rattle.model.specs.declared.Reference.{Reference}
 use Rattle.reader.specs.Store.{kind_at, array_at, value_at}
-use Rattle.reader.specs.Stored.{Row}
 use Rattle.reader.specs.Rows.{ref_in, refs_in}
 use Rattle.std.specs.Prelude.{Option, None, Some, ◌&&◌}
 use Rattle.serial.specs.Serial.{collides, pair_hit}

@@ -27,7 +27,6 @@ use Rattle.refusals.specs.declared.Refusal.{Refusal}
 use Rattle.refusals.specs.Answers.{accepted, refused}
 use Rattle.reader.specs.Reading.{Answer, reading}
 use Rattle.reader.specs.Store.{first_at, last_at, start_at, kind_at, loops_in, loop_at, table_in}
-use Rattle.reader.specs.Stored.{Row}
 use Rattle.reader.specs.ReadInto.{ReadInto}
 use Rattle.reader.specs.Held.{Held, count_held, few-loops, few-rows, rows-rise, row-held, opening-held, loop-held}
 use Rattle.reader.specs.Rows.{ref_in, row_refs, refs_from, refs_in, LastDestination}

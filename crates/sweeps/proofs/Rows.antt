@@ -2,7 +2,9 @@
 use Rattle.std.specs.Prelude.{ℕ, suc, ◌+◌, ◌≤◌, ◌<◌, ◌≡◌, refl, Bool, true, false, cond, ◌&&◌, ◌||◌, List, [], ◌∷◌, ◌++◌, eqb, ltb}
 use Rattle.std.proofs.Math.Path.{sym}
 use Rattle.std.proofs.Common.{ap, ◌∙◌}
-use Rattle.std.proofs.Math.Bool.{or_assoc, or-false}
+use Rattle.std.proofs.Math.Bool.{or_assoc, or-false, and-true, and-false}
+use Rattle.std.proofs.Math.Decide.{ℕ_discrete}
+use borrow.Author.Tests.{ne_eqb}
 use Rattle.marks.specs.Marks.{marked}
 use Rattle.marks.specs.MarkLaws.{none-marked}
 use Rattle.model.specs.declared.Reference.{Reference}
@@ -30,6 +32,14 @@ some-row f c k r = go (ltb (kind_at c r) 2)
     go : (b : Bool) → some f (cond b (ref_in c k r ∷ []) []) ≡ (b && f (ref_in c k r))
     go true = or-false (f (ref_in c k r))
     go false = refl
+
+-- a destination's row is a reference
+pub stored : (kind : ℕ) (b : Bool) → (eqb kind 1 && b) ≡ (ltb kind 2 && (b && eqb kind 1))
+stored kind b = go (ℕ_discrete kind 1)
+  where
+    go : Dec (kind ≡ 1) → (eqb kind 1 && b) ≡ (ltb kind 2 && (b && eqb kind 1))
+    go (yes e) = rw (e, and-true b)
+    go (no n) = rw (ne_eqb kind 1 n, and-false b, and-false (ltb kind 2))
 
 -- THE WALK over the rows of loop k, for one of its sets: the arrays of the references that pass the test f
 module _ (c : List ℕ) (k : ℕ) (f : ℕ → Reference → Bool) where

@@ -25,15 +25,15 @@ module _ {c : List ℕ} (h : Held c) (k : ℕ) (there : k < count (table_in c)) 
   pub rows-past : (past : ℕ) → past ≡ start_at c (k + 1) → (past ≤ 576) × (past ≡ start_at c (suc k))
   rows-past past e = let f = e ∙ ap (start_at c) (add-one k) in (omega (arith, few-rows h (suc k) there), f)
 
--- the totals with loop k: z is its sets, x and y their sizes, u and v the unions
-pub added : (s : Totals) (t : Table) (k : ℕ) (z : Sets) → SetsOf t k z → (x y u v : ℕ) → x ≡ size (marked z.touched)
-    → y ≡ size (marked z.written) → ((q : ℕ) → marked u q ≡ (marked s.touched q || marked z.touched q))
-    → ((q : ℕ) → marked v q ≡ (marked s.written q || marked z.written q))
-    → Added s (record { before = s.before + (x + y); touched = u; written = v }) t k
-added s t k z o x y u v d e f g = record {
-  sums = ap₂ (λ (i j : ℕ). s.before + (i + j)) (d ∙ size_same _ _ o.touches) (e ∙ size_same _ _ o.writes);
-  touches = λ q. f q ∙ ap (λ (b : Bool). marked s.touched q || b) (o.touches q);
-  writes = λ q. g q ∙ ap (λ (b : Bool). marked s.written q || b) (o.writes q);
+-- the totals with loop k: z is its sets, x both their sizes, u the unions
+pub added : (s : Totals) (t : Table) (k : ℕ) (z : Sets) → SetsOf t k z → (x : ℕ) (u : Sets) → x ≡ size (marked z.touched) + size (marked z.written)
+    → ((q : ℕ) → marked u.touched q ≡ (marked s.sets.touched q || marked z.touched q))
+    → ((q : ℕ) → marked u.written q ≡ (marked s.sets.written q || marked z.written q))
+    → Added s (record { before = s.before + x; sets = u }) t k
+added s t k z o x u e f g = record {
+  sums = ap (λ (i : ℕ). s.before + i) (e ∙ ap₂ (λ (i j : ℕ). i + j) (size_same _ _ o.touches) (size_same _ _ o.writes));
+  touches = λ q. f q ∙ ap (λ (b : Bool). marked s.sets.touched q || b) (o.touches q);
+  writes = λ q. g q ∙ ap (λ (b : Bool). marked s.sets.written q || b) (o.writes q);
 }
 
 -- LOOPS
@@ -44,8 +44,8 @@ sizes t k = size (touched t k) + size (written t k)
 pub record LoopInv (c : List ℕ) (loops k : ℕ) (s : Totals) : Type 0 where
   pub small : s.before ≤ 32 * k
   pub sums : sum_over (sizes (table_in c)) k (loops - k) s.before ≡ Sweeps.before (table_in c)
-  pub touches : union_over (touched (table_in c)) k (loops - k) (marked s.touched) ≡ union (table_in c) (touched (table_in c))
-  pub writes : union_over (written (table_in c)) k (loops - k) (marked s.written) ≡ union (table_in c) (written (table_in c))
+  pub touches : union_over (touched (table_in c)) k (loops - k) (marked s.sets.touched) ≡ union (table_in c) (touched (table_in c))
+  pub writes : union_over (written (table_in c)) k (loops - k) (marked s.sets.written) ≡ union (table_in c) (written (table_in c))
 
 module _ (c : List ℕ) (h : Held c) (loops : ℕ) (all : loops ≡ loops_in c) where
   abbrev t : Table
@@ -54,7 +54,7 @@ module _ (c : List ℕ) (h : Held c) (loops : ℕ) (all : loops ≡ loops_in c) 
   pub loops-few : loops ≤ 16
   loops-few = omega (arith, few-loops h)
 
-  pub loops-start : LoopInv c loops 0 (record { before = 0; touched = 0; written = 0 })
+  pub loops-start : LoopInv c loops 0 (record { before = 0; sets = record { touched = 0; written = 0 } })
   loops-start = record { small = omega arith; sums = rw whole; touches = rw (whole, empty); writes = rw (whole, empty) }
     where
       whole : loops - 0 ≡ count t
@@ -73,12 +73,12 @@ module _ (c : List ℕ) (h : Held c) (loops : ℕ) (all : loops ≡ loops_in c) 
       loops-next r b = rw (add-one k) (record {
         small = omega (arith, inv.small, b.sums, size-most (touched t k), size-most (written t k));
         sums = upward-turn _ k loops _ _ inv.sums m r.before b.sums;
-        touches = upward-turn _ k loops _ _ inv.touches m (marked r.touched) (fun_ext b.touches);
-        writes = upward-turn _ k loops _ _ inv.writes m (marked r.written) (fun_ext b.writes);
+        touches = upward-turn _ k loops _ _ inv.touches m (marked r.sets.touched) (fun_ext b.touches);
+        writes = upward-turn _ k loops _ _ inv.writes m (marked r.sets.written) (fun_ext b.writes);
       })
 
-    pub loops-done : loops ≤ k → (x y : ℕ) → x ≡ size (marked s.touched) → y ≡ size (marked s.written)
-        → record { before = s.before; after = x + y } ≡ sweeps (table_in c)
+    pub loops-done : loops ≤ k → (x : ℕ) → x ≡ size (marked s.sets.touched) + size (marked s.sets.written)
+        → record { before = s.before; after = x } ≡ sweeps (table_in c)
     unfolding sweeps
-    loops-done m x y e f =
-        rw (e, f, upward-ended _ k loops _ _ inv.sums m, upward-ended _ k loops _ _ inv.touches m, upward-ended _ k loops _ _ inv.writes m)
+    loops-done m x e =
+        rw (e, upward-ended _ k loops _ _ inv.sums m, upward-ended _ k loops _ _ inv.touches m, upward-ended _ k loops _ _ inv.writes m)

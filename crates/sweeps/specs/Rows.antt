@@ -18,8 +18,8 @@ pub record SetsOf (t : Table) (k : ℕ) (s : Sets) : Type 0 where
 -- the totals s, then r with loop k
 pub record Added (s r : Totals) (t : Table) (k : ℕ) : Type 0 where
   pub sums : r.before ≡ s.before + (size (touched t k) + size (written t k))
-  pub touches : (q : ℕ) → marked r.touched q ≡ (marked s.touched q || touched t k q)
-  pub writes : (q : ℕ) → marked r.written q ≡ (marked s.written q || written t k q)
+  pub touches : (q : ℕ) → marked r.sets.touched q ≡ (marked s.sets.touched q || touched t k q)
+  pub writes : (q : ℕ) → marked r.sets.written q ≡ (marked s.sets.written q || written t k q)
 
 -- THE WALK over the rows of loop k, for one of its sets: the arrays of the references that pass the test f
 module _ (c : List ℕ) (k : ℕ) (f : ℕ → Reference → Bool) where

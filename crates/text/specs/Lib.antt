@@ -4,6 +4,8 @@ pub mod Ascii
 pub mod Lent
 -- texts one after the other, with room and without
 pub mod Written
+-- what a writer puts into them
+pub mod Puts
 -- a number in decimal
 pub mod Decimal
 -- a line: a word and numbers

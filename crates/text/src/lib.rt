@@ -1,110 +1,90 @@
-// Text in lent bytes: what has no room is left out, and each function answers the place past its text, as if there were room.
+// Text in lent bytes: what has no room is left out, and the place goes on past it, as if there were room.
 #![tactic(auto)]
 
-ghost use Rattle.std.specs.Prelude.{◌≡◌, [], ◌∷◌, ◌++◌, ◌+◌, ◌^◌, ◌≤◌, ◌<◌, length, set};
-ghost use Rattle.text.specs.Lent.{Put};
+ghost use Rattle.std.specs.Prelude.{◌≡◌, [], ◌∷◌, ◌+◌, ◌^◌, ◌≤◌, ◌<◌, length};
+ghost use Rattle.text.specs.Puts.{Puts};
 ghost use Rattle.text.specs.Decimal.{decimal};
 ghost use Rattle.text.specs.Line.{field, line};
 
-// One byte.
-pub fn put_byte(out: &mut [u8], at: usize, b: u8) -> usize
-    requires { at + 1 < 2 ^ 64 }
-    ensures { (out.new ≡ set out.old at b) × (result ≡ at + 1) }
-{
-    if out.len() <= at {
-        return at + 1;
-    }
-    out[at] = b;
-    at + 1
-}
-
-// The bytes of a word.
-pub fn put_word(out: &mut [u8], at: usize, w: &[u8]) -> usize
-    requires { at + length w.now < 2 ^ 64 }
-    ensures { Put out.old at w.now (length w.now) out.new result }
-{
-    let mut next = at;
-    let mut i: usize = 0;
-    while i < w.len() {
-        next = put_byte(out, next, w[i]);
-        i += 1;
-    }
-    next
-}
-
-// A number in decimal: its last digit stands after those of a tenth of it.
-pub fn put_decimal(out: &mut [u8], at: usize, x: usize) -> usize
-    requires { at + 20 < 2 ^ 64 }
-    ensures { Put out.old at (decimal x) 20 out.new result }
-{
-    let digit = 48 + (x % 10) as u8;
-    if x < 10 {
-        return put_byte(out, at, digit);
-    }
-    let next = put_decimal(out, at, x / 10);
-    put_byte(out, next, digit)
-}
-
-// One blank and a number.
-fn put_field(out: &mut [u8], at: usize, x: usize) -> usize
-    requires { at + 21 < 2 ^ 64 }
-    ensures { Put out.old at (field x) 21 out.new result }
-{
-    let next = put_byte(out, at, 32);
-    put_decimal(out, next, x)
-}
-
-// A line's word and its first two fields.
-fn put_head(out: &mut [u8], at: usize, word: &[u8], x: usize, y: usize) -> usize
-    requires { (at < 2 ^ 32) × (length word.now ≤ 7) }
-    ensures { Put out.old at (word.now ++ field x ++ field y) 49 out.new result }
-{
-    let first = put_word(out, at, word);
-    let second = put_field(out, first, x);
-    put_field(out, second, y)
-}
-
-// A line of two fields.
-pub fn put_line_of_two(out: &mut [u8], at: usize, word: &[u8], x: usize, y: usize) -> usize
-    requires { (at < 2 ^ 32) × (length word.now ≤ 7) }
-    ensures { Put out.old at (line word.now (x ∷ y ∷ [])) 100 out.new result }
-{
-    let end = put_head(out, at, word, x, y);
-    put_byte(out, end, 10)
-}
-
-// A line of three fields.
-pub fn put_line_of_three(
-    out: &mut [u8],
+// Lent bytes, and the place at which the next byte stands.
+#[derive(Drop)]
+pub struct Writer<'a> {
+    out: &'a mut [u8],
     at: usize,
-    word: &[u8],
-    x: usize,
-    y: usize,
-    z: usize,
-) -> usize
-    requires { (at < 2 ^ 32) × (length word.now ≤ 7) }
-    ensures { Put out.old at (line word.now (x ∷ y ∷ z ∷ [])) 100 out.new result }
-{
-    let third = put_head(out, at, word, x, y);
-    let end = put_field(out, third, z);
-    put_byte(out, end, 10)
 }
 
-// A line of four fields.
-pub fn put_line_of_four(
-    out: &mut [u8],
-    at: usize,
-    word: &[u8],
-    x: usize,
-    y: usize,
-    z: usize,
-    w: usize,
-) -> usize
-    requires { (at < 2 ^ 32) × (length word.now ≤ 7) }
-    ensures { Put out.old at (line word.now (x ∷ y ∷ z ∷ w ∷ [])) 100 out.new result }
-{
-    let third = put_head(out, at, word, x, y);
-    let fourth = put_field(out, third, z);
-    let end = put_field(out, fourth, w);
-    put_byte(out, end, 10)
+impl<'a> Writer<'a> {
+    // At the first byte.
+    pub fn new(out: &'a mut [u8]) -> Writer<'a>
+        ensures same_reference { result.out.ghost_name ≡ out.entry.ghost_name }
+        ensures bytes { result.out.now ≡ out.old }
+        ensures place { result.at ≡ 0 }
+    {
+        Writer { out, at: 0 }
+    }
+
+    // How many bytes were put, those too that had no room.
+    pub fn count(&self) -> usize
+        ensures { result ≡ self.now.at }
+    {
+        self.at
+    }
+
+    // One byte.
+    pub fn put_byte(&mut self, b: u8)
+        requires { self.old.at + 1 < 2 ^ 64 }
+        ensures { Puts self.old (b ∷ []) 1 self.new }
+    {
+        if self.at < self.out.len() {
+            self.out[self.at] = b;
+        }
+        self.at += 1;
+    }
+
+    // The bytes of a word.
+    pub fn put_word(&mut self, w: &[u8])
+        requires { self.old.at + length w.now < 2 ^ 64 }
+        ensures { Puts self.old w.now (length w.now) self.new }
+    {
+        for &b in w {
+            self.put_byte(b);
+        }
+    }
+
+    // A number in decimal: its last digit stands after those of a tenth of it.
+    pub fn put_decimal(&mut self, x: usize)
+        requires { self.old.at + 20 < 2 ^ 64 }
+        ensures { Puts self.old (decimal x) 20 self.new }
+    {
+        let digit = b'0' + (x % 10) as u8;
+        if x < 10 {
+            self.put_byte(digit);
+            return;
+        }
+        self.put_decimal(x / 10);
+        self.put_byte(digit);
+    }
+
+    // One blank and a number.
+    fn put_field(&mut self, x: usize)
+        requires { self.old.at + 21 < 2 ^ 64 }
+        ensures { Puts self.old (field x) 21 self.new }
+    {
+        self.put_byte(b' ');
+        self.put_decimal(x);
+    }
+
+    // A line: its word and its fields, of which no line has more than four.
+    pub fn put_line(&mut self, word: &[u8], fields: &[usize])
+        requires at_bound { self.old.at < 2 ^ 32 }
+        requires short { length word.now ≤ 7 }
+        requires few { length fields.now ≤ 4 }
+        ensures { Puts self.old (line word.now fields.now) 100 self.new }
+    {
+        self.put_word(word);
+        for &x in fields {
+            self.put_field(x);
+        }
+        self.put_byte(b'\n');
+    }
 }

@@ -1,3 +1,4 @@
+use Rattle.std.proofs.lemmas.Result.{err_from_is_err_and}
 use Rattle.plans.specs.Plans.{planned}
 use Rattle.plans.proofs.CodeLaws.{made-laid}
 use Rattle.entries.specs.Entries.{blocks_given, blocks_of}
@@ -5,24 +6,17 @@ use Rattle.numbers.specs.AskedLaws.{entry-refused, entry-given}
 use Rattle.entries.proofs.Laws.{blocks-ask}
 use Rattle.entries.proofs.blocks.Goals as goal
 
-pub returns-then-r-ne0 : goal.returns-then-r-ne0
+pub returns-in_err-axis : goal.returns-in_err-axis
 unfolding blocks_given
-returns-then-r-ne0 c =
+returns-in_err-axis c =
     let a = c.args in
-    let p = planned a.s.now a.w in
-    rw c.refused.ensures
-    (entry-refused p (λ q. blocks_of q.plan) a.out.now _ c.plan_table-p.ensures.tells c.if-r-ne0.true)
+    let p = err_from_is_err_and c.from_residual.result c.from_residual.ensures.1 in
+    rw (p.1, p.2) (entry-refused (planned a.s.now a.w) (λ q. blocks_of q.plan) a.out.now _ c.in_err-axis.ensures)
 
 pub give_blocks-requires : goal.give_blocks-requires
-give_blocks-requires c =
-    let a = c.args in
-    let m = c.plan_table-p.ensures.made c.if-r-ne0.false in
-    blocks-ask _ _ (made-laid a.s.now a.w _ _ m)
+give_blocks-requires c = blocks-ask _ _ (made-laid c.args.s.now c.args.w _ _ c.in_ok-axis.ensures)
 
 pub returns : goal.returns
 unfolding blocks_given
 returns c =
-    let a = c.args in
-    let m = c.plan_table-p.ensures.made c.if-r-ne0.false in
-    entry-given (planned a.s.now a.w) (λ q. blocks_of q.plan) a.out.now m.is
-    c.give_blocks.ensures
+    let a = c.args in entry-given (planned a.s.now a.w) (λ q. blocks_of q.plan) a.out.now c.in_ok-axis.ensures.is c.give_blocks.ensures

@@ -6,26 +6,20 @@ use Rattle.numbers.specs.AskedLaws.{numbers-short, numbers-put}
 use Rattle.entries.proofs.Laws.{amounts-are, amounts-size}
 use Rattle.entries.proofs.give_amounts.Goals as goal
 
-pub overflow_mul-loops : goal.overflow_mul-loops
-overflow_mul-loops c = omega (arith, c.loops_in-loops.ensures, few-loops c.requires)
-
 pub returns-then-out-loops : goal.returns-then-out-loops
-returns-then-out-loops c = let a = c.args in
-    let st = a.store.now in
-    let size = amounts-size st c.requires _ c.loops_in-loops.ensures in
-    rw c.short.ensures (numbers-short (amounts_of (table_in st)) a.out.now _ size c.if-out-loops.true)
+returns-then-out-loops c =
+    let a = c.args in
+    let size = amounts-size a.store.now c.requires _ c.loops_in-loops.ensures in
+    rw c.short.ensures (numbers-short (amounts_of (table_in a.store.now)) a.out.now _ size c.if-out-loops.true)
 
-pub write_amounts-n-requires : goal.write_amounts-n-requires
-write_amounts-n-requires c =
-    omega (arith, c.loops_in-loops.ensures, few-loops c.requires)
+pub write_amounts-requires : goal.write_amounts-requires
+write_amounts-requires c = omega (arith, c.loops_in-loops.ensures, few-loops c.requires)
 
 pub returns : goal.returns
 returns c =
     let a = c.args in
-    let st = a.store.now in
     let e = c.loops_in-loops.ensures in
     let m = c.amounts_of-a.ensures in
-    let size = amounts-size st c.requires _ e in
-    let p = rw (amounts-are st _ _ c.requires m.shifts_value m.peels_value _ e) at c.write_amounts-n.ensures in
-    rw c.written.ensures
-    (numbers-put (amounts_of (table_in st)) a.out.now _ size c.if-out-loops.false p)
+    let size = amounts-size a.store.now c.requires _ e in
+    let p = rw (amounts-are a.store.now _ _ c.requires m.shifts_value m.peels_value _ e) at c.write_amounts.ensures in
+    numbers-put (amounts_of (table_in a.store.now)) a.out.now _ size c.if-out-loops.false p

@@ -10,20 +10,17 @@ pub overflow_mul-pairs : goal.overflow_mul-pairs
 overflow_mul-pairs c = omega (arith, c.loops_in-pairs.ensures, few-loops c.requires.0.held)
 
 pub returns-then-out-pairs : goal.returns-then-out-pairs
-returns-then-out-pairs c = let a = c.args in
-    let st = a.store.now in
+returns-then-out-pairs c =
+    let a = c.args in
     let n = c.loops_in-pairs.ensures in
-    let size = ranges-size a.a st c.requires.0 a.phase a.b in
+    let size = ranges-size a.a.now a.store.now c.requires.0 a.phase a.b in
     rw c.short.ensures
-    (numbers-short (ranges_of a.phase a.b (planned_in a.a st)) a.out.now _ size (rw n at c.if-out-pairs.true))
+    (numbers-short (ranges_of a.phase a.b (planned_in a.a.now a.store.now)) a.out.now _ size (rw n at c.if-out-pairs.true))
 
 pub returns : goal.returns
 returns c =
     let a = c.args in
-    let st = a.store.now in
     let n = c.loops_in-pairs.ensures in
-    let h = c.requires.0 in
-    let size = ranges-size a.a st h a.phase a.b in
-    let p = rw (ranges-are a.a st h a.phase a.b) at c.write_ranges-n.ensures in
-    rw c.written.ensures
-    (numbers-put (ranges_of a.phase a.b (planned_in a.a st)) a.out.now _ size (rw n at c.if-out-pairs.false) p)
+    let size = ranges-size a.a.now a.store.now c.requires.0 a.phase a.b in
+    let p = rw (ranges-are a.a.now a.store.now c.requires.0 a.phase a.b) at c.write_ranges.ensures in
+    numbers-put (ranges_of a.phase a.b (planned_in a.a.now a.store.now)) a.out.now _ size (rw n at c.if-out-pairs.false) p

@@ -1,26 +1,22 @@
+use Rattle.std.proofs.lemmas.Result.{err_from_is_err_and}
 use Rattle.plans.specs.Plans.{planned_for}
 use Rattle.entries.specs.Entries.{list_given, listed_of}
 use Rattle.numbers.specs.AskedLaws.{entry-refused, entry-given}
 use Rattle.entries.proofs.Laws.{named-laid}
 use Rattle.entries.proofs.list.Goals as goal
 
-pub returns-then-r-ne0 : goal.returns-then-r-ne0
+pub returns-in_err-axis : goal.returns-in_err-axis
 unfolding list_given
-returns-then-r-ne0 c =
+returns-in_err-axis c =
     let a = c.args in
-    let p = planned_for a.s.now a.w a.b in
-    rw c.refused.ensures
-    (entry-refused p (listed_of a.phase a.b) a.out.now _ c.plan_for-p.ensures.tells c.if-r-ne0.true)
+    let p = err_from_is_err_and c.from_residual.result c.from_residual.ensures.1 in
+    rw (p.1, p.2) (entry-refused (planned_for a.s.now a.w a.b) (listed_of a.phase a.b) a.out.now _ c.in_err-axis.ensures)
 
 pub give_list-requires : goal.give_list-requires
-give_list-requires c =
-    let a = c.args in
-    named-laid a.s.now a.w a.b _ _ (c.plan_for-p.ensures.made c.if-r-ne0.false)
+give_list-requires c = named-laid c.args.s.now c.args.w c.args.b _ _ c.in_ok-axis.ensures
 
 pub returns : goal.returns
 unfolding list_given
 returns c =
     let a = c.args in
-    let p = planned_for a.s.now a.w a.b in
-    let m = c.plan_for-p.ensures.made c.if-r-ne0.false in
-    entry-given p (listed_of a.phase a.b) a.out.now m.is c.give_list.ensures
+    entry-given (planned_for a.s.now a.w a.b) (listed_of a.phase a.b) a.out.now c.in_ok-axis.ensures.is c.give_list.ensures

@@ -1,3 +1,4 @@
+use Rattle.std.proofs.lemmas.Result.{err_from_is_err_and}
 use Rattle.serial.specs.Serial.{table}
 use mathlib.Core.List.{[], ◌∷◌}
 use Rattle.sweeps.specs.Sweeps.{before, after}
@@ -5,19 +6,12 @@ use Rattle.entries.specs.Entries.{sweeps_given}
 use Rattle.numbers.specs.AskedLaws.{entry-refused, entry-given}
 use Rattle.entries.proofs.sweeps.Goals as goal
 
-pub returns-then-r-ne0 : goal.returns-then-r-ne0
+pub returns-in_err-read_through : goal.returns-in_err-read_through
 unfolding sweeps_given
-returns-then-r-ne0 c =
-    let x = c.read_through-r in
-    let a = c.args in
-    rw c.refused.ensures (entry-refused (table a.s.now) (λ t. before t ∷ after t ∷ []) a.out.now x.result x.ensures.told c.if-r-ne0.true)
-
-pub give_sweeps-requires : goal.give_sweeps-requires
-give_sweeps-requires c = (c.read_through-r.ensures.held c.if-r-ne0.false).1
+returns-in_err-read_through c =
+    let p = err_from_is_err_and c.from_residual.result c.from_residual.ensures.1 in
+    rw (p.1, p.2) (entry-refused (table c.args.s.now) (λ t. before t ∷ after t ∷ []) c.args.out.now _ c.in_err-read_through.ensures)
 
 pub returns : goal.returns
 unfolding sweeps_given
-returns c =
-    let x = c.read_through-r in
-    let a = c.args in
-    entry-given (table a.s.now) (λ t. before t ∷ after t ∷ []) a.out.now (x.ensures.held c.if-r-ne0.false).0 c.give_sweeps.ensures
+returns c = entry-given (table c.args.s.now) (λ t. before t ∷ after t ∷ []) c.args.out.now c.in_ok-read_through.ensures.0 c.give_sweeps.ensures

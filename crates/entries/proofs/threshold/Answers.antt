@@ -1,3 +1,4 @@
+use Rattle.std.proofs.lemmas.Result.{err_from_is_err_and}
 use Rattle.serial.specs.Serial.{table}
 use mathlib.Core.List.{[], ◌∷◌}
 use Rattle.plans.specs.Plans.{threshold_of}
@@ -6,20 +7,15 @@ use Rattle.entries.specs.Entries.{thresholds}
 use Rattle.numbers.specs.AskedLaws.{entry-refused, entry-given}
 use Rattle.entries.proofs.threshold.Goals as goal
 
-pub returns-then-r-ne0 : goal.returns-then-r-ne0
+pub returns-in_err-read_through : goal.returns-in_err-read_through
 unfolding thresholds
-returns-then-r-ne0 c =
-    let x = c.read_through-r in
-    let a = c.args in
-    rw c.refused.ensures (entry-refused (table a.s.now) (λ t. threshold_of t ∷ []) a.out.now x.result x.ensures.told c.if-r-ne0.true)
+returns-in_err-read_through c =
+    let p = err_from_is_err_and c.from_residual.result c.from_residual.ensures.1 in
+    rw (p.1, p.2) (entry-refused (table c.args.s.now) (λ t. threshold_of t ∷ []) c.args.out.now _ c.in_err-read_through.ensures)
 
 pub give_threshold-requires : goal.give_threshold-requires
-give_threshold-requires c = let h = c.read_through-r.ensures.held c.if-r-ne0.false in
-    (h.1, valid c.args.s.now _ h.0)
+give_threshold-requires c = let h = c.in_ok-read_through.ensures in (h.1, valid c.args.s.now _ h.0)
 
 pub returns : goal.returns
 unfolding thresholds
-returns c =
-    let x = c.read_through-r in
-    let a = c.args in
-    entry-given (table a.s.now) (λ t. threshold_of t ∷ []) a.out.now (x.ensures.held c.if-r-ne0.false).0 c.give_threshold.ensures
+returns c = entry-given (table c.args.s.now) (λ t. threshold_of t ∷ []) c.args.out.now c.in_ok-read_through.ensures.0 c.give_threshold.ensures

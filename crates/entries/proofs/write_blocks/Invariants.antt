@@ -4,7 +4,5 @@ use Rattle.numbers.specs.Pairs.{Rowed}
 use Rattle.entries.proofs.write_blocks.Given as goal
 
 abbrev pub invariant-loop-b : goal.invariant-loop-b
-invariant-loop-b l = Rowed (fusion_in l.a).edge (λ j. (fusion_in l.a).edge (suc j) - 1) l.a.blocks 0 l.initial.out l.out l.b l.at
-
-abbrev pub decreases-loop-b : goal.decreases-loop-b
-decreases-loop-b l = l.a.blocks - l.b
+invariant-loop-b l =
+    Rowed (fusion_in l.a).edge (λ j. (fusion_in l.a).edge (suc j) - 1) l.a.blocks l.initial.row l.b l.row

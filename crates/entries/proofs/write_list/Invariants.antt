@@ -1,12 +1,8 @@
-use Prim.Native.Nat.{◌-◌}
 use Rattle.ranges.specs.Code.{list_of}
-use Rattle.numbers.specs.Pairs.{Rowed}
 use Rattle.entries.proofs.Laws.{loop_at, index_at}
+use Rattle.numbers.specs.Pairs.{Rowed}
 use Rattle.entries.proofs.write_list.Given as goal
 
 abbrev pub invariant-loop-n : goal.invariant-loop-n
 invariant-loop-n l =
-    Rowed (loop_at (list_of l.lists 0 l.loops l.phase)) (index_at (list_of l.lists 0 l.loops l.phase)) l.size 0 l.initial.out l.out l.n l.at
-
-abbrev pub decreases-loop-n : goal.decreases-loop-n
-decreases-loop-n l = l.size - l.n
+    Rowed (loop_at (list_of l.lists 0 l.loops l.phase)) (index_at (list_of l.lists 0 l.loops l.phase)) l.size l.initial.row l.n l.row

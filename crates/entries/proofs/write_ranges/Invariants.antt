@@ -1,12 +1,9 @@
-use Prim.Native.Nat.{◌-◌}
-use Rattle.numbers.specs.Pairs.{Rowed}
+use Rattle.reader.specs.Store.{loops_in}
 use Rattle.ranges.specs.Code.{range_of}
 use Rattle.entries.specs.Entries.{empty_as_zero}
+use Rattle.numbers.specs.Pairs.{Rowed}
 use Rattle.entries.proofs.write_ranges.Given as goal
 
 abbrev pub invariant-loop-k : goal.invariant-loop-k
 invariant-loop-k l =
-    Rowed (λ j. (empty_as_zero (range_of l.phase l.a l.store l.b j)).from) (λ j. (empty_as_zero (range_of l.phase l.a l.store l.b j)).past) l.loops 0 l.initial.out l.out l.k l.at
-
-abbrev pub decreases-loop-k : goal.decreases-loop-k
-decreases-loop-k l = l.loops - l.k
+    Rowed (λ j. (empty_as_zero (range_of l.phase l.a l.store l.b j)).from) (λ j. (empty_as_zero (range_of l.phase l.a l.store l.b j)).past) (loops_in l.store) l.initial.row l.k l.row

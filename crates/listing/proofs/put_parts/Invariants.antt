@@ -1,4 +1,3 @@
-use Prim.Native.Nat.{◌-◌}
 use Rattle.reader.specs.Store.{loops_in}
 use Rattle.ranges.specs.Code.{range_of}
 use Rattle.listing.specs.Listing.{range_line, each, phase_name}
@@ -7,7 +6,4 @@ use Rattle.listing.proofs.put_parts.Given as goal
 
 abbrev pub invariant-loop-b : goal.invariant-loop-b
 invariant-loop-b l =
-    Lines l.initial.out l.at 1600 (λ j. each (loops_in l.store) (λ k. range_line (phase_name l.phase) j k (range_of l.phase l.a l.store j k))) l.a.blocks l.b l.out l.next
-
-abbrev pub decreases-loop-b : goal.decreases-loop-b
-decreases-loop-b l = l.a.blocks - l.b
+    Lines l.fn.out 1600 (λ j. each (loops_in l.store) (λ k. range_line (phase_name l.phase) j k (range_of l.phase l.a l.store j k))) l.a.blocks l.b l.out

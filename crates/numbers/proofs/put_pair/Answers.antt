@@ -1,5 +1,5 @@
-use Rattle.text.specs.Written.{put_then}
+use Rattle.text.specs.Puts.{puts_then}
 use Rattle.numbers.proofs.put_pair.Goals as goal
 
 pub returns : goal.returns
-returns c = put_then c.put_number-b.ensures c.put_number.ensures
+returns c = puts_then c.put_number.ensures c.put_number-2.ensures

@@ -1,13 +1,8 @@
-use Rattle.serial.proofs.Walks.{loops-start, there, loop-passed, loop-collides, loops-done}
+use Rattle.serial.proofs.Walks.{loops-start, loop-passed, loop-collides, loops-done}
 use Rattle.serial.proofs.check_loops.Goals as goal
 
 pub loop-k-init : goal.loop-k-init
 loop-k-init c = loops-start c.args.store.now c.requires c.loops_in-loops.result c.loops_in-loops.ensures
-
-pub loop_hit-requires : goal.loop_hit-requires
-loop_hit-requires c =
-    let l = c.loop-k in
-    (c.requires, there c.args.store.now c.requires _ l.k l.invariant c.loop-k-test.true)
 
 pub loop-k-preserved : goal.loop-k-preserved
 loop-k-preserved c =

@@ -1,4 +1,3 @@
-use native.Mathlib.Omega.{arith}
 use mathlib.Core.Path.{sym, ◌∙◌}
 use borrow.Author.Tests.{eqb-false}
 use Rattle.reader.specs.Held.{opening-held}
@@ -12,12 +11,6 @@ pub returns-in_err-other : goal.returns-in_err-other
 returns-in_err-other c =
     rw c.from_residual.ensures
     (loop-alone c.args.store.now c.requires.0 c.args.k c.requires.1 c.rows_of-rows.result c.rows_of-rows.ensures.is c.in_err-other.ensures)
-
-pub is_destination-requires : goal.is_destination-requires
-is_destination-requires c = omega (arith, c.in_ok-other.ensures.0.1, c.rows_of-rows.ensures.known.few)
-
-pub references_in-requires : goal.references_in-requires
-references_in-requires c = omega (arith, c.in_ok-other.ensures.0.1, c.rows_of-rows.ensures.known.few)
 
 pub returns : goal.returns
 returns c =

@@ -6,16 +6,10 @@ use Rattle.model.specs.declared.Reference.{Reference}
 use Rattle.serial.proofs.Walks.{passed_start, passed-next, partner-other, partner-none, partner-found}
 use Rattle.serial.proofs.partner.Goals as goal
 
-pub is_reference-requires : goal.is_reference-requires
-is_reference-requires c = omega (arith, c.requires.0.few, c.requires.1)
-
 pub returns-then-not-is_reference : goal.returns-then-not-is_reference
 returns-then-not-is_reference c =
     let a = c.args in
     partner-other a.store.now a.rows.first a.rows.last a.row a.rows.past c.requires.1 (ltb-false _ _ (sym c.is_reference.ensures ∙ c.if-not-is_reference.true))
-
-pub reference_at-x-requires : goal.reference_at-x-requires
-reference_at-x-requires c = omega (arith, c.requires.0.few, c.requires.1)
 
 pub loop-other-init : goal.loop-other-init
 loop-other-init c =

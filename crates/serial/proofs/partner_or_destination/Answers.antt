@@ -1,21 +1,14 @@
 use native.Mathlib.Omega.{arith}
 use mathlib.Core.Path.{sym, ap, ◌∙◌}
-use borrow.Author.Tests.{eqb-true, eqb-false}
+use borrow.Author.Tests.{eqb-false}
 use Rattle.model.specs.declared.Reference.{Reference}
-use Rattle.serial.proofs.Walks.{alone-start, alone-next, alone-destination, alone-found, alone-end}
+use Rattle.serial.proofs.Walks.{alone-start, alone-next, alone-found, alone-end}
 use Rattle.serial.proofs.partner_or_destination.Goals as goal
 
 pub loop-other-init : goal.loop-other-init
 loop-other-init c =
     let a = c.args in
     alone-start a.store.now a.rows.first a.rows.last c.reference_at-x.result a.rows.from a.rows.past c.requires.0.some
-
-pub returns-then-is_destination : goal.returns-then-is_destination
-returns-then-is_destination c =
-    let a = c.args in
-    let l = c.loop-other in
-    alone-destination a.store.now a.rows.first a.rows.last _ a.rows.from a.rows.past c.reference_at-x.ensures c.requires.0.some c.requires.1 l.other l.invariant
-    c.loop-other-test.true (eqb-true _ _ (sym c.is_destination.ensures ∙ c.if-is_destination.true))
 
 pub row_collides-requires : goal.row_collides-requires
 row_collides-requires c =

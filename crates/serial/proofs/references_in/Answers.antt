@@ -1,18 +1,8 @@
-use native.Mathlib.Omega.{arith}
 use mathlib.Core.Path.{sym, ◌∙◌}
 use borrow.Author.Tests.{ltb-true, ltb-false}
-use Rattle.serial.proofs.Walks.{counted_start, counted-reference, counted-other, counted-end}
+use Rattle.serial.proofs.Walks.{counted-reference, counted-other, counted-end}
 use Rattle.serial.proofs.references_in.Goals as goal
 use Rattle.serial.proofs.references_in.Goals.{then-is_reference, else-is_reference}
-
-pub loop-row-init : goal.loop-row-init
-loop-row-init c = let a = c.args in counted_start a.store.now a.from a.past
-
-pub is_reference-requires : goal.is_reference-requires
-is_reference-requires c = omega (arith, c.requires, c.loop-row-test.true)
-
-pub overflow_add-n : goal.overflow_add-n
-overflow_add-n c = omega (arith, c.requires, c.loop-row-test.true, c.loop-row.invariant.2)
 
 pub loop-row-preserved : goal.loop-row-preserved
 loop-row-preserved c =

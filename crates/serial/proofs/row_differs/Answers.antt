@@ -1,7 +1,4 @@
-use mathlib.Core.Path.{sym, ap, ◌∙◌}
 use borrow.Author.Tests.{eq-eqb, ne_eqb}
-use Rattle.std.specs.Prelude.{Option, None, List, get_or}
-use Rattle.reader.specs.Store.{array_at}
 use Rattle.serial.proofs.Offsets.{none-differs, kind-differs}
 use Rattle.serial.proofs.row_differs.Goals as goal
 

@@ -1,5 +1,4 @@
 use native.Mathlib.Omega.{arith}
-use mathlib.Core.Path.{refl}
 use Rattle.serial.proofs.Walks.{rows-known, known}
 use Rattle.serial.proofs.rows_of.Goals as goal
 
@@ -18,7 +17,6 @@ first_at-requires c = (rows-known c.args.store.now c.requires.0 c.args.k c.requi
 pub last_at-requires : goal.last_at-requires
 last_at-requires c = (rows-known c.args.store.now c.requires.0 c.args.k c.requires.1).0
 
-pub returns : goal.returns
-returns c =
-    rw (c.start_at.ensures, c.start_at-2.ensures, c.first_at.ensures, c.last_at.ensures)
-    record { is = refl; known = known c.args.store.now c.requires.0 c.args.k c.requires.1 }
+pub returns-clause-known : goal.returns-clause-known
+returns-clause-known c =
+    rw (c.start_at.ensures, c.start_at-2.ensures, c.first_at.ensures, c.last_at.ensures) (known c.args.store.now c.requires.0 c.args.k c.requires.1)

@@ -1,4 +1,3 @@
-use native.Mathlib.Omega.{arith}
 use mathlib.Core.Path.{sym, ◌∙◌}
 use Rattle.serial.proofs.Walks.{loop-apart}
 use Rattle.serial.proofs.Offsets.{none-collide}

@@ -1,9 +1,6 @@
 use mathlib.Core.Path.{sym, ◌∙◌}
-use Rattle.serial.proofs.Offsets.{agreeing-start, agreeing-next, agreeing-found, agreeing-end}
+use Rattle.serial.proofs.Offsets.{agreeing-next, agreeing-found, agreeing-end}
 use Rattle.serial.proofs.some_differs.Goals as goal
-
-pub loop-row-init : goal.loop-row-init
-loop-row-init c = let a = c.args in agreeing-start a.store.now a.offsets.now a.from a.past c.requires.0
 
 pub returns-then-row_differs : goal.returns-then-row_differs
 returns-then-row_differs c =

@@ -1,9 +1,6 @@
 use native.Mathlib.Omega.{arith}
-use Rattle.serial.proofs.Offsets.{stored-start, stored_next, stored-end}
+use Rattle.serial.proofs.Offsets.{stored_next}
 use Rattle.serial.proofs.stored_offsets.Goals as goal
-
-pub loop-row-init : goal.loop-row-init
-loop-row-init c = (stored-start c.args.store.now c.args.from, omega arith, c.requires.0)
 
 pub loop-row-preserved : goal.loop-row-preserved
 loop-row-preserved c =
@@ -14,6 +11,3 @@ loop-row-preserved c =
       omega (arith, l.invariant.1),
       omega (arith, h),
     )
-
-pub returns : goal.returns
-returns c = let l = c.loop-row in stored-end c.args.store.now c.args.from l.row c.args.past l.offsets l.invariant.0 (omega (arith, l.invariant.2, c.loop-row-test.false))

@@ -1,5 +1,6 @@
 use Rattle.records.specs.History.{advanced}
 use native.Mathlib.Omega.{arith}
+use mathlib.Core.Logic.{inl, inr}
 use Rattle.records.specs.declared.Record.{Record}
 use Rattle.records.specs.Clear.{Room}
 use mathlib.Core.Path.{subst}
@@ -16,31 +17,25 @@ with_loop-requires c =
 
 pub overflow_add-self : goal.overflow_add-self
 overflow_add-self c =
-    let room = subst (λ (x : Record). Room x c.args.self) c.in-Read.is c.requires in
-    omega (arith, room.1)
+    elim c.in-Read.is [
+      | inl (q, o, e) ↦ let room = subst (λ (x : Record). Room x c.args.self) e c.requires in omega (arith, room.1)
+      | inr (n, e) ↦ let room = subst (λ (x : Record). Room x c.args.self) e c.requires in omega (arith, room.1)
+    ]
 
 pub with_item-requires : goal.with_item-requires
 with_item-requires c =
-    let room = subst (λ (x : Record). Room x c.args.self) c.in-Read.is c.requires in
-    room.0
-
-pub overflow_add-self-in-Constant : goal.overflow_add-self-in-Constant
-overflow_add-self-in-Constant c =
-    let room = subst (λ (x : Record). Room x c.args.self) c.in-Constant.is c.requires in
-    omega (arith, room.1)
-
-pub with_item-requires-in-Constant : goal.with_item-requires-in-Constant
-with_item-requires-in-Constant c =
-    let room = subst (λ (x : Record). Room x c.args.self) c.in-Constant.is c.requires in
-    room.0
+    elim c.in-Read.is [
+      | inl (q, o, e) ↦ let room = subst (λ (x : Record). Room x c.args.self) e c.requires in room.0
+      | inr (n, e) ↦ let room = subst (λ (x : Record). Room x c.args.self) e c.requires in room.0
+    ]
 
 pub overflow_sub-self : goal.overflow_sub-self
 overflow_sub-self c =
     let room = subst (λ (x : Record). Room x c.args.self) c.in-Operation.is c.requires in
-    omega (arith, room.1, c.operands_of-n.ensures)
+    omega (arith, room.1, c.operands_of.ensures)
 
 pub overflow_add-self-in-Operation : goal.overflow_add-self-in-Operation
-overflow_add-self-in-Operation c = omega (arith, operands-one c.in-Operation.o, c.operands_of-n.ensures)
+overflow_add-self-in-Operation c = omega (arith, operands-one c.in-Operation.o, c.operands_of.ensures)
 
 pub with_item-requires-in-Operation : goal.with_item-requires-in-Operation
 with_item-requires-in-Operation c =
@@ -53,7 +48,7 @@ with_statement-requires c =
 
 pub returns-in-Unknown : goal.returns-in-Unknown
 unfolding advanced
-returns-in-Unknown c = rw c.in-Unknown.is
+returns-in-Unknown c = elim c.in-Unknown.is [ inl e ↦ rw e | inr e ↦ rw e ]
 
 pub returns-in-Array : goal.returns-in-Array
 unfolding advanced
@@ -65,19 +60,12 @@ returns-in-Loop c = rw c.in-Loop.is c.with_loop.ensures
 
 pub returns-in-Read : goal.returns-in-Read
 unfolding advanced
-returns-in-Read c = rw c.in-Read.is c.with_item.ensures
-
-pub returns-in-Constant : goal.returns-in-Constant
-unfolding advanced
-returns-in-Constant c = rw c.in-Constant.is c.with_item-in-Constant.ensures
+returns-in-Read c =
+    elim c.in-Read.is [ inl (q, o, e) ↦ rw e c.with_item.ensures | inr (n, e) ↦ rw e c.with_item.ensures ]
 
 pub returns-in-Operation : goal.returns-in-Operation
 unfolding advanced
-returns-in-Operation c = rw (c.in-Operation.is, ← c.operands_of-n.ensures) c.with_item-in-Operation.ensures
-
-pub returns-in-End : goal.returns-in-End
-unfolding advanced
-returns-in-End c = rw c.in-End.is
+returns-in-Operation c = rw (c.in-Operation.is, ← c.operands_of.ensures) c.with_item-in-Operation.ensures
 
 pub returns-in-Statement : goal.returns-in-Statement
 unfolding advanced
