@@ -9,6 +9,7 @@ use lib.ListN.{length, drop, length-append}
 use Rattle.refusals.specs.Refusals.{met}
 use Rattle.refusals.specs.Answers.{accepted, refused, ◌if◌else◌}
 use Rattle.refusals.proofs.AnswerLaws.{told-refused}
+use Rattle.records.specs.declared.storage.Store.{Store}
 use Rattle.reader.specs.Store.{table_in}
 use Rattle.lists.specs.Fusion.{fusion_in}
 use Rattle.blocks.specs.declared.Axis.{Axis}
@@ -47,7 +48,7 @@ module _ (text out none : List ℕ) (most size : ℕ) (asked : Whole [] text mos
       go w h = gives-written text out left size (omega (arith, asked.size)) asked.size (w.bytes ∙ written-front out text (omega (arith, asked.size)))
 
 -- the lines are those of the plan in the axis
-pub lines_are : (a : Axis) (c : List ℕ) (z : Sweeps) → z ≡ sweeps (table_in c)
+pub lines_are : (a : Axis) (c : Store) (z : Sweeps) → z ≡ sweeps (table_in c)
     → listing (table_in c) (fusion_in a) z.before z.after ≡ listing_of (planned_in a c)
 unfolding sweeps
 lines_are a c z e = rw e
@@ -66,7 +67,7 @@ written-fits text out left o g = go (ltb (length out) (length text)) (ap (λ (x 
     go false e f = omega (arith, length-append text (drop (length text) out))
 
 -- WHAT THE PLAN'S CODE ANSWERED, as the call gives it and as the program prints it
-module _ (s : List ℕ) (w : Settings) (p : Plan) (c out : List ℕ) where
+module _ (s : List ℕ) (w : Settings) (p : Plan) (c : Store) (out : List ℕ) where
   pub refused-given : Plans (planned s w) p c → (p.refusal.ground ≡ 0 → ⊥) → Gives (listing_given s w (length out)) out out (refusing p.refusal)
   refused-given h some =
       let e = given-refused s w (length out) p.refusal (told-refused (planned s w) p.refusal h.tells some) in

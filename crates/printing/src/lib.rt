@@ -13,7 +13,7 @@ use arithmetic::wide;
 use blocks::Axis;
 use outputs::Outcome;
 use plans::Settings;
-use records::{STORE, Store};
+use records::Store;
 
 // The lines of a plan. The first call, with no bytes, tells how many are needed.
 fn print_lines(out: &mut [u8], a: Axis, store: &Store) -> Outcome
@@ -33,7 +33,7 @@ fn print_lines(out: &mut [u8], a: Axis, store: &Store) -> Outcome
 pub fn print_listing(s: &[u8], w: Settings, out: &mut [u8]) -> Outcome
     ensures { Gives (listing_given s.now w (length out.old)) out.old out.new result }
 {
-    let mut store = [0u32; STORE];
+    let mut store = Store::new();
     let p = plans::plan_table(s, w, &mut store);
     let r = p.refusal;
     if r.ground != 0 {
@@ -59,7 +59,7 @@ fn print_refusal(out: &mut [u8], ground: usize, place: usize) -> Outcome
 fn print_text(s: &[u8], w: Settings, out: &mut [u8]) -> Outcome
     ensures { Prints (text s.now w) out.old out.new result }
 {
-    let mut store = [0u32; STORE];
+    let mut store = Store::new();
     let p = plans::plan_table(s, w, &mut store);
     let r = p.refusal;
     if r.ground != 0 {

@@ -1,15 +1,16 @@
 -- A table as it is kept: a row for each destination and each item, in byte order.
-use Rattle.std.specs.Prelude.{ℕ, zero, suc, ◌+◌, ◌-◌, ◌≤◌, ◌<◌, cond, List, [], ◌∷◌, get_or, set, take, eqb}
+use Rattle.std.specs.Prelude.{ℕ, zero, suc, ◌+◌, ◌-◌, ◌%◌, ◌≤◌, ◌<◌, cond, List, [], ◌∷◌, get_or, set, take, eqb}
 use Rattle.std.proofs.Common.{◌∙◌}
 use Rattle.std.proofs.Math.ListN.{length-set}
+use Rattle.std.proofs.Math.Nat.{mod-lt, zero-lt-suc}
 use Rattle.records.specs.declared.Record.{Record}
 use Rattle.records.specs.declared.Record.TheVariants as rec
 use Rattle.records.specs.declared.Summary.{Summary}
-use Rattle.records.specs.declared.storage.Row.{Row}
-use Rattle.records.specs.declared.storage.RowKind.{RowKind}
-use Rattle.records.specs.declared.storage.RowKind.TheVariants as row
+use Rattle.records.specs.declared.table_rows.Row.{Row}
+use Rattle.records.specs.declared.table_rows.RowKind.{RowKind}
+use Rattle.records.specs.declared.table_rows.RowKind.TheVariants as row
 use Rattle.records.specs.declared.storage.Store.{Store}
-use Rattle.records.specs.Store.{no_row}
+use Rattle.records.specs.NoRow.{no_row}
 use Rattle.model.specs.Table.{Item, read, constant, operation, Statement, Loop, Table}
 
 -- the kind of a row by its number: 0 a read, 1 a destination, 2 a constant, 3 an operation
@@ -109,17 +110,21 @@ with_length q n c = record c {
   };
 }
 
+-- a row: its array is below 16 (`ArrayFits`), and a row says so of its own
+abbrev pub row_of : RowKind → ℕ → ℕ → Row
+row_of kind q v = record { kind = kind; array = q % 16; value = v; small = mod-lt q (zero-lt-suc 15) }
+
 -- one row more
-unfoldable pub with_row : ℕ → ℕ → RowKind → ℕ → ℕ → Store → Store
-with_row k r kind q v c = record c {
+unfoldable pub with_row : ℕ → ℕ → Row → Store → Store
+with_row k r x c = record c {
   starts = set c.starts k (r + 1);
-  rows = set c.rows r (record { kind = kind; array = q; value = v });
+  rows = set c.rows r x;
   sized = record {
     lengths_sized = c.sized.lengths_sized;
     firsts_sized = c.sized.firsts_sized;
     lasts_sized = c.sized.lasts_sized;
     starts_sized = length-set c.starts k (r + 1) ∙ c.sized.starts_sized;
-    rows_sized = length-set c.rows r (record { kind = kind; array = q; value = v }) ∙ c.sized.rows_sized;
+    rows_sized = length-set c.rows r x ∙ c.sized.rows_sized;
   };
 }
 
@@ -143,12 +148,12 @@ with_counts arrays loops c = record c { arrays = arrays; loops = loops }
 unfoldable pub kept : Record → Summary → ℕ → Store → Store
 kept rec.Unknown t r c = c
 kept (rec.Array n) t r c = with_length t.arrays n c
-kept (rec.Loop f l q o) t r c = with_row (t.loops + 1) r row.Destination q o (with_bounds t.loops f l c)
-kept (rec.Read q o) t r c = with_row t.loops r row.Read q o c
-kept (rec.Constant n) t r c = with_row t.loops r row.Constant 0 n c
-kept (rec.Operation o) t r c = with_row t.loops r row.Operation 0 o c
+kept (rec.Loop f l q o) t r c = with_row (t.loops + 1) r (row_of row.Destination q o) (with_bounds t.loops f l c)
+kept (rec.Read q o) t r c = with_row t.loops r (row_of row.Read q o) c
+kept (rec.Constant n) t r c = with_row t.loops r (row_of row.Constant 0 n) c
+kept (rec.Operation o) t r c = with_row t.loops r (row_of row.Operation 0 o) c
 kept rec.End t r c = c
-kept (rec.Statement q o) t r c = with_row t.loops r row.Destination q o c
+kept (rec.Statement q o) t r c = with_row t.loops r (row_of row.Destination q o) c
 
 -- how many rows then
 unfoldable pub rows_after : Record → ℕ → ℕ

@@ -6,10 +6,10 @@ use Rattle.std.proofs.Math.Path.{refl, ap}
 use Rattle.std.proofs.Common.{◌∙◌}
 use Rattle.std.proofs.Math.Seq.{get_or-set_same, get_or-set_other}
 use Rattle.model.specs.Table.{no_loop, loop, count}
-use Rattle.records.specs.declared.storage.RowKind.{RowKind}
+use Rattle.records.specs.declared.table_rows.Row.{Row}
 use Rattle.records.specs.declared.storage.Store.{Store}
-use Rattle.records.specs.Store.{no_row}
-use Rattle.reader.specs.Store.{row_at, first_at, last_at, start_at, loop_at, loops_from, table_at}
+use Rattle.records.specs.NoRow.{no_row}
+use Rattle.reader.specs.Store.{row_at, array_at, first_at, last_at, start_at, loop_at, loops_from, table_at}
 use Rattle.reader.specs.Store.{with_row, with_bounds}
 
 -- the table in the store has so many loops, and each is where it is kept
@@ -31,33 +31,37 @@ module _ (c : Store) where
   pub loop-table : (a l k : ℕ) → k < l → loop (table_at c a l) k ≡ loop_at c k
   loop-table a l k h = let e : 0 + k ≡ k = omega arith in get_d-loops 0 l k h ∙ ap (loop_at c) e
 
+-- a row's array is one of sixteen
+pub array_small : (c : Store) (r : ℕ) → array_at c r < 16
+array_small c r = (row_at c r).small
+
 -- what a row leaves, and what it holds
-module _ (c : Store) (k r : ℕ) (kind : RowKind) (q v : ℕ) where
-  pub row-lengths : (with_row k r kind q v c).lengths ≡ c.lengths
+module _ (c : Store) (k r : ℕ) (x : Row) where
+  pub row-lengths : (with_row k r x c).lengths ≡ c.lengths
   unfolding with_row
   row-lengths = refl
 
-  pub row-firsts : (with_row k r kind q v c).firsts ≡ c.firsts
+  pub row-firsts : (with_row k r x c).firsts ≡ c.firsts
   unfolding with_row
   row-firsts = refl
 
-  pub row-lasts : (with_row k r kind q v c).lasts ≡ c.lasts
+  pub row-lasts : (with_row k r x c).lasts ≡ c.lasts
   unfolding with_row
   row-lasts = refl
 
-  pub row-starts : (i : ℕ) → (i ≡ k → ⊥) → start_at (with_row k r kind q v c) i ≡ start_at c i
+  pub row-starts : (i : ℕ) → (i ≡ k → ⊥) → start_at (with_row k r x c) i ≡ start_at c i
   unfolding with_row
   row-starts i n = get_or-set_other c.starts k i (r + 1) 0 n
 
-  pub row-others : (i : ℕ) → (i ≡ r → ⊥) → row_at (with_row k r kind q v c) i ≡ row_at c i
+  pub row-others : (i : ℕ) → (i ≡ r → ⊥) → row_at (with_row k r x c) i ≡ row_at c i
   unfolding with_row
   row-others i n = get_or-set_other c.rows r i _ no_row n
 
-  pub row-put : r < 576 → row_at (with_row k r kind q v c) r ≡ record { kind = kind; array = q; value = v }
+  pub row-put : r < 576 → row_at (with_row k r x c) r ≡ x
   unfolding with_row
   row-put few = get_or-set_same c.rows r _ no_row (omega (arith, c.sized.rows_sized))
 
-  pub row-start : k < 17 → start_at (with_row k r kind q v c) k ≡ r + 1
+  pub row-start : k < 17 → start_at (with_row k r x c) k ≡ r + 1
   unfolding with_row
   row-start l = get_or-set_same c.starts k (r + 1) 0 (omega (arith, c.sized.starts_sized))
 

@@ -2,6 +2,7 @@
 use Prim.Native.Nat.{ℕ, zero, suc, ◌+◌, ◌-◌, ◌≤◌, ◌<◌}
 use native.Mathlib.Omega.{arith}
 use Rattle.std.proofs.Math.Decide.{ℕ_discrete}
+use Rattle.std.proofs.Math.Nat.{mod-eq_of_lt}
 use Rattle.std.proofs.Math.Numerals.{add-one}
 use Rattle.std.specs.Prelude.{◌≡◌, set}
 use Rattle.std.proofs.Math.Path.{refl, sym, ap, subst}
@@ -16,13 +17,13 @@ use Rattle.records.specs.History.{summary, lengths, advanced, blank, with_array,
 use Rattle.records.specs.Clear.{Clear}
 use Rattle.model.specs.Table.{Item, read, constant, operation, Statement, Loop}
 use Rattle.reader.specs.Reading.{loops_of}
-use Rattle.records.specs.declared.storage.Row.{Row as StoreRow}
-use Rattle.records.specs.declared.storage.RowKind.{RowKind}
-use Rattle.records.specs.declared.storage.RowKind.TheVariants as row
+use Rattle.records.specs.declared.table_rows.Row.{Row as StoreRow}
+use Rattle.records.specs.declared.table_rows.RowKind.{RowKind}
+use Rattle.records.specs.declared.table_rows.RowKind.TheVariants as row
 use Rattle.records.specs.declared.storage.Store.{Store}
-use Rattle.records.specs.Store.{no_row}
+use Rattle.records.specs.NoRow.{no_row}
 use Rattle.reader.specs.Store.{row_at, first_at, last_at, start_at, kind_at, array_at, value_at, kind_number, arrays_in, loops_in, table_at, table_in, item_of}
-use Rattle.reader.specs.Store.{item_at, lead_from, body_from, loop_at, loops_from, with_length, with_row, with_bounds, with_counts, kept, rows_after}
+use Rattle.reader.specs.Store.{item_at, lead_from, body_from, loop_at, loops_from, with_length, row_of, with_row, with_bounds, with_counts, kept, rows_after}
 use Rattle.reader.specs.Store.{ArrayFits}
 use Rattle.reader.specs.StoreLaws.{row-lengths, row-firsts, row-lasts, row-starts, row-others, row-put, row-start}
 use Rattle.reader.specs.StoreLaws.{bounds-leave, bounds-firsts, bounds-lasts, bounds-first, bounds-last}
@@ -226,28 +227,28 @@ record Beside (c b : Store) (j : ℕ) : Type 0 where
   starts : b.starts ≡ c.starts
   rows : b.rows ≡ c.rows
 
-row_more : (c b : Store) (a n j rows : ℕ) (kind : RowKind) (q v : ℕ) → InPlace c a n rows → j ≤ n → suc j ≤ 16 → rows < 576 → Beside c b j
-    → Grown c (with_row (suc j) rows kind q v b) j rows kind q v
-row_more c b a n j rows kind q v h l few room same = record {
+row_more : (c b : Store) (a n j rows : ℕ) (kind : RowKind) (q v : ℕ) → InPlace c a n rows → j ≤ n → suc j ≤ 16 → rows < 576 → q < 16 → Beside c b j
+    → Grown c (with_row (suc j) rows (row_of kind q v) b) j rows kind q v
+row_more c b a n j rows kind q v h l few room small same = record {
   agree = record {
-    firsts = λ k m. sym (ap (λ (ns : List ℕ). get_or ns k 0) (row-firsts b (suc j) rows kind q v) ∙ same.firsts k (λ e. omega arith));
-    lasts = λ k m. sym (ap (λ (ns : List ℕ). get_or ns k 0) (row-lasts b (suc j) rows kind q v) ∙ same.lasts k (λ e. omega arith));
+    firsts = λ k m. sym (ap (λ (ns : List ℕ). get_or ns k 0) (row-firsts b (suc j) rows (row_of kind q v)) ∙ same.firsts k (λ e. omega arith));
+    lasts = λ k m. sym (ap (λ (ns : List ℕ). get_or ns k 0) (row-lasts b (suc j) rows (row_of kind q v)) ∙ same.lasts k (λ e. omega arith));
     starts = λ k m.
-        sym (row-starts b (suc j) rows kind q v k (λ e. omega arith) ∙ ap (λ (ns : List ℕ). get_or ns k 0) same.starts);
+        sym (row-starts b (suc j) rows (row_of kind q v) k (λ e. omega arith) ∙ ap (λ (ns : List ℕ). get_or ns k 0) same.starts);
     inside = λ k m. omega (arith, h.rising k (omega arith), starts-up c a n rows h (suc k) n (omega arith) (omega arith), h.end);
     within = λ k m. omega (arith, starts-up c a n rows h k n (omega arith) (omega arith), h.end);
     kinds = λ r m. ap (λ (y : StoreRow). kind_number y.kind) (old r m);
     arrays = λ r m. ap (λ (y : StoreRow). y.array) (old r m);
     values = λ r m. ap (λ (y : StoreRow). y.value) (old r m);
   };
-  past = row-start b (suc j) rows kind q v (omega arith);
-  kind-is = ap (λ (y : StoreRow). kind_number y.kind) (row-put b (suc j) rows kind q v room);
-  array-is = ap (λ (y : StoreRow). y.array) (row-put b (suc j) rows kind q v room);
-  value-is = ap (λ (y : StoreRow). y.value) (row-put b (suc j) rows kind q v room);
+  past = row-start b (suc j) rows (row_of kind q v) (omega arith);
+  kind-is = ap (λ (y : StoreRow). kind_number y.kind) (row-put b (suc j) rows (row_of kind q v) room);
+  array-is = ap (λ (y : StoreRow). y.array) (row-put b (suc j) rows (row_of kind q v) room) ∙ mod-eq_of_lt small;
+  value-is = ap (λ (y : StoreRow). y.value) (row-put b (suc j) rows (row_of kind q v) room);
 }
   where
-    old : (r : ℕ) → r < rows → row_at c r ≡ row_at (with_row (suc j) rows kind q v b) r
-    old r m = sym (row-others b (suc j) rows kind q v r (λ e. omega arith) ∙ ap (λ (ns : List StoreRow). get_or ns r no_row) same.rows)
+    old : (r : ℕ) → r < rows → row_at c r ≡ row_at (with_row (suc j) rows (row_of kind q v) b) r
+    old r m = sym (row-others b (suc j) rows (row_of kind q v) r (λ e. omega arith) ∙ ap (λ (ns : List StoreRow). get_or ns r no_row) same.rows)
 
 module _ (c : Store) (rs : List Record) (rows : ℕ) (s : Stored c rs rows) where
   few : (summary rs).statements + (summary rs).items < 36 → rows < 576
@@ -262,9 +263,9 @@ module _ (c : Store) (rs : List Record) (rows : ℕ) (s : Stored c rs rows) wher
       (counted : (summary (r ∷ rs)).statements + (summary (r ∷ rs)).items ≡ suc ((summary rs).statements + (summary rs).items))
       (most-statements : (summary (r ∷ rs)).statements ≤ 4) (most-items : (summary (r ∷ rs)).items ≤ 32) (same : lengths (r ∷ rs) ≡ lengths rs)
       (added : (xs : List Item) (ss : List Statement) → loops_of (r ∷ rs) xs ss ≡ loops_of rs (ys xs) (ts xs ss))
-      (open_loop : (summary rs).loops ≡ suc m) (offset : kind_number kind < 2 → v ≤ 510) where
+      (open_loop : (summary rs).loops ≡ suc m) (small : q < 16) (offset : kind_number kind < 2 → v ≤ 510) where
     d : Store
-    d = with_row (suc m) rows kind q v c
+    d = with_row (suc m) rows (row_of kind q v) c
 
     free : (summary rs).statements + (summary rs).items < 36
     free = omega arith
@@ -275,7 +276,7 @@ module _ (c : Store) (rs : List Record) (rows : ℕ) (s : Stored c rs rows) wher
     grown : Grown c d m rows kind q v
     unfolding d
     grown =
-        row_more c c (summary rs).arrays (suc m) m rows kind q v kept_then (omega arith) kept_then.few-loops (few free)
+        row_more c c (summary rs).arrays (suc m) m rows kind q v kept_then (omega arith) kept_then.few-loops (few free) small
         (record { firsts = λ k n. refl; lasts = λ k n. refl; starts = refl; rows = refl })
 
     latest : (xs : List Item) (ss : List Statement) → shown c (suc m) rows (ys xs) (ts xs ss) ≡ shown d (suc m) (rows + 1) xs ss
@@ -283,8 +284,8 @@ module _ (c : Store) (rs : List Record) (rows : ℕ) (s : Stored c rs rows) wher
     latest xs ss =
         shown-grown c d m rows kind q v grown xs (ys xs) ss (ts xs ss) (lead d xs grown.kind-is grown.array-is grown.value-is)
         (body d xs ss grown.kind-is grown.array-is grown.value-is)
-        (sym (ap (λ (ns : List ℕ). get_or ns m 0) (row-firsts c (suc m) rows kind q v)))
-        (sym (ap (λ (ns : List ℕ). get_or ns m 0) (row-lasts c (suc m) rows kind q v)))
+        (sym (ap (λ (ns : List ℕ). get_or ns m 0) (row-firsts c (suc m) rows (row_of kind q v))))
+        (sym (ap (λ (ns : List ℕ). get_or ns m 0) (row-lasts c (suc m) rows (row_of kind q v))))
         (omega (arith, kept_then.rising m (omega arith), kept_then.end))
 
     row-stored : Stored d (r ∷ rs) (rows + 1)
@@ -292,7 +293,7 @@ module _ (c : Store) (rs : List Record) (rows : ℕ) (s : Stored c rs rows) wher
     row-stored =
         let loops-then : (summary (r ∷ rs)).loops ≡ suc m = loops ∙ open_loop in
         record {
-          lens = rw (arrays, same, row-lengths c (suc m) rows kind q v) s.lens;
+          lens = rw (arrays, same, row-lengths c (suc m) rows (row_of kind q v)) s.lens;
           loops = λ xs ss.
               rw loops-then
               (added xs ss ∙ s.loops (ys xs) (ts xs ss) ∙ ap (λ (n : ℕ). shown c n rows (ys xs) (ts xs ss)) open_loop ∙ latest xs ss);
@@ -306,7 +307,7 @@ module _ (c : Store) (rs : List Record) (rows : ℕ) (s : Stored c rs rows) wher
         }
 
   -- a loop begins with its destination's row
-  module _ (f l q o : ℕ) (free : (summary rs).loops < 16) (offset : o ≤ 510) where
+  module _ (f l q o : ℕ) (free : (summary rs).loops < 16) (small : q < 16) (offset : o ≤ 510) where
     n : ℕ
     n = (summary rs).loops
 
@@ -314,7 +315,7 @@ module _ (c : Store) (rs : List Record) (rows : ℕ) (s : Stored c rs rows) wher
     b = with_bounds n f l c
 
     e : Store
-    e = with_row (suc n) rows row.Destination q o b
+    e = with_row (suc n) rows (row_of row.Destination q o) b
 
     low : rows < 576
     low = omega (arith, s.room, s.items, s.statements)
@@ -322,7 +323,7 @@ module _ (c : Store) (rs : List Record) (rows : ℕ) (s : Stored c rs rows) wher
     begun : Grown c e n rows row.Destination q o
     unfolding e b n
     begun =
-        row_more c b (summary rs).arrays n n rows row.Destination q o s.kept (omega arith) free low (record {
+        row_more c b (summary rs).arrays n n rows row.Destination q o s.kept (omega arith) free low small (record {
           firsts = bounds-firsts c n f l;
           lasts = bounds-lasts c n f l;
           starts = (bounds-leave c n f l).1;
@@ -336,8 +337,8 @@ module _ (c : Store) (rs : List Record) (rows : ℕ) (s : Stored c rs rows) wher
         let at : start_at e n ≡ rows = sym (begun.agree.starts n (omega arith)) ∙ s.kept.end in
         let z : rows + 1 - rows ≡ 1 = omega arith in
         rw (
-          ap (λ (ns : List ℕ). get_or ns n 0) (row-firsts b (suc n) rows row.Destination q o) ∙ bounds-first c n f l free,
-          ap (λ (ns : List ℕ). get_or ns n 0) (row-lasts b (suc n) rows row.Destination q o) ∙ bounds-last c n f l free,
+          ap (λ (ns : List ℕ). get_or ns n 0) (row-firsts b (suc n) rows (row_of row.Destination q o)) ∙ bounds-first c n f l free,
+          ap (λ (ns : List ℕ). get_or ns n 0) (row-lasts b (suc n) rows (row_of row.Destination q o)) ∙ bounds-last c n f l free,
           at,
           z,
           opening-body e rows xs ss begun.kind-is,
@@ -347,7 +348,7 @@ module _ (c : Store) (rs : List Record) (rows : ℕ) (s : Stored c rs rows) wher
 
     lens-begun : e.lengths ≡ c.lengths
     unfolding e b
-    lens-begun = row-lengths b (suc n) rows row.Destination q o ∙ (bounds-leave c n f l).0
+    lens-begun = row-lengths b (suc n) rows (row_of row.Destination q o) ∙ (bounds-leave c n f l).0
 
     loops-begun : (xs : List Item) (ss : List Statement)
         → loops_of rs [] [] ++ (record { first = f; last = l; body = record { array = q; offset = o; items = xs } ∷ ss } ∷ [])
@@ -405,30 +406,30 @@ module _ (c : Store) (rs : List Record) (rows : ℕ) (s : Stored c rs rows) wher
   -- an item goes to the latest statement
   item-kept : (r : Record) (x : Item) (kind : RowKind) (q v w : ℕ) → item_of (kind_number kind) q v ≡ x → (kind_number kind ≡ 1 → ⊥) → summary (r ∷ rs) ≡ with_item w (summary rs)
       → lengths (r ∷ rs) ≡ lengths rs → ((xs : List Item) (ss : List Statement) → loops_of (r ∷ rs) xs ss ≡ loops_of rs (x ∷ xs) ss)
-      → 0 < (summary rs).loops → (summary rs).items < 32 → (kind_number kind < 2 → v ≤ 510)
-      → Stored (with_row (summary rs).loops rows kind q v c) (r ∷ rs) (rows + 1)
+      → 0 < (summary rs).loops → (summary rs).items < 32 → q < 16 → (kind_number kind < 2 → v ≤ 510)
+      → Stored (with_row (summary rs).loops rows (row_of kind q v) c) (r ∷ rs) (rows + 1)
   unfolding d with_item
-  item-kept r x kind q v w i other counted same added some free offset =
+  item-kept r x kind q v w i other counted same added some free small offset =
       let open_loop : (summary rs).loops ≡ suc ((summary rs).loops - 1) = omega arith in
       let items : (summary (r ∷ rs)).items ≡ (summary rs).items + 1 = ap (λ (t : Summary). t.items) counted in
       let statements : (summary (r ∷ rs)).statements ≡ (summary rs).statements = ap (λ (t : Summary). t.statements) counted in
-      subst (λ (k : ℕ). Stored (with_row k rows kind q v c) (r ∷ rs) (rows + 1)) (sym open_loop)
+      subst (λ (k : ℕ). Stored (with_row k rows (row_of kind q v) c) (r ∷ rs) (rows + 1)) (sym open_loop)
       (row-stored r kind q v ((summary rs).loops - 1) (λ xs. x ∷ xs) (λ xs ss. ss)
       (λ d xs a b g. item-lead d rows xs [] (λ e. other (sym a ∙ e)) ∙ ap (λ (y : Item). y ∷ xs) (rw (a, b, g) i))
       (λ d xs ss a b g. item-body d rows xs ss (λ e. other (sym a ∙ e)))
       (ap (λ (t : Summary). t.arrays) counted) (ap (λ (t : Summary). t.loops) counted) (omega arith)
-      (omega (arith, s.statements)) (omega arith) same added open_loop offset)
+      (omega (arith, s.statements)) (omega arith) same added open_loop small offset)
 
   -- a further statement opens the latest loop's next one
-  statement-kept : (q o : ℕ) → 0 < (summary rs).loops → (summary rs).statements < 4 → o ≤ 510
-      → Stored (with_row (summary rs).loops rows row.Destination q o c) (rec.Statement q o ∷ rs) (rows + 1)
+  statement-kept : (q o : ℕ) → 0 < (summary rs).loops → (summary rs).statements < 4 → q < 16 → o ≤ 510
+      → Stored (with_row (summary rs).loops rows (row_of row.Destination q o) c) (rec.Statement q o ∷ rs) (rows + 1)
   unfolding d summary advanced with_statement lengths loops_of
-  statement-kept q o some free offset =
+  statement-kept q o some free small offset =
       let open_loop : (summary rs).loops ≡ suc ((summary rs).loops - 1) = omega arith in
-      subst (λ (k : ℕ). Stored (with_row k rows row.Destination q o c) (rec.Statement q o ∷ rs) (rows + 1)) (sym open_loop)
+      subst (λ (k : ℕ). Stored (with_row k rows (row_of row.Destination q o) c) (rec.Statement q o ∷ rs) (rows + 1)) (sym open_loop)
       (row-stored (rec.Statement q o) row.Destination q o ((summary rs).loops - 1) (λ xs. []) (λ xs ss. record { array = q; offset = o; items = xs } ∷ ss)
       (λ d xs a b g. opening-lead d rows xs [] a) (λ d xs ss a b g. opening-body d rows xs ss a ∙ rw (b, g))
-      refl refl (omega arith) (omega arith) s.items refl (λ xs ss. refl) open_loop (λ h. offset))
+      refl refl (omega arith) (omega arith) s.items refl (λ xs ss. refl) open_loop small (λ h. offset))
 
   -- every record that meets no ground; its array is one of those before it, of which there are at most sixteen
   pub kept_small : (x : Record) → Clear x (summary rs) (lengths rs) → ArrayFits x
@@ -446,16 +447,17 @@ module _ (c : Store) (rs : List Record) (rows : ℕ) (s : Stored c rs rows) wher
   kept-stored rec.Unknown clear other = absurd clear
   kept-stored (rec.Array k) clear other = array-stored k clear.0 clear.1
   kept-stored (rec.Loop f l q o) clear other =
-      rw (add-one (summary rs).loops) (loop-stored f l q o clear.1 clear.5)
+      rw (add-one (summary rs).loops) (loop-stored f l q o clear.1 (kept_small (rec.Loop f l q o) clear) clear.5)
   kept-stored (rec.Read q o) clear other =
-      item-kept (rec.Read q o) (read q o) row.Read q o _ refl (λ e. omega arith) refl refl (λ xs ss. refl) clear.0 clear.1 (λ h. clear.3)
+      item-kept (rec.Read q o) (read q o) row.Read q o _ refl (λ e. omega arith) refl refl (λ xs ss. refl) clear.0 clear.1
+      (kept_small (rec.Read q o) clear) (λ h. clear.3)
   kept-stored (rec.Constant k) clear other =
-      item-kept (rec.Constant k) (constant k) row.Constant 0 k _ refl (λ e. omega arith) refl refl (λ xs ss. refl) clear.0 clear.1 (λ h. absurd (omega arith))
+      item-kept (rec.Constant k) (constant k) row.Constant 0 k _ refl (λ e. omega arith) refl refl (λ xs ss. refl) clear.0 clear.1 (omega arith) (λ h. absurd (omega arith))
   kept-stored (rec.Operation o) clear other =
-      item-kept (rec.Operation o) (operation o) row.Operation 0 o _ refl (λ e. omega arith) refl refl (λ xs ss. refl) clear.0 clear.1 (λ h. absurd (omega arith))
+      item-kept (rec.Operation o) (operation o) row.Operation 0 o _ refl (λ e. omega arith) refl refl (λ xs ss. refl) clear.0 clear.1 (omega arith) (λ h. absurd (omega arith))
   kept-stored rec.End clear other = absurd (other refl)
   kept-stored (rec.Statement q o) clear other =
-      statement-kept q o clear.0 clear.2 clear.4
+      statement-kept q o clear.0 clear.2 (kept_small (rec.Statement q o) clear) clear.4
 
 -- before the first record
 pub stored-start : (c : Store) → start_at c 0 ≡ 0 → Stored c [] 0

@@ -5,7 +5,7 @@ ghost use Rattle.std.specs.Prelude.{◌≡◌, ◌+◌, ◌<◌, ◌≤◌, eqb,
 ghost use Rattle.model.specs.Table.{count};
 ghost use Rattle.records.specs.Clear.{Room};
 ghost use Rattle.reader.specs.Reading.{reading};
-ghost use Rattle.reader.specs.Store.{first_at, last_at, start_at, kind_at, array_at, value_at, row_kind, arrays_in, loops_in, table_in, kept, rows_after, with_length, with_row, with_bounds, with_counts, Places, ArrayFits};
+ghost use Rattle.reader.specs.Store.{first_at, last_at, start_at, kind_at, array_at, value_at, row_kind, arrays_in, loops_in, table_in, kept, rows_after, with_length, row_of, with_row, with_bounds, with_counts, Places, ArrayFits};
 ghost use Rattle.reader.specs.Held.{Held};
 ghost use Rattle.reader.specs.Rows.{ref_in, refers_to, LastDestination};
 ghost use Rattle.reader.specs.ReadInto.{ReadInto};
@@ -134,19 +134,27 @@ fn put_length(q: usize, n: u32, store: &mut Store)
     store.lengths[q] = n;
 }
 
+// A row of an array, which is one of sixteen.
+fn row_of(kind: RowKind, q: u32, v: u32) -> Row
+    requires { q < 16 }
+    ensures { result ≡ row_of kind q v }
+{
+    Row {
+        kind,
+        array: q as u8,
+        value: v,
+    }
+}
+
 // One row more: loop k begins past it.
 #[tactic(auto, unfolding(crate::specs::Store::with_row))]
 fn put_row(k: usize, r: usize, kind: RowKind, q: u32, v: u32, store: &mut Store) -> usize
     requires { (k < 17) × (r < 576) × (q < 16) }
     ensures value { result ≡ r + 1 }
-    ensures store_after { store.new ≡ with_row k r kind q v store.old }
+    ensures store_after { store.new ≡ with_row k r (row_of kind q v) store.old }
 {
     store.starts[k] = (r + 1) as u32;
-    store.rows[r] = Row {
-        kind,
-        array: q as u8,
-        value: v,
-    };
+    store.rows[r] = row_of(kind, q, v);
     r + 1
 }
 

@@ -12,5 +12,5 @@ pub mod Layout
 pub mod Encoding
 -- the sizes of a store
 pub mod Sized
--- a store with no table in it
-pub mod Store
+-- a row where none has been put
+pub mod NoRow

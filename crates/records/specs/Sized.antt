@@ -1,6 +1,6 @@
 -- The sizes of a store's parts.
 use Rattle.std.specs.Prelude.{ℕ, ◌≡◌, List, length}
-use Rattle.records.specs.declared.storage.Row.{Row}
+use Rattle.records.specs.declared.table_rows.Row.{Row}
 
 pub record Sized (lengths firsts lasts starts : List ℕ) (rows : List Row) : Type 0 where
   pub lengths_sized : length lengths ≡ 16

@@ -5,13 +5,14 @@ ghost use Rattle.std.specs.Prelude.{◌≡◌, ◌+◌, ◌<◌, ◌≤◌};
 ghost use Rattle.records.specs.History.{operands, with_array, with_loop, with_item, with_statement, advanced, blank};
 ghost use Rattle.records.specs.Bytes.{kind_of};
 ghost use Rattle.records.specs.Clear.{Room};
-ghost use Rattle.records.specs.Store.{new_store};
 
 use refusals::Refusal;
 
 mod storage;
+mod table_rows;
 
-pub use storage::{Row, RowKind, Store};
+pub use storage::Store;
+pub use table_rows::{Row, RowKind};
 
 // How many rows all loops have: sixteen loops, each with four destinations and 32 items.
 pub const MOST_ROWS: usize = 576;
@@ -193,9 +194,9 @@ impl Summary {
 }
 
 impl Store {
-    // With no table in it yet.
+    // With no table in it: no arrays and no loops.
     pub fn new() -> Self
-        ensures { result ≡ new_store }
+        ensures { (result.arrays ≡ 0) × (result.loops ≡ 0) }
     {
         Store {
             lengths: [0; MOST_ARRAYS],

@@ -2,24 +2,7 @@
 
 ghost use Rattle.records.specs.Sized.{Sized};
 
-use crate::{MOST_ARRAYS, MOST_LOOPS, MOST_ROWS};
-
-// The kinds of rows.
-#[derive(Clone, Copy, Debug, PartialEq, Eq)]
-pub enum RowKind {
-    Read,
-    Destination,
-    Constant,
-    Operation,
-}
-
-// A row: of a statement's destination, or of an item. A value is an offset, a constant or an operation.
-#[derive(Clone, Copy)]
-pub struct Row {
-    pub kind: RowKind,
-    pub array: u8,
-    pub value: u32,
-}
+use crate::{MOST_ARRAYS, MOST_LOOPS, MOST_ROWS, Row};
 
 // A table as it is kept (reader/specs/Store.antt): the lengths of the arrays; of each loop its bounds and the row at which it begins, with
 // where the rows end behind them; the rows; and how many arrays and how many loops there are.

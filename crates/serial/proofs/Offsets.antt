@@ -16,6 +16,7 @@ use Rattle.overlap.specs.Booleans.{not-true}
 use Rattle.overlap.specs.Overlap.{some_from}
 use Rattle.overlap.proofs.OverlapLaws.{is_some}
 use Rattle.model.specs.declared.Reference.{Reference}
+use Rattle.records.specs.declared.storage.Store.{Store}
 use Rattle.reader.specs.Store.{kind_at, array_at, value_at}
 use Rattle.reader.specs.Rows.{ref_in, refs_in}
 use Rattle.std.specs.Prelude.{Option, None, Some, ◌&&◌}
@@ -23,7 +24,7 @@ use Rattle.serial.specs.Serial.{collides, pair_hit}
 use Rattle.serial.specs.Rows.{StoredAt, with_offset, offset_of, differs}
 use Rattle.serial.proofs.Walks.{untouched, same-offset, apart-pairs, rows-one}
 
-module _ (c : List ℕ) where
+module _ (c : Store) where
   -- THE OFFSETS, row by row
   pub offset-put : (row : ℕ) (os : List (Option ℕ)) → kind_at c row ≡ 1 → set os (array_at c row) (Some (value_at c row)) ≡ with_offset c row os
   unfolding with_offset

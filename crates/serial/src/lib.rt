@@ -5,7 +5,7 @@ ghost use Rattle.std.specs.Prelude.{◌≡◌, ℕ, ◌-◌, ◌<◌, ◌≤◌,
 ghost use Rattle.overlap.specs.Overlap.{some_from};
 ghost use Rattle.refusals.specs.Answers.{accepted, result_of};
 ghost use Rattle.model.specs.Table.{count};
-ghost use Rattle.reader.specs.Store.{Sized, kind_at, loop_at, table_in};
+ghost use Rattle.reader.specs.Store.{kind_at, loop_at, table_in};
 ghost use Rattle.reader.specs.Stored.{Row};
 ghost use Rattle.reader.specs.Rows.{refs_in};
 ghost use Rattle.reader.specs.Held.{Held};
@@ -15,7 +15,7 @@ ghost use Rattle.serial.specs.Rows.{rows_of, Known, collides_row, Partner, Partn
 
 use model::Reference;
 use overlap::overlaps;
-use records::{STORE, Store};
+use records::Store;
 use refusals::{Ground, Refusal};
 
 // The rows of a loop, from `from` up to `past`, and its bounds.
@@ -233,7 +233,6 @@ fn check_loops(store: &Store) -> Result<(), Refusal>
 
 // The table that the bytes are, read through 9 into the lent store, or the ground that they meet.
 pub fn read_through(s: &[u8], store: &mut Store) -> Result<(), Refusal>
-    requires { Sized store.old }
     ensures { ReadInto (table s.now) result store.new }
 {
     reader::read_table(s, store)?;
@@ -244,6 +243,6 @@ pub fn read_through(s: &[u8], store: &mut Store) -> Result<(), Refusal>
 pub fn check(s: &[u8]) -> Result<(), Refusal>
     ensures { result ≡ result_of (λ _. tt) (table s.now) }
 {
-    let mut store = [0u32; STORE];
+    let mut store = Store::new();
     read_through(s, &mut store)
 }
