@@ -16,6 +16,7 @@ use Rattle.model.specs.declared.Reference.{Reference}
 use Rattle.model.specs.Table.{Table, count}
 use Rattle.model.specs.References.{touch, refs, all_refs}
 use Rattle.records.specs.declared.storage.Store.{Store}
+use Rattle.reader.specs.StoreLaws.{array_small}
 use Rattle.reader.specs.Store.{first_at, last_at, start_at, kind_at, value_at, table_in}
 use Rattle.reader.specs.Held.{Held, first-held, last-held, count_held, few-loops, few-rows}
 use Rattle.reader.specs.Rows.{ref_in, refs_in}
@@ -279,12 +280,12 @@ module _ {c : Store} (h : Held c) (k : ℕ) (l : k < count (table_in c)) (n : �
     offset-here = (row_in h k l r v).offset q
 
     pub reference-earlier : Earlier (table_in c) columns from (ref_in c k r)
-    reference-earlier = earlier-of h k l _ n columns a w (ref_in c k r) refl (omega arith) offset-here from e
+    reference-earlier = earlier-of h k l _ n columns a w (ref_in c k r) refl (array_small c r) offset-here from e
 
     pub reference-steps : SomeNext (table_in c) columns from (ref_in c k r) a.made
     reference-steps =
         let (rest, same) = past-ahead h k l r u (omega arith) in
-        next-steps h k l _ n columns a w (ref_in c k r) refl (omega arith) offset-here from e (refs_in c k (r + 1) (start_at c (k + 1)) ++ rest)
+        next-steps h k l _ n columns a w (ref_in c k r) refl (array_small c r) offset-here from e (refs_in c k (r + 1) (start_at c (k + 1)) ++ rest)
         (rw (rows_next c k r (start_at c (k + 1)) v, row-reference c k r q) at same)
 
     pub reference-next : (columns' : Columns) (d : Numbers)
@@ -294,7 +295,7 @@ module _ {c : Store} (h : Held c) (k : ℕ) (l : k < count (table_in c)) (n : �
         → Walked (table_in c) (past_row c k (r + 1)) (n + 1) columns' d
     reference-next columns' d put made more =
         rw (past_next h k l r u, row-reference c k r q)
-        (walked_next h k l _ n columns a w (ref_in c k r) refl (omega arith) offset-here from e row-few columns' d put made more)
+        (walked_next h k l _ n columns a w (ref_in c k r) refl (array_small c r) offset-here from e row-few columns' d put made more)
 
   -- another item
   pub item-next : 2 ≤ kind_at c r → Walked (table_in c) (past_row c k (r + 1)) n columns a

@@ -17,6 +17,7 @@ use Rattle.overlap.specs.Overlap.{some_from}
 use Rattle.overlap.proofs.OverlapLaws.{is_some}
 use Rattle.model.specs.declared.Reference.{Reference}
 use Rattle.records.specs.declared.storage.Store.{Store}
+use Rattle.reader.specs.StoreLaws.{array_small}
 use Rattle.reader.specs.Store.{kind_at, array_at, value_at}
 use Rattle.reader.specs.Rows.{ref_in, refs_in}
 use Rattle.std.specs.Prelude.{Option, None, Some, ◌&&◌}
@@ -72,7 +73,7 @@ module _ (c : Store) where
           new = set os (array_at c row) (Some (value_at c row))
 
           same : (q : ℕ) → q ≡ array_at c row → get_or new q None ≡ Some (value_at c row)
-          same q z = rw z (get_or-set_same os (array_at c row) (Some (value_at c row)) None (omega (arith, w.long)))
+          same q z = rw z (get_or-set_same os (array_at c row) (Some (value_at c row)) None (omega (arith, w.long, array_small c row)))
 
           other : (q : ℕ) → (q ≡ array_at c row → ⊥) → get_or new q None ≡ get_or os q None
           other q z = get_or-set_other os (array_at c row) q (Some (value_at c row)) None z

@@ -1,5 +1,7 @@
 use borrow.Author.Tests.{eq-eqb, ne_eqb}
 use Rattle.serial.proofs.Offsets.{none-differs, kind-differs}
+use native.Mathlib.Omega.{arith}
+use Rattle.reader.specs.StoreLaws.{array_small}
 use Rattle.serial.proofs.row_differs.Goals as goal
 
 pub returns-then-o-value_at : goal.returns-then-o-value_at
@@ -18,3 +20,6 @@ pub returns-in-None : goal.returns-in-None
 returns-in-None c =
     let a = c.args in
     none-differs a.store.now a.offsets.now a.row (rw c.array_at.ensures at c.in-None.is)
+
+pub bounds : goal.bounds
+bounds c = omega (arith, c.array_at.ensures, array_small c.args.store.now c.args.row)
