@@ -31,7 +31,6 @@ use Rattle.chains.specs.Walk.{shifts, peels}
 use Rattle.chains.proofs.WalkLaws.{zeros}
 use Rattle.chains.specs.Steps.{Placed, Pair, at, pair_of, placed_from, pairs_to, steps_to, steps, raised_by, Following, Numbers, take_up, step, no_numbers, walked}
 use Rattle.chains.proofs.StepLaws.{following-first, following-next, made-steps, placed-append, steps_to-append, steps_to-one, raised_by-length, raised_by-met, raised_by-none, walked-numbers}
-use Rattle.chains.specs.Bounds.{Small}
 use Rattle.chains.proofs.Bounds.{raised_by-small}
 use Rattle.chains.proofs.Tables.{refs-number, refs-all_refs, all_refs-below}
 use Rattle.amounts.specs.Rows.{past_row, past-ahead, past-few, row_in, past_next, joined-few, past-few-references, in-range}
@@ -42,6 +41,9 @@ use Rattle.amounts.specs.Walked.{ReferenceFits, Pairable, Earlier, NextStep, Som
 
 pub count-few : {c : Store} → Held c → count (table_in c) ≤ 16
 count-few h = omega (arith, count_held h, few-loops h)
+
+-- where a loop's rows are, and how many loops there are: what is asked where code reads a row or a loop
+pub ruleset row_bounds = (past-few, count-few)
 
 -- ONE PAIR
 -- the test of two references, on the bounds as they are stored

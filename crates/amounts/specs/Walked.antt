@@ -8,7 +8,7 @@ use Rattle.chains.specs.Steps.{Pair, at, pair_of, placed_from, pairs_to, steps_t
 use Rattle.chains.specs.Bounds.{Small}
 use Rattle.columns.specs.declared.Columns.{Columns}
 use Rattle.columns.specs.Columns.{ref_at, refs_from, Marked, Sized}
-use Rattle.amounts.specs.declared.Totals.{Totals}
+use Rattle.amounts.specs.declared.Amounts.{Amounts}
 use Rattle.amounts.specs.declared.Progress.{Progress}
 
 -- a reference of one of the table's loops, with an offset that a table can have
@@ -43,8 +43,8 @@ pub record Bounded (shifts peels : List ℕ) : Type 0 where
 abbrev pub numbers_in : (shifts peels : List ℕ) (made : ℕ) → Numbers
 numbers_in shifts peels made = record { shifts = shifts; peels = peels; made = made }
 
-abbrev pub numbers_of : Totals → Numbers
-numbers_of totals = numbers_in totals.amounts.shifts totals.amounts.peels totals.made
+abbrev pub numbers_of : Amounts → ℕ → Numbers
+numbers_of amounts made = numbers_in amounts.shifts amounts.peels made
 
 -- the walk has come past ys, the table's first references: they are n and stand in the columns, and the steps to them have left these numbers
 pub record Walked (t : Table) (ys : List Reference) (n : ℕ) (columns : Columns) (a : Numbers) : Type 0 where
@@ -56,9 +56,9 @@ pub record Walked (t : Table) (ys : List Reference) (n : ℕ) (columns : Columns
   pub few : a.made ≤ 576 * n
   pub bounded : Bounded a.shifts a.peels
 
--- so has the walk as the code keeps it
-abbrev pub WalkedTo : Table → List Reference → Progress → Type 0
-WalkedTo t ys walk = Walked t ys walk.references walk.columns (numbers_of walk.totals)
+-- so has the walk as the code keeps it, with so many steps made
+abbrev pub WalkedTo : Table → List Reference → Progress → ℕ → Type 0
+WalkedTo t ys walk made = Walked t ys walk.references walk.columns (numbers_of walk.amounts made)
 
 -- the pair of the reference at position x of the columns and y, wherever y stands, is the next step when so many have been made
 abbrev pub NextStep : (t : Table) (columns : Columns) (x : ℕ) (y : Reference) (made : ℕ) → Type 0

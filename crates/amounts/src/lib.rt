@@ -29,17 +29,18 @@ pub struct Amounts {
     pub peels: [u32; 16],
 }
 
-// What steps leave: the amounts, and how many steps were made.
+// What a whole walk leaves: the amounts, and how many steps it has made.
 #[derive(Clone, Copy)]
 struct Totals {
     amounts: Amounts,
     made: usize,
 }
 
-// What a walk has come to: what its steps have left, and the references that it has come past, how many they are and the references in columns.
+// What a walk has come to: what its steps have left of the amounts, and the references that it has come past, how many they are and the references in
+// columns. Its steps are counted beside it: nothing asks for the count when it runs, and the compiler drops one that stands alone.
 #[derive(Drop)]
 struct Progress {
-    totals: Totals,
+    amounts: Amounts,
     references: usize,
     columns: Columns,
 }
@@ -81,73 +82,84 @@ fn raise(store: &Store, x: Reference, y: Reference, amounts: &mut Amounts)
 }
 
 // One step of the walk: takes up the pair of the reference at position x and y, which is the next one. `column` is that in which y's partners are.
+// `made` counts the steps.
 fn take_up(
     store: &Store,
     columns: &Columns,
     column: &Column,
     x: usize,
     y: Reference,
-    totals: &mut Totals,
+    amounts: &mut Amounts,
+    made: &mut usize,
 )
     requires held { Held store.now × (column.now ≡ searched_in columns.now y.stores) × Pairable (table_in store.now) columns.now x y }
-    requires bounded { Bounded totals.old.amounts.shifts totals.old.amounts.peels × NextStep (table_in store.now) columns.now x y totals.old.made × (totals.old.made < 1000000) }
-    ensures { numbers_of totals.new ≡ take_up (graph (table_in store.now)) (ref_at columns.now x) y (numbers_of totals.old) }
+    requires bounded { Bounded amounts.old.shifts amounts.old.peels × NextStep (table_in store.now) columns.now x y made.old × (made.old < 1000000) }
+    ensures { numbers_of amounts.new made.new ≡ take_up (graph (table_in store.now)) (ref_at columns.now x) y (numbers_of amounts.old made.old) }
 {
-    totals.made += 1;
+    *made += 1;
     if columns.touches(column, x, y) {
-        raise(store, columns.reference_at(x), y, &mut totals.amounts);
+        raise(store, columns.reference_at(x), y, amounts);
     }
 }
 
 // Takes up the pairs of y with the references at positions below `from`, which are those of earlier loops.
-fn take_earlier(store: &Store, columns: &Columns, from: usize, y: Reference, totals: &mut Totals)
-    requires held { Held store.now × Earlier (table_in store.now) columns.now from y × SomeNext (table_in store.now) columns.now from y totals.old.made }
-    requires bounded { Bounded totals.old.amounts.shifts totals.old.amounts.peels × (totals.old.made ≤ 576 * 576) }
-    ensures taken { Taken (table_in store.now) columns.now from y (numbers_of totals.old) (numbers_of totals.new) }
-    ensures bounded_2 { Bounded totals.new.amounts.shifts totals.new.amounts.peels × (totals.new.made ≤ totals.old.made + 576) }
+fn take_earlier(
+    store: &Store,
+    columns: &Columns,
+    from: usize,
+    y: Reference,
+    amounts: &mut Amounts,
+    made: &mut usize,
+)
+    requires held { Held store.now × Earlier (table_in store.now) columns.now from y × SomeNext (table_in store.now) columns.now from y made.old }
+    requires bounded { Bounded amounts.old.shifts amounts.old.peels × (made.old ≤ 576 * 576) }
+    ensures taken { Taken (table_in store.now) columns.now from y (numbers_of amounts.old made.old) (numbers_of amounts.new made.new) }
+    ensures bounded_2 { Bounded amounts.new.shifts amounts.new.peels × (made.new ≤ made.old + 576) }
 {
     let column = columns.searched(y.stores);
     for x in 0..from {
-        take_up(store, columns, column, x, y, totals);
+        take_up(store, columns, column, x, y, amounts, made);
     }
 }
 
 // Takes up the pairs whose later reference is y, the next one of the table, and then puts y into the columns, at its position.
-fn take_later(store: &Store, y: Reference, from: usize, walk: &mut Progress)
-    requires held { Held store.now × Earlier (table_in store.now) walk.old.columns from y × SomeNext (table_in store.now) walk.old.columns from y walk.old.totals.made }
-    requires bounded { Bounded walk.old.totals.amounts.shifts walk.old.totals.amounts.peels × (walk.old.totals.made ≤ 576 * walk.old.references) × (walk.old.references < 576) }
+fn take_later(store: &Store, y: Reference, from: usize, walk: &mut Progress, made: &mut usize)
+    requires held { Held store.now × Earlier (table_in store.now) walk.old.columns from y × SomeNext (table_in store.now) walk.old.columns from y made.old }
+    requires bounded { Bounded walk.old.amounts.shifts walk.old.amounts.peels × (made.old ≤ 576 * walk.old.references) × (walk.old.references < 576) }
     ensures references_after { walk.new.references ≡ walk.old.references + 1 }
     ensures columns_after { walk.new.columns ≡ with_reference walk.old.references y walk.old.columns }
-    ensures taken { Taken (table_in store.now) walk.old.columns from y (numbers_of walk.old.totals) (numbers_of walk.new.totals) }
-    ensures bounded_2 { Bounded walk.new.totals.amounts.shifts walk.new.totals.amounts.peels × (walk.new.totals.made ≤ walk.old.totals.made + 576) }
+    ensures taken { Taken (table_in store.now) walk.old.columns from y (numbers_of walk.old.amounts made.old) (numbers_of walk.new.amounts made.new) }
+    ensures bounded_2 { Bounded walk.new.amounts.shifts walk.new.amounts.peels × (made.new ≤ made.old + 576) }
 {
-    take_earlier(store, &walk.columns, from, y, &mut walk.totals);
+    take_earlier(store, &walk.columns, from, y, &mut walk.amounts, made);
     walk.columns.put(walk.references, y);
     walk.references += 1;
 }
 
 // The walk past row r of loop k: a read's row and a destination's are a reference, other rows are none. There are `from` references in earlier
 // loops.
-fn walk_row(store: &Store, k: usize, r: usize, from: usize, walk: &mut Progress)
+#[tactic(auto, using(crate::proofs::Laws::row_bounds))]
+fn walk_row(store: &Store, k: usize, r: usize, from: usize, walk: &mut Progress, made: &mut usize)
     requires held { Held store.now × (k < count (table_in store.now)) × (from ≡ length (joined k (refs (table_in store.now)))) }
     requires k_bound { (start_at store.now k ≤ r) × (r < start_at store.now (k + 1)) }
-    requires walked { WalkedTo (table_in store.now) (past_row store.now k r) walk.old }
-    ensures { WalkedTo (table_in store.now) (past_row store.now k (r + 1)) walk.new }
+    requires walked { WalkedTo (table_in store.now) (past_row store.now k r) walk.old made.old }
+    ensures { WalkedTo (table_in store.now) (past_row store.now k (r + 1)) walk.new made.new }
 {
     if reader::is_reference(store, r) {
-        take_later(store, reader::reference_at(store, k, r), from, walk);
+        take_later(store, reader::reference_at(store, k, r), from, walk, made);
     }
 }
 
 // The walk past the references of loop k, row by row. Of the shifts and peels it changes those of loop k.
-fn walk_loop(store: &Store, k: usize, walk: &mut Progress)
+#[tactic(auto, using(crate::proofs::Laws::row_bounds))]
+fn walk_loop(store: &Store, k: usize, walk: &mut Progress, made: &mut usize)
     requires held { Held store.now × (k < count (table_in store.now)) }
-    requires walked { WalkedTo (table_in store.now) (joined k (refs (table_in store.now))) walk.old }
-    ensures { WalkedTo (table_in store.now) (joined (k + 1) (refs (table_in store.now))) walk.new }
+    requires walked { WalkedTo (table_in store.now) (joined k (refs (table_in store.now))) walk.old made.old }
+    ensures { WalkedTo (table_in store.now) (joined (k + 1) (refs (table_in store.now))) walk.new made.new }
 {
     let from = walk.references;
     for r in reader::start_at(store, k)..reader::start_at(store, k + 1) {
-        walk_row(store, k, r, from, walk);
+        walk_row(store, k, r, from, walk, made);
     }
 }
 
@@ -155,23 +167,24 @@ fn walk_loop(store: &Store, k: usize, walk: &mut Progress)
 // up, pairs of two reads too, and each once; what is left is what the steps leave, one after the other.
 fn walk(store: &Store) -> Totals
     requires { Held store.now }
-    ensures { numbers_of result ≡ walked (graph (table_in store.now)) }
+    ensures { numbers_of result.amounts result.made ≡ walked (graph (table_in store.now)) }
 {
     let mut walk = Progress {
-        totals: Totals {
-            amounts: Amounts {
-                shifts: [0; 16],
-                peels: [0; 16],
-            },
-            made: 0,
+        amounts: Amounts {
+            shifts: [0; 16],
+            peels: [0; 16],
         },
         references: 0,
         columns: Columns::new(),
     };
+    let mut made: usize = 0;
     for k in 0..reader::loops_in(store) {
-        walk_loop(store, k, &mut walk);
+        walk_loop(store, k, &mut walk, &mut made);
     }
-    walk.totals
+    Totals {
+        amounts: walk.amounts,
+        made,
+    }
 }
 
 // The amounts that the walk leaves, which are the largest totals over all chains.

@@ -38,21 +38,22 @@ stored vs n x h l =
 
 -- WHAT THE ARRAY THEN HOLDS
 module _ (vs : List Float) (n : ℕ) (long : length vs ≡ 8) where
-  pub pushed : (x : Float) → n < 8 → Holds (record { values = set vs n x; count = n + 1 }) (x ∷ tops vs n) (n + 1)
+  pub pushed : (x : Float) → n < 8 → Holds (set vs n x) (n + 1) (x ∷ tops vs n) (n + 1)
   pushed x h = (length-set vs n x ∙ long, more vs n x (omega arith), refl)
 
-  pub negated-top : 1 ≤ n → n ≤ 8 → Holds (record { values = set vs (n - 1) (neg (get_or vs (n - 1) nan)); count = n }) (negated (tops vs n)) n
+  pub negated-top : 1 ≤ n → n ≤ 8 → Holds (set vs (n - 1) (neg (get_or vs (n - 1) nan))) n (negated (tops vs n)) n
   unfolding negated
   negated-top h m =
       let inside : n - 1 < length vs = omega arith in
       (length-set vs (n - 1) _ ∙ long, rw (stored vs n _ h inside, top vs n h), refl)
 
   pub combined-tops : (op : ℕ) (x : Float) → 2 ≤ n → n ≤ 8 → x ≡ binary op (get_or vs (n - 2) nan) (get_or vs (n - 1) nan)
-      → Holds (record { values = set vs (n - 1 - 1) x; count = n - 1 }) (combined op (tops vs n)) (n - 1)
+      → Holds (set vs (n - 2) x) (n - 1) (combined op (tops vs n)) (n - 1)
   unfolding combined
   combined-tops op x h m f =
-      let e : n - 1 - 1 ≡ n - 2 = omega arith in
+      let e : n - 1 ≡ (n - 2) + 1 = omega arith in
+      let g : n - 1 - 1 ≡ n - 2 = omega arith in
       let h1 : 1 ≤ n = omega arith in
       let h2 : 1 ≤ n - 1 = omega arith in
-      let inside : n - 1 - 1 < length vs = omega arith in
-      (length-set vs (n - 1 - 1) x ∙ long, rw (stored vs (n - 1) x h2 inside, f, top vs n h1, top vs (n - 1) h2, e), refl)
+      let inside : n - 2 < length vs = omega arith in
+      (length-set vs (n - 2) x ∙ long, rw (f, top vs n h1, top vs (n - 1) h2, g, e, more vs (n - 2) _ inside), refl)

@@ -5,7 +5,7 @@ use native.Mathlib.Omega.{arith}
 use mathlib.Core.Path.{◌≡◌, refl, sym, ap, subst, ◌∙◌}
 use mathlib.Core.Bool.{Bool, true, false, cond}
 use mathlib.Core.List.{List, [], ◌∷◌}
-use lib.Dec.{eqb}
+use lib.Dec.{eqb, ltb}
 use lib.ListN.{length, get_or}
 use lib.Ieee.{Float, nan, binary64, of_int}
 use lib.IntN.{pos}
@@ -18,9 +18,10 @@ use Rattle.model.specs.Bodies.{negated, combined, applied, worked, worked_all, v
 use Rattle.reader.specs.Store.{row_kind, kind_at, array_at, value_at, item_of, item_at, lead_from, body_from, statements_from}
 use Rattle.grounds.specs.Accepted.{Works}
 use Rattle.bodies.specs.declared.Waiting.{Waiting}
+use Rattle.std.specs.Prelude.{Option, None, Some}
 use Rattle.bodies.specs.Stack.{tops, waiting, Holds}
 use Rattle.bodies.specs.Workable.{Based, Element, ReadsWithin, Ready, next}
-use Rattle.records.specs.declared.table_rows.RowKind.TheVariants as row
+use Rattle.records.specs.declared.storage.RowKind.TheVariants as row
 use Rattle.bodies.specs.Stopped.{Stepped, Opens, Stopped}
 
 -- WHICH ITEM IT IS
@@ -45,12 +46,12 @@ pub other : (op d : ℕ) → (op ≡ 5 → ⊥) → operands op ≤ d → (2 ≤
 unfolding operands
 other op d e h = let z = rw (ne_eqb op 5 e) at h in (z, rw (ne_eqb op 5 e) (omega arith))
 
-module _ (r : Waiting) (op d : ℕ) (w : List Float) (enough : operands op ≤ d) where
-  pub applied-five : op ≡ 5 → Holds r (negated w) d → Holds r (applied op w) (d - operands op + 1)
+module _ (vs : List Float) (r op d : ℕ) (w : List Float) (enough : operands op ≤ d) where
+  pub applied-five : op ≡ 5 → Holds vs r (negated w) d → Holds vs r (applied op w) (d - operands op + 1)
   unfolding applied
   applied-five e h = (h.0, rw e h.1, h.2 ∙ sym (five op d e enough).1)
 
-  pub applied-other : (op ≡ 5 → ⊥) → Holds r (combined op w) (d - 1) → Holds r (applied op w) (d - operands op + 1)
+  pub applied-other : (op ≡ 5 → ⊥) → Holds vs r (combined op w) (d - 1) → Holds vs r (applied op w) (d - operands op + 1)
   unfolding applied
   applied-other e h = (h.0, rw (ne_eqb op 5 e) h.1, h.2 ∙ sym (other op d e enough).1)
 
@@ -158,12 +159,12 @@ module _ (bs : List ℕ) (i : ℕ) (m : List Float) (cs : Store) (from past : �
       one = omega arith
 
       -- what a row did
-      abbrev Did : Waiting → Bool → Type 0
-      Did = Stepped bs i m cs row w
+      abbrev Did : List Float → Option ℕ → Type 0
+      Did = Stepped bs i m cs row w.values w.count
 
-      pub rows-met : (after : Waiting) (b : Bool) → Did after b → b ≡ false → Ended row after
+      pub rows-met : (after : List Float) (r : Option ℕ) → Did after r → r ≡ None → Ended row (record { values = after; count = w.count })
       unfolding lead_from
-      rows-met after b d e =
+      rows-met after r d e =
           let z = rw e at d in
           rw z.1 (ended (λ k. z.0) (rw (one, eq-eqb (kind_at cs row) 1 z.0)))
 
@@ -186,8 +187,8 @@ module _ (bs : List ℕ) (i : ℕ) (m : List Float) (cs : Store) (from past : �
         pub rows-ready : Ready bs i (length m) (item_at cs row) w.count
         rows-ready = left-ready bs i m all (waiting s) (item_at cs row) rest (waiting w) w.count here
 
-      pub rows_next : (after : Waiting) (b : Bool) → Did after b → b ≡ true → RowsLeft (row + 1) after
-      rows_next after b d f =
+      pub rows_next : (after : List Float) (r : Option ℕ) → Did after r → (e : ℕ) → r ≡ Some e → RowsLeft (row + 1) (record { values = after; count = e })
+      rows_next after r d e f =
           let z = rw f at d in
           record {
             long = z.1;
@@ -195,7 +196,7 @@ module _ (bs : List ℕ) (i : ℕ) (m : List Float) (cs : Store) (from past : �
             high = omega arith;
             same = l.same ∙ begun z.0;
             left =
-                left-next bs i m all (waiting s) (item_at cs row) (rest z.0) (waiting w) w.count (here z.0) (waiting after) after.count z.2 z.3;
+                left-next bs i m all (waiting s) (item_at cs row) (rest z.0) (waiting w) w.count (here z.0) (tops after e) e z.2 z.3;
           }
 
 -- from where nothing waits to where one value does: it is at the bottom
@@ -204,19 +205,19 @@ pub at-bottom : (xs : List Item) (ns : List ℕ) (i : ℕ) (m : List Float) (s w
 unfolding tops value
 at-bottom xs ns i m s w e f g = let z = rw (e, f) at g in ap (λ (l : List Float). get_or l 0 nan) z
 
--- ROW r, IN ITERATION i, where w waits
-kind-read : (k : ℕ) → row.Read ≡ row_kind k → k ≡ 0
-kind-read k e = grind (arith, nat_tests)
+-- ROW r, IN ITERATION i: the n lowest of the values vs wait
+reads : (k : ℕ) → true ≡ ltb k 2 → false ≡ eqb k 1 → k ≡ 0
+reads k e f = grind (arith, nat_tests)
 
-kind-constant : (k : ℕ) → row.Constant ≡ row_kind k → k ≡ 2
-kind-constant k e = grind (arith, nat_tests)
+operations : (k : ℕ) → row.Operation ≡ row_kind k → 2 < k
+operations k e = grind (arith, nat_tests)
 
-kind-operation : (k : ℕ) → row.Operation ≡ row_kind k → (k ≡ 0 → ⊥) × (k ≡ 1 → ⊥) × (k ≡ 2 → ⊥)
-kind-operation k e = grind (arith, nat_tests)
+pub constants : (k : ℕ) → false ≡ ltb k 2 → (row_kind k ≡ row.Operation → ⊥) → k ≡ 2
+constants k e f = grind (arith, nat_tests)
 
-module _ (bs : List ℕ) (i : ℕ) (m : List Float) (c : Store) (r : ℕ) (w : Waiting) (ready : (kind_at c r ≡ 1 → ⊥) → Ready bs i (length m) (item_at c r) w.count) where
-  abbrev After : Waiting → Bool → Type 0
-  After = Stepped bs i m c r w
+module _ (bs : List ℕ) (i : ℕ) (m : List Float) (c : Store) (r : ℕ) (vs : List Float) (n : ℕ) (ready : (kind_at c r ≡ 1 → ⊥) → Ready bs i (length m) (item_at c r) n) where
+  abbrev After : List Float → Option ℕ → Type 0
+  After = Stepped bs i m c r vs n
 
   abbrev q : ℕ
   q = array_at c r
@@ -224,47 +225,50 @@ module _ (bs : List ℕ) (i : ℕ) (m : List Float) (c : Store) (r : ℕ) (w : W
   abbrev v : ℕ
   v = value_at c r
 
-  module _ (kind : row.Read ≡ row_kind (kind_at c r)) where
+  module _ (reference : true ≡ ltb (kind_at c r) 2) (other : false ≡ eqb (kind_at c r) 1) where
     is-read : item_at c r ≡ read q v
-    is-read = item-read (kind_at c r) q v (kind-read (kind_at c r) kind)
+    is-read = item-read (kind_at c r) q v (reads (kind_at c r) reference other)
 
     no-destination : kind_at c r ≡ 1 → ⊥
-    no-destination e = omega (arith, kind-read (kind_at c r) kind)
+    no-destination e = omega (arith, reads (kind_at c r) reference other)
 
-    pub read-asks : (w.count < 8) × Element bs i (length m) q v
+    pub read-asks : (n < 8) × Element bs i (length m) q v
     unfolding Ready
     read-asks = rw is-read at (ready no-destination)
 
-    pub read-works : (x : Float) (after : Waiting) → x ≡ get_or m (get_or bs q 0 + (i + v - 255)) nan
-        → Holds after (x ∷ waiting w) (w.count + 1) → After after true
+    pub read-works : (x : Float) (after : List Float) (e : ℕ) → x ≡ get_or m (get_or bs q 0 + (i + v - 255)) nan
+        → Holds after e (x ∷ tops vs n) (n + 1) → After after (Some e)
     unfolding next worked
-    read-works x after f g =
+    read-works x after e f g =
         rw is-read (no-destination, g.0, g.2, λ ns b. rw (g.1, f, b q (omega (arith, read-asks.1.0))))
 
-  module _ (kind : row.Constant ≡ row_kind (kind_at c r)) where
+  module _ (kind : kind_at c r ≡ 2) where
     is-constant : item_at c r ≡ constant v
-    is-constant = item-constant (kind_at c r) q v (kind-constant (kind_at c r) kind)
+    is-constant = item-constant (kind_at c r) q v kind
 
     none : kind_at c r ≡ 1 → ⊥
-    none e = omega (arith, kind-constant (kind_at c r) kind)
+    none e = omega (arith, kind)
 
-    pub constant-asks : w.count < 8
+    pub constant-asks : n < 8
     unfolding Ready
     constant-asks = rw is-constant at (ready none)
 
-    pub constant-works : (x : Float) (after : Waiting) → x ≡ of_int binary64 (pos v) → Holds after (x ∷ waiting w) (w.count + 1)
-        → After after true
+    pub constant-works : (x : Float) (after : List Float) (e : ℕ) → x ≡ of_int binary64 (pos v) → Holds after e (x ∷ tops vs n) (n + 1)
+        → After after (Some e)
     unfolding next worked
-    constant-works x after f g = rw is-constant (none, g.0, g.2, λ ns b. rw (g.1, f))
+    constant-works x after e f g = rw is-constant (none, g.0, g.2, λ ns b. rw (g.1, f))
 
   module _ (kind : row.Operation ≡ row_kind (kind_at c r)) where
+    late : 2 < kind_at c r
+    late = operations (kind_at c r) kind
+
     is : item_of (kind_at c r) q v ≡ operation v
-    is = let (a, b, d) = kind-operation (kind_at c r) kind in item-operation (kind_at c r) q v a d
+    is = item-operation (kind_at c r) q v (λ e. omega (arith, late)) (λ e. omega (arith, late))
 
-    pub operation-asks : (operands v ≤ w.count) × (w.count ≤ 8)
+    pub operation-asks : (operands v ≤ n) × (n ≤ 8)
     unfolding Ready
-    operation-asks = let z = rw is at (ready (kind-operation (kind_at c r) kind).1) in (z.2, z.3)
+    operation-asks = let z = rw is at (ready (λ e. omega (arith, late))) in (z.2, z.3)
 
-    pub operation-works : (after : Waiting) → Holds after (applied v (waiting w)) (w.count - operands v + 1) → After after true
+    pub operation-works : (after : List Float) (e : ℕ) → Holds after e (applied v (tops vs n)) (n - operands v + 1) → After after (Some e)
     unfolding next worked
-    operation-works after g = rw is ((kind-operation (kind_at c r) kind).1, g.0, g.2, λ ns b. g.1)
+    operation-works after e g = rw is ((λ e. omega (arith, late)), g.0, g.2, λ ns b. g.1)

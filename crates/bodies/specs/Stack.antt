@@ -11,6 +11,6 @@ tops vs (suc n) = get_or vs n nan ∷ tops vs n
 abbrev pub waiting : Waiting → List Float
 waiting w = tops w.values w.count
 
--- the array has eight places, the numbers l wait in w, and they are d
-abbrev pub Holds : Waiting → List Float → ℕ → Type 0
-Holds w l d = (length w.values ≡ 8) × (waiting w ≡ l) × (w.count ≡ d)
+-- the array has eight places, its first n hold the waiting numbers w, and n is d
+abbrev pub Holds : List Float → ℕ → List Float → ℕ → Type 0
+Holds vs n w d = (length vs ≡ 8) × (tops vs n ≡ w) × (n ≡ d)

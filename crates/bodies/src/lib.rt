@@ -8,7 +8,7 @@ ghost use Rattle.records.specs.History.{operands};
 ghost use Rattle.model.specs.Bodies.{binary, negated, combined, applied, worked_all, value};
 ghost use Rattle.reader.specs.Store.{kind_at, item_at, lead_from};
 ghost use Rattle.grounds.specs.Accepted.{Works};
-ghost use Rattle.bodies.specs.Stack.{waiting, Holds};
+ghost use Rattle.bodies.specs.Stack.{tops, waiting, Holds};
 ghost use Rattle.bodies.specs.Workable.{Based, Element, ReadsWithin, Ready};
 ghost use Rattle.bodies.specs.Stopped.{Stepped, Stopped};
 
@@ -20,6 +20,13 @@ use records::Store;
 pub struct Waiting {
     pub values: [f64; 8],
     pub count: usize,
+}
+
+// What then waits, and the row at which the items ended.
+#[derive(Clone, Copy)]
+pub struct Worked {
+    pub waiting: Waiting,
+    pub row: usize,
 }
 
 // The value of a body, and the row at which its items ended.
@@ -59,100 +66,105 @@ fn element(array: u32, offset: u32, bases: &[u32; 17], i: usize, memory: &[f64])
     memory[base + at]
 }
 
+// Puts x over the n values that wait; like each of the next four, it answers how many then wait. The count goes by value, and not in a struct
+// with the values: there it is in memory at each item, which took a third more time.
+fn push(vs: &mut [f64; 8], n: usize, x: f64) -> usize
+    requires { (n < 8) × (length vs.old ≡ 8) }
+    ensures { Holds vs.new result (x ∷ tops vs.old n) (n + 1) }
+{
+    vs[n] = x;
+    n + 1
+}
+
+fn negate(vs: &mut [f64; 8], n: usize) -> usize
+    requires { (1 ≤ n) × (n ≤ 8) × (length vs.old ≡ 8) }
+    ensures { Holds vs.new result (negated (tops vs.old n)) n }
+{
+    vs[n - 1] = -vs[n - 1];
+    n
+}
+
+// The later value is the right operand.
+fn combine(vs: &mut [f64; 8], n: usize, op: u32) -> usize
+    requires { (2 ≤ n) × (n ≤ 8) × (length vs.old ≡ 8) }
+    ensures { Holds vs.new result (combined op (tops vs.old n)) (n - 1) }
+{
+    vs[n - 2] = operate(op, vs[n - 2], vs[n - 1]);
+    n - 1
+}
+
+// One of the five operations: 5 is negate.
+fn apply(vs: &mut [f64; 8], n: usize, op: u32) -> usize
+    requires { (operands op ≤ n) × (n ≤ 8) × (length vs.old ≡ 8) }
+    ensures { Holds vs.new result (applied op (tops vs.old n)) (n - operands op + 1) }
+{
+    if op == 5 {
+        return negate(vs, n);
+    }
+    combine(vs, n, op)
+}
+
+// Works a row in iteration i, and answers how many then wait; of a destination's, at which the items end, nothing. A match of all four kinds
+// becomes a jump by a table, which is slower than these tests.
+fn work_row(
+    vs: &mut [f64; 8],
+    n: usize,
+    store: &Store,
+    row: usize,
+    bases: &[u32; 17],
+    i: usize,
+    memory: &[f64],
+) -> Option<usize>
+    requires row_bound { (row < 576) × (i < 2 ^ 32) × (length vs.old ≡ 8) }
+    requires ready { (kind_at store.now row ≡ 1 → ⊥) → Ready bases.now i (length memory.now) (item_at store.now row) n }
+    ensures { Stepped bases.now i memory.now store.now row vs.old n vs.new result }
+{
+    let array = reader::array_at(store, row);
+    let value = reader::value_at(store, row);
+    if reader::is_reference(store, row) {
+        if reader::is_destination(store, row) {
+            return None;
+        }
+        return Some(push(vs, n, element(array, value, bases, i, memory)));
+    }
+    match reader::kind_at(store, row) {
+        RowKind::Operation => Some(apply(vs, n, value)),
+        _ => Some(push(vs, n, constant(value))),
+    }
+}
+
 impl Waiting {
-    // Puts x over the values that wait.
-    fn push(&mut self, x: f64)
-        requires { (self.old.count < 8) × (length self.old.values ≡ 8) }
-        ensures { Holds self.new (x ∷ waiting self.old) (self.old.count + 1) }
-    {
-        self.values[self.count] = x;
-        self.count += 1;
-    }
-
-    fn negate(&mut self)
-        requires { (1 ≤ self.old.count) × (self.old.count ≤ 8) × (length self.old.values ≡ 8) }
-        ensures { Holds self.new (negated (waiting self.old)) self.old.count }
-    {
-        let top = self.count - 1;
-        self.values[top] = -self.values[top];
-    }
-
-    // The later value is the right operand.
-    fn combine(&mut self, op: u32)
-        requires { (2 ≤ self.old.count) × (self.old.count ≤ 8) × (length self.old.values ≡ 8) }
-        ensures { Holds self.new (combined op (waiting self.old)) (self.old.count - 1) }
-    {
-        let x = self.values[self.count - 2];
-        let y = self.values[self.count - 1];
-        self.count -= 1;
-        self.values[self.count - 1] = operate(op, x, y);
-    }
-
-    // One of the five operations: 5 is negate.
-    fn apply(&mut self, op: u32)
-        requires { (operands op ≤ self.old.count) × (self.old.count ≤ 8) × (length self.old.values ≡ 8) }
-        ensures { Holds self.new (applied op (waiting self.old)) (self.old.count - operands op + 1) }
-    {
-        if op == 5 {
-            return self.negate();
-        }
-        self.combine(op);
-    }
-
-    // Works a row, in iteration i, and says whether it is an item's: a destination's is left.
-    fn work_row(
-        &mut self,
-        store: &Store,
-        bases: &[u32; 17],
-        row: usize,
-        i: usize,
-        memory: &[f64],
-    ) -> bool
-        requires row_bound { (row < 576) × (i < 2 ^ 32) × (length self.old.values ≡ 8) }
-        requires ready { (kind_at store.now row ≡ 1 → ⊥) → Ready bases.now i (length memory.now) (item_at store.now row) self.old.count }
-        ensures { Stepped bases.now i memory.now store.now row self.old self.new result }
-    {
-        let array = reader::array_at(store, row);
-        let value = reader::value_at(store, row);
-        match reader::kind_at(store, row) {
-            RowKind::Read => {
-                self.push(element(array, value, bases, i, memory));
-                true
-            }
-            RowKind::Operation => {
-                self.apply(value);
-                true
-            }
-            RowKind::Constant => {
-                self.push(constant(value));
-                true
-            }
-            RowKind::Destination => false,
-        }
-    }
-
-    // Works the items of the rows from `from` up to the first destination's or up to `past`, in iteration i; answers the row at which they ended.
-    fn work_rows(
-        &mut self,
+    // Works the items of the rows from `from` up to the first destination's or up to `past`, in iteration i.
+    pub fn work_rows(
+        self,
         store: &Store,
         bases: &[u32; 17],
         from: usize,
         past: usize,
         i: usize,
         memory: &[f64],
-    ) -> usize
-        requires from_le_past { (from ≤ past) × (past ≤ 576) × (i < 2 ^ 32) × (self.old.count ≤ 8) × (length self.old.values ≡ 8) }
-        requires works { Works (lead_from store.now from (past - from) []) self.old.count }
+    ) -> Worked
+        requires from_le_past { (from ≤ past) × (past ≤ 576) × (i < 2 ^ 32) × (self.count ≤ 8) }
+        requires works { Works (lead_from store.now from (past - from) []) self.count }
         requires reads_within { ReadsWithin bases.now i (length memory.now) (lead_from store.now from (past - from) []) }
-        ensures count_value { (self.new.count ≡ 1) × Stopped store.now from past result }
-        ensures by_index { (ns : List ℕ) → Based bases.now ns → waiting self.new ≡ worked_all ns i memory.now (lead_from store.now from (past - from) []) (waiting self.old) }
+        ensures count_value { (result.waiting.count ≡ 1) × Stopped store.now from past result.row }
+        ensures by_index { (ns : List ℕ) → Based bases.now ns → waiting result.waiting ≡ worked_all ns i memory.now (lead_from store.now from (past - from) []) (waiting self) }
     {
+        let Waiting {
+            mut values,
+            mut count,
+        } = self;
         for row in from..past {
-            if !self.work_row(store, bases, row, i, memory) {
-                return row;
+            match work_row(&mut values, count, store, row, bases, i, memory) {
+                Some(next) => count = next,
+                None => {
+                    let waiting = Waiting { values, count };
+                    return Worked { waiting, row };
+                }
             }
         }
-        past
+        let waiting = Waiting { values, count };
+        Worked { waiting, row: past }
     }
 }
 
@@ -172,10 +184,11 @@ pub fn value_of(
     ensures stopped { Stopped store.now from past result.row }
     ensures by_index { (ns : List ℕ) → Based bases.now ns → result.value ≡ value ns i (lead_from store.now from (past - from) []) memory.now }
 {
-    let mut waiting = Waiting::default();
-    let row = waiting.work_rows(store, bases, from, past, i, memory);
+    let none = Waiting::default();
+    let worked = none.work_rows(store, bases, from, past, i, memory);
+    let waiting = worked.waiting;
     Valued {
         value: waiting.values[0],
-        row,
+        row: worked.row,
     }
 }

@@ -1,7 +1,7 @@
 // One record of a loop table, from bytes: its kind, its fields, and the tests on it.
 #![tactic(auto)]
 
-ghost use Rattle.std.specs.Prelude.{◌≡◌, ◌+◌, ◌<◌, ◌≤◌, IfOk, leb, length, ltb};
+ghost use Rattle.std.specs.Prelude.{◌≡◌, ◌+◌, ◌<◌, ◌≤◌, ℕ, IfOk, leb, length, List, ltb};
 ghost use Rattle.records.specs.Bytes.{byte, two, four, offset, kind_of, body_length, record_at, record_of};
 ghost use Rattle.records.specs.Grounds.{◌if◌else◌, early, edge, fields, ground, number_met, passed, tested};
 ghost use Rattle.records.specs.Clear.{span_of};
@@ -205,8 +205,8 @@ fn edge_ground(first: u32, last: u32, o: u32, n: u32) -> Result<(), Ground>
 }
 
 #[tactic(auto, unfolding(records::specs::Grounds::fields))]
-fn array_tests(n: u32, t: Summary, lens: &[u32; MOST_ARRAYS]) -> Result<(), Ground>
-    ensures { number_met result ≡ fields (Record.Array n) t lens.now }
+fn array_tests(n: u32, t: Summary) -> Result<(), Ground>
+    ensures { (ns : List ℕ) → number_met result ≡ fields (Record.Array n) t ns }
 {
     if n == 0 || MOST_LENGTH < n {
         return Err(Ground::Field);
@@ -242,8 +242,8 @@ fn read_tests(q: u32, o: u32, t: Summary, lens: &[u32; MOST_ARRAYS]) -> Result<(
 }
 
 #[tactic(auto, unfolding(records::specs::Grounds::fields))]
-fn constant_tests(n: u32, t: Summary, lens: &[u32; MOST_ARRAYS]) -> Result<(), Ground>
-    ensures { number_met result ≡ fields (Record.Constant n) t lens.now }
+fn constant_tests(t: Summary) -> Result<(), Ground>
+    ensures { (n : ℕ) (ns : List ℕ) → number_met result ≡ fields (Record.Constant n) t ns }
 {
     if 8 <= t.waiting {
         return Err(Ground::Body);
@@ -252,8 +252,8 @@ fn constant_tests(n: u32, t: Summary, lens: &[u32; MOST_ARRAYS]) -> Result<(), G
 }
 
 #[tactic(auto, unfolding(records::specs::Grounds::fields))]
-fn operation_tests(o: u32, t: Summary, lens: &[u32; MOST_ARRAYS]) -> Result<(), Ground>
-    ensures { number_met result ≡ fields (Record.Operation o) t lens.now }
+fn operation_tests(o: u32, t: Summary) -> Result<(), Ground>
+    ensures { (ns : List ℕ) → number_met result ≡ fields (Record.Operation o) t ns }
 {
     if o == 0 || 5 < o {
         return Err(Ground::Field);
@@ -281,7 +281,7 @@ fn fields_ground(r: Record, t: Summary, lens: &[u32; MOST_ARRAYS]) -> Result<(),
 {
     match r {
         Record::Unknown | Record::End => Ok(()),
-        Record::Array(n) => array_tests(n, t, lens),
+        Record::Array(n) => array_tests(n, t),
         Record::Loop {
             first,
             last,
@@ -289,8 +289,8 @@ fn fields_ground(r: Record, t: Summary, lens: &[u32; MOST_ARRAYS]) -> Result<(),
             offset,
         } => { loop_tests(first, last, array, offset, t, lens) }
         Record::Read { array, offset } => read_tests(array, offset, t, lens),
-        Record::Constant(n) => constant_tests(n, t, lens),
-        Record::Operation(o) => operation_tests(o, t, lens),
+        Record::Constant(_) => constant_tests(t),
+        Record::Operation(o) => operation_tests(o, t),
         Record::Statement { array, offset } => statement_tests(array, offset, t, lens),
     }
 }
@@ -307,6 +307,7 @@ fn passing(r: Record, n: usize) -> Tested
 }
 
 // The record at a place and the place after it, or the ground that it meets; the arrays' lengths are lent.
+#[tactic(auto, unfolding(records::specs::Grounds::ground, records::specs::Bytes::record_at))]
 fn record_at(s: &[u8], at: usize, t: Summary, lens: &[u32; MOST_ARRAYS]) -> Result<(Record, usize), Ground>
     requires { t.arrays ≤ 16 }
     ensures met { number_met result ≡ ground s.now at t lens.now }

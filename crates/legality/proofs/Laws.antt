@@ -22,7 +22,7 @@ use Rattle.model.specs.Table.{Table, count}
 use Rattle.model.specs.References.{refs, touch}
 use Rattle.records.specs.declared.storage.Store.{Store}
 use Rattle.reader.specs.Store.{start_at, kind_at, array_at, table_in}
-use Rattle.reader.specs.Held.{Held, count_held, few-loops}
+use Rattle.reader.specs.Held.{Held}
 use Rattle.reader.specs.Rows.{ref_in, row_refs, refs_from, refs_in, LastDestination}
 use Rattle.reader.specs.RowLaws.{row-reference, row-none, refs-next}
 use Rattle.chains.specs.Dependence.{meet_in, dependence}
@@ -33,6 +33,7 @@ use Rattle.chains.proofs.Tables.{refs-number, refs-all_refs, all_refs-refs, all_
 use Rattle.chains.specs.Unmet.{some_of, least_from, missed, Unmet}
 use Rattle.chains.proofs.UnmetLaws.{some_of_lem, of_some, some-append, least-found, least-none, least-is, least-most, below-least, unmet-is, unmet-later, unmet-first, unmet-none}
 use Rattle.amounts.specs.Rows.{refs-in, row_in}
+use Rattle.amounts.proofs.Laws.{count-few}
 use Rattle.amounts.specs.Walked.{ReferenceFits}
 use Rattle.amounts.specs.declared.Amounts.{Amounts}
 use Rattle.blocks.specs.Sums.{some}
@@ -218,11 +219,8 @@ none-pair n e = go (dec_lt n 256)
 
 -- A STORE THAT HOLDS A TABLE
 module _ {c : Store} (h : Held c) where
-  pub count-few : count (table_in c) ≤ 16
-  count-few = omega (arith, count_held h, few-loops h)
-
   pub reference-fits : (k : ℕ) → k < count (table_in c) → (r : ℕ) → r < start_at c (k + 1) → kind_at c r < 2 → ReferenceFits (table_in c) (ref_in c k r)
-  reference-fits k l r i q = record { number = l; few = omega (arith, count-few); offset = (row_in h k l r i).offset q }
+  reference-fits k l r i q = record { number = l; few = omega (arith, count-few h); offset = (row_in h k l r i).offset q }
 
   -- THE ROWS OF A LOOP, by any test of a reference
   module _ (f : Reference → Bool) (k : ℕ) (l : k < count (table_in c)) where
@@ -362,7 +360,7 @@ module _ {c : Store} (h : Held c) where
       where
         go : Dec (m < 16) → unmet_in t amounts j m ≡ false
         go (yes l) = below-least (unmet_in t amounts j) 16 0 m (omega arith) (omega (arith, e))
-        go (no l) = past-none j m (omega (arith, count-few))
+        go (no l) = past-none j m (omega (arith, count-few h))
 
     pub from_next : (j : ℕ) → NoneFrom j → None ≡ loop_of (least_from 16 0 (unmet_in t amounts j)) → NoneFrom (j + 1)
     from_next j f e i m u = go (ℕ_discrete i j)
@@ -379,16 +377,16 @@ module _ {c : Store} (h : Held c) where
         let (same, l) = some-loop _ k e in
         let here : unmet_in t amounts j k ≡ true = rw same (least-is (unmet_in t amounts j) 16 0 (omega arith)) in
         pair-some _ j k
-        (sym (unmet-first (graph t) (missed (graph t) amounts.shifts amounts.peels) (all_refs-below t count-few) j k (record {
+        (sym (unmet-first (graph t) (missed (graph t) amounts.shifts amounts.peels) (all_refs-below t (count-few h)) j k (record {
           here = (unmet-is (graph t) (missed (graph t) amounts.shifts amounts.peels) j k).0 here;
           lowest-earlier = λ i m u. refuted i m (f i m u);
           lowest-later = λ m u. refuted j m (below-least (unmet_in t amounts j) 16 0 m (omega arith) (omega (arith, same)));
         })))
-        (omega (arith, count-few)) (omega (arith, same, l))
+        (omega (arith, count-few h)) (omega (arith, same, l))
 
     pub all_none : (j : ℕ) → count t ≤ j → NoneFrom j → None ≡ pair_of (least_unmet_in t amounts)
     all_none j l f =
-        pair-none _ (sym (unmet-none (graph t) (missed (graph t) amounts.shifts amounts.peels) (all_refs-below t count-few) (λ i m u. refuted i m (f i m (near i m u)) u)))
+        pair-none _ (sym (unmet-none (graph t) (missed (graph t) amounts.shifts amounts.peels) (all_refs-below t (count-few h)) (λ i m u. refuted i m (f i m (near i m u)) u)))
       where
         near : (i m : ℕ) → Unmet (graph t) (missed (graph t) amounts.shifts amounts.peels) i m → i < j
         near i m u = omega (arith, (all_refs-refs t u.x u.dependence.from).0, u.from)

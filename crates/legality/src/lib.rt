@@ -77,6 +77,7 @@ fn lacks_between(store: &Store, a: &Amounts, x: Reference, y: Reference) -> bool
 }
 
 // The same of x, a destination, and row r of loop k: only a reference to x's array can make a dependence with it.
+#[tactic(auto, using(amounts::proofs::Laws::row_bounds))]
 fn lacks_row(store: &Store, a: &Amounts, x: Reference, k: usize, r: usize) -> bool
     requires held { Held store.now }
     requires storing { Storing (table_in store.now) x k × (r < start_at store.now (k + 1)) }
@@ -89,6 +90,7 @@ fn lacks_row(store: &Store, a: &Amounts, x: Reference, k: usize, r: usize) -> bo
 }
 
 // The same of x, a destination, and any reference of loop k, which is another loop.
+#[tactic(auto, using(amounts::proofs::Laws::row_bounds))]
 fn lacks_loop(store: &Store, a: &Amounts, x: Reference, k: usize) -> bool
     requires { Held store.now × Storing (table_in store.now) x k }
     ensures { result ≡ with_loop (table_in store.now) a.now x k }
@@ -102,6 +104,7 @@ fn lacks_loop(store: &Store, a: &Amounts, x: Reference, k: usize) -> bool
 }
 
 // The same of row r of loop j, if it is a destination's, and any reference of loop k, which is another loop.
+#[tactic(auto, using(amounts::proofs::Laws::row_bounds))]
 fn lacks_destination(store: &Store, a: &Amounts, j: usize, r: usize, k: usize) -> bool
     requires held { Held store.now }
     requires j_bound { (j < count (table_in store.now)) × (r < start_at store.now (j + 1)) × (k < count (table_in store.now)) × (j ≢ k) }
@@ -112,6 +115,7 @@ fn lacks_destination(store: &Store, a: &Amounts, j: usize, r: usize, k: usize) -
 
 // The same of any destination of loop j, the last of which stands in row `last`, and any reference of loop k, which is another loop. In a loop of
 // one statement the first row is the last one, too.
+#[tactic(auto, using(amounts::proofs::Laws::row_bounds))]
 fn lacks_destinations(store: &Store, a: &Amounts, j: usize, last: usize, k: usize) -> bool
     requires held { Held store.now }
     requires j_bound { (j < count (table_in store.now)) × LastDestination store.now j last × (k < count (table_in store.now)) × (j ≢ k) }
@@ -126,6 +130,7 @@ fn lacks_destinations(store: &Store, a: &Amounts, j: usize, last: usize, k: usiz
 }
 
 // Whether some dependence from loop j to loop k is not met. One of its references is a destination.
+#[tactic(auto, using(amounts::proofs::Laws::row_bounds))]
 fn unmet_pair(store: &Store, a: &Amounts, lasts: &[u32; 16], j: usize, k: usize) -> bool
     requires held { Held store.now × (j < k) × (k < count (table_in store.now)) }
     requires lasts { Lasts store.now lasts.now }
@@ -136,6 +141,7 @@ fn unmet_pair(store: &Store, a: &Amounts, lasts: &[u32; 16], j: usize, k: usize)
 }
 
 // The lowest loop to which some dependence from loop j is not met.
+#[tactic(auto, using(amounts::proofs::Laws::row_bounds))]
 fn lowest_later(store: &Store, a: &Amounts, lasts: &[u32; 16], j: usize) -> Option<usize>
     requires held { Held store.now × (j < count (table_in store.now)) }
     requires lasts { Lasts store.now lasts.now }

@@ -1,12 +1,12 @@
 -- What is printed of a table for what settles its lists: its plan's listing, or a refusal. A call gives the refusal and prints nothing; the
 -- program `plan` prints the single line of it.
-use Rattle.std.specs.Prelude.{ℕ, ◌≤◌, List, length}
+use Rattle.std.specs.Prelude.{ℕ, ◌≤◌, List, length, Result, IfOk}
+use Rattle.refusals.specs.declared.Refusal.{Refusal}
 use Rattle.refusals.specs.Answers.{AnswerOf, accepted, refused, after}
 use Rattle.plans.specs.Plans.{Settings, Planned, planned}
 use Rattle.sweeps.specs.Sweeps.{before}
 use Rattle.sweeps.specs.Sweeps as Sweeps
 use Rattle.listing.specs.Listing.{listing, refusal_line}
-use Rattle.outputs.specs.declared.Outcome.{Outcome}
 use Rattle.outputs.specs.Given.{Given, fitted}
 use Rattle.outputs.specs.Gives.{Gives}
 
@@ -28,7 +28,7 @@ unfoldable pub listing_given : List ℕ → Settings → ℕ → Given
 listing_given s w room = after (planned s w) (λ q. fitted room (listing_of q))
 
 -- a call that prints a text into `out`, or gives 13 where it doesn't fit, tells o and leaves `left`; no text is long
-pub record Prints (text out left : List ℕ) (o : Outcome) : Type 0 where
+pub record Prints (text out left : List ℕ) (o : Result ℕ Refusal) : Type 0 where
   pub gives : Gives (fitted (length out) text) out left o
   pub few : length text ≤ 50000
-  pub fits : o.written ≤ length left
+  pub fits : IfOk o (λ n. n ≤ length left)

@@ -1,5 +1,5 @@
 -- What the program prints: what the call gives, and where that is refused the line of the refusal. Laws alone.
-use Rattle.std.specs.Prelude.{ℕ, ◌≤◌, ◌≡◌, List, ◌++◌, ltb, length, drop}
+use Rattle.std.specs.Prelude.{ℕ, ◌≤◌, ◌≡◌, List, ◌++◌, ltb, length, drop, Result, Ok}
 use Rattle.std.proofs.Common.{arith, ◌∙◌, le-ltb}
 use Rattle.std.proofs.Math.Path.{ap}
 use Rattle.refusals.specs.declared.Refusal.{Refusal}
@@ -7,9 +7,7 @@ use Rattle.refusals.specs.Refusals.{met}
 use Rattle.refusals.specs.Answers.{accepted, refused}
 use Rattle.refusals.proofs.AnswerLaws.{if-accepted, after-accepted}
 use Rattle.serial.specs.Serial.{table}
-use Rattle.outputs.specs.declared.Outcome.{Outcome}
 use Rattle.outputs.specs.Given.{fitted, final}
-use Rattle.outputs.specs.Gives.{writing}
 use Rattle.plans.specs.Plans.{Settings, fitting, planned}
 use Rattle.listing.specs.Listing.{refusal_line}
 use Rattle.printing.specs.Printing.{listing_of, listing_given, text_of, text, Prints}
@@ -33,8 +31,8 @@ module _ (s : List ℕ) (w : Settings) where
   text-decided r e = text-refused r (rw e)
 
 -- the program lends room for the longest, so it is never refused with 13 and prints the whole text
-pub prints-all : (text out left : List ℕ) (o : Outcome) → Prints text out left o → 50000 ≤ length out
-    → (o ≡ writing (length text)) × (left ≡ text ++ drop (length text) out)
+pub prints-all : (text out left : List ℕ) (o : Result ℕ Refusal) → Prints text out left o → 50000 ≤ length out
+    → (o ≡ Ok (length text)) × (left ≡ text ++ drop (length text) out)
 unfolding fitted final
 prints-all text out left o p l =
     let e = le-ltb (length out) (length text) (omega (arith, p.few)) in

@@ -176,6 +176,7 @@ fn put_counts(arrays: u32, loops: u32, store: &mut Store)
 }
 
 // Stores a record that met no ground, in row r; answers how many rows there are then.
+#[tactic(auto, unfolding(crate::specs::Store::kept, crate::specs::Store::rows_after))]
 fn keep(x: Record, t: Summary, r: usize, store: &mut Store) -> usize
     requires room { Room x t }
     requires places { Places t r × (rows_after x r ≤ 576) × ArrayFits x }
@@ -184,7 +185,7 @@ fn keep(x: Record, t: Summary, r: usize, store: &mut Store) -> usize
 {
     let k = t.loops as usize;
     match x {
-        Record::Unknown => r,
+        Record::Unknown | Record::End => r,
         Record::Array(n) => {
             put_length(t.arrays as usize, n, store);
             r
@@ -201,7 +202,6 @@ fn keep(x: Record, t: Summary, r: usize, store: &mut Store) -> usize
         Record::Read { array, offset } => put_row(k, r, RowKind::Read, array, offset, store),
         Record::Constant(n) => put_row(k, r, RowKind::Constant, 0, n, store),
         Record::Operation(o) => put_row(k, r, RowKind::Operation, 0, o, store),
-        Record::End => r,
         Record::Statement { array, offset } => put_row(
             k,
             r,

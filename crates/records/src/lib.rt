@@ -178,6 +178,7 @@ impl Summary {
     }
 
     // After a record that met no ground.
+    #[tactic(auto, unfolding(crate::specs::History::advanced))]
     pub fn advance(self, r: Record) -> Self
         requires { Room r self }
         ensures { result ≡ advanced r self }

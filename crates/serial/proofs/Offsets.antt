@@ -93,19 +93,8 @@ module _ (c : Store) where
           go (yes e) = subst (StoredAt c from (row + 1)) (offset-put row os e) (stored-put e)
           go (no n) = subst (StoredAt c from (row + 1)) (offset-kept row os n) (stored_other n)
 
-    pub stored-end : (row past : ℕ) (os : List (Option ℕ)) → StoredAt c from row os → row ≡ past → StoredAt c from past os
-    stored-end row past os w e = rw e at w
-
   -- THE TEST OF A ROW
   module _ (os : List (Option ℕ)) (i : ℕ) where
-    pub none-differs : offset_of c os i ≡ None → false ≡ differs c os i
-    unfolding differs
-    none-differs e = sym (rw e)
-
-    pub kind-differs : (o : ℕ) (b : Bool) → offset_of c os i ≡ Some o → b ≡ (not (eqb o (value_at c i)) && ltb (kind_at c i) 2) → b ≡ differs c os i
-    unfolding differs
-    kind-differs o b e f = f ∙ sym (rw e)
-
     -- a reference that does not differ has the offset of its array, if that is stored
     agreed : differs c os i ≡ false → kind_at c i < 2 → (offset_of c os i ≡ None → ⊥) → offset_of c os i ≡ Some (value_at c i)
     unfolding differs
@@ -125,9 +114,6 @@ module _ (c : Store) where
   module _ (os : List (Option ℕ)) (from past : ℕ) where
     abbrev pub Agreeing : ℕ → Type 0
     Agreeing row = (from ≤ row) × (row ≤ past) × (some_from (differs c os) from (past - from) ≡ some_from (differs c os) row (past - row))
-
-    pub agreeing-start : from ≤ past → Agreeing from
-    agreeing-start h = (omega arith, h, refl)
 
     module _ (row : ℕ) (w : Agreeing row) where
       module _ (h : row < past) where

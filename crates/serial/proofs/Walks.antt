@@ -4,8 +4,8 @@ use native.Mathlib.Omega.{arith}
 use native.Mathlib.Decide.{ℕ_discrete, dec_lt}
 use native.Mathlib.Numerals.{add-one}
 use mathlib.Core.Path.{◌≡◌, refl, sym, ap, subst, ◌∙◌}
-use mathlib.Core.Logic.{◌⊎◌, ⊎_elim}
-use mathlib.Core.Bool.{Bool, true, false, false≢true, and-false, ◌||◌}
+use mathlib.Core.Logic.{⊎_elim}
+use mathlib.Core.Bool.{Bool, true, false, false≢true, and-false}
 use mathlib.Core.List.Memᴰ
 use mathlib.Core.List.{List, [], ◌∷◌, ◌++◌}
 use mathlib.Core.List.Memᴰ.{head as mhere}
@@ -13,11 +13,9 @@ use mathlib.Core.List.Memᴰ.{tail as mthere}
 use mathlib.Core.List.{Memᴰ as Mem}
 use mathlib.Core.List.Memᴰ.{cases_cons}
 use mathlib.Core.List.Memᴰ.{not-nil}
-use lib.Dec.{eqb}
 use lib.ListN.{length, length-append}
 use borrow.Author.Tests.{lt-ltb, le-ltb, eq-eqb, ne_eqb}
 use Rattle.overlap.specs.Booleans.{not-true}
-use Rattle.overlap.specs.Overlap.{overlap}
 use Rattle.chains.proofs.DependenceLaws.{touch_is}
 use Rattle.model.specs.declared.Reference.{Reference}
 use Rattle.model.specs.References.{touch, Touch}
@@ -50,17 +48,8 @@ module _ (f l : ℕ) (r q : Reference) where
   unfolding collides
   same-offset e = sym (rw (eq-eqb r.offset q.offset e) (and-false (touch r q)))
 
-  pub neither-stores : (r.stores || q.stores) ≡ false → collides f l r q ≡ false
-  unfolding collides touch
-  neither-stores e = rw (e, and-false (eqb r.array q.array))
-
   reads-apart : r.stores ≡ false → q.stores ≡ false → collides f l r q ≡ false
   reads-apart a b = untouched (λ t. ⊎_elim (λ s. false≢true (sym a ∙ s)) (λ s. false≢true (sym b ∙ s)) t.1)
-
-  pub touching : (x : Bool) → r.array ≡ q.array → (r.offset ≡ q.offset → ⊥) → (r.stores ≡ true) ⊎ (q.stores ≡ true)
-      → x ≡ overlap f l r.offset f l q.offset → x ≡ collides f l r q
-  unfolding collides
-  touching x a n s e = e ∙ sym (rw ((touch_is r q).1 (a, s), ne_eqb r.offset q.offset n))
 
 -- references of which no two collide
 module _ (f l : ℕ) where
@@ -202,9 +191,6 @@ module _ (c : Store) (f l : ℕ) where
 
     -- then comes a destination, a row that collides, or the end
     module _ (is : x ≡ ref_in c 0 row) (start : row < past) (d : kind_at c row ≡ 1) (other : ℕ) (w : Alone other) where
-      pub alone-destination : other < past → kind_at c other ≡ 1 → PartnerOrDestination c f l row past (Some other)
-      alone-destination h k = ((omega (arith, w.0.0), h), w.1, λ n. absurd (n k))
-
       pub alone-found : other < past → true ≡ collides_row c f l x other → PartnerOrDestination c f l row past (Some other)
       alone-found h e = ((omega (arith, w.0.0), h), w.1, λ n. partner-found row past start (omega arith) other (rw is at w.0) h (rw is at e))
 

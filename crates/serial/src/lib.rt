@@ -42,37 +42,28 @@ fn rows_of(store: &Store, k: usize) -> LoopRows
 }
 
 // Two references of a loop.
+#[tactic(auto, unfolding(crate::specs::Serial::collides, model::specs::References::touch))]
 fn collide(rows: LoopRows, x: Reference, y: Reference) -> bool
     requires { (x.offset < 65536) × (y.offset < 65536) }
     ensures { result ≡ collides rows.first rows.last x y }
 {
-    if x.array != y.array {
-        return false;
-    }
-    if x.offset == y.offset {
-        return false;
-    }
-    if x.stores || y.stores {
-        let f = rows.first as usize;
-        let l = rows.last as usize;
-        return overlaps(f, l, x.offset, f, l, y.offset);
-    }
-    false
+    let f = rows.first as usize;
+    let l = rows.last as usize;
+    x.array == y.array
+        && x.offset != y.offset
+        && (x.stores || y.stores)
+        && overlaps(f, l, x.offset, f, l, y.offset)
 }
 
 // A reference x and the row `row` of one loop: most rows are told by their array alone.
+#[tactic(auto, unfolding(crate::specs::Serial::collides, model::specs::References::touch))]
 fn row_collides(store: &Store, rows: LoopRows, x: Reference, row: usize) -> bool
     requires { (row < 576) × Row store.now row × (x.offset < 65536) }
     ensures { result ≡ collides_row store.now rows.first rows.last x row }
 {
-    if reader::array_at(store, row) as usize != x.array {
-        return false;
-    }
-    if !reader::is_reference(store, row) {
-        return false;
-    }
-    let y = reader::reference_at(store, 0, row);
-    collide(rows, x, y)
+    reader::array_at(store, row) as usize == x.array
+        && reader::is_reference(store, row)
+        && collide(rows, x, reader::reference_at(store, 0, row))
 }
 
 // The first row of a loop behind `row` whose reference collides with that of `row`, if `row` has a reference.
@@ -124,6 +115,7 @@ fn partner_or_destination(store: &Store, rows: LoopRows) -> Option<usize>
 }
 
 // The offsets with one row more: a destination's sets that of its array.
+#[tactic(auto, unfolding(crate::specs::Rows::with_offset))]
 fn put_offset(store: &Store, row: usize, offsets: &mut [Option<u32>; 16])
     requires { row < 576 }
     ensures { offsets.new ≡ with_offset store.now row offsets.old }
@@ -148,6 +140,7 @@ fn stored_offsets(store: &Store, from: usize, past: usize) -> [Option<u32>; 16]
 }
 
 // Row `row` is a reference to an array that is stored, at another offset than that.
+#[tactic(auto, unfolding(crate::specs::Rows::differs))]
 fn row_differs(store: &Store, offsets: &[Option<u32>; 16], row: usize) -> bool
     requires { row < 576 }
     ensures { result ≡ differs store.now offsets.now row }

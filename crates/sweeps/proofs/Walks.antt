@@ -23,8 +23,8 @@ module _ {c : Store} (h : Held c) (k : ℕ) (there : k < count (table_in c)) whe
   pub loop-few : k < 16
   loop-few = omega (arith, count_held h, few-loops h)
 
-  pub rows-past : (past : ℕ) → past ≡ start_at c (k + 1) → (past ≤ 576) × (past ≡ start_at c (suc k))
-  rows-past past e = let f = e ∙ ap (start_at c) (add-one k) in (omega (arith, few-rows h (suc k) there), f)
+  pub rows_past : (past : ℕ) → past ≡ start_at c (k + 1) → (past ≤ 576) × (past ≡ start_at c (suc k))
+  rows_past past e = let f = e ∙ ap (start_at c) (add-one k) in (omega (arith, few-rows h (suc k) there), f)
 
 -- the totals with loop k: z is its sets, x both their sizes, u the unions
 pub added : (s : Totals) (t : Table) (k : ℕ) (z : Sets) → SetsOf t k z → (x : ℕ) (u : Sets) → x ≡ size (marked z.touched) + size (marked z.written)

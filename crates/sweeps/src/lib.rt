@@ -73,6 +73,7 @@ impl Sets {
 }
 
 // The sets of loop k.
+#[tactic(auto, using(crate::proofs::Walks::rows_past))]
 fn sets_of(k: usize, store: &Store) -> Sets
     requires { Held store.now × (k < count (table_in store.now)) }
     ensures { SetsOf (table_in store.now) k result }

@@ -8,12 +8,12 @@ use Rattle.amounts.proofs.take_up.Goals as goal
 pub returns-then-touches : goal.returns-then-touches
 returns-then-touches c =
     let a = c.args in
-    let t = a.totals.now.amounts in
+    let t = a.amounts.now in
     rw (← c.reference_at.ensures)
-    (taken-touching (table_in a.store.now) _ a.y t.shifts t.peels _ _ a.totals.now.made (c.raise.ensures.shifts_after, c.raise.ensures.peels_after))
+    (taken-touching (table_in a.store.now) _ a.y t.shifts t.peels _ _ a.made.now (c.raise.ensures.shifts_after, c.raise.ensures.peels_after))
 
 pub returns-else-touches : goal.returns-else-touches
 returns-else-touches c =
     let a = c.args in
-    let t = a.totals.now.amounts in
-    taken-apart (table_in a.store.now) (ref_at a.columns.now a.x) a.y t.shifts t.peels a.totals.now.made (sym c.touches.ensures ∙ c.if-touches.false)
+    let t = a.amounts.now in
+    taken-apart (table_in a.store.now) (ref_at a.columns.now a.x) a.y t.shifts t.peels a.made.now (sym c.touches.ensures ∙ c.if-touches.false)

@@ -21,4 +21,4 @@ returns c =
     let l = c.loop-k in
     let t = table_in c.args.store.now in
     let all : l.k ≡ count t = omega (arith, count_held c.requires) in
-    walked_all (subst (λ (m : ℕ). WalkedTo t (joined m (refs t)) l.walk) all l.invariant)
+    walked_all (subst (λ (m : ℕ). WalkedTo t (joined m (refs t)) l.walk l.made) all l.invariant)

@@ -6,4 +6,4 @@ use Rattle.amounts.proofs.walk.Given as goal
 
 -- `walk` meets its contract. The invariant: the walk has come past the references of the loops below k.
 abbrev pub invariant-loop-k : goal.invariant-loop-k
-invariant-loop-k l = WalkedTo (table_in l.store) (joined l.k (refs (table_in l.store))) l.walk
+invariant-loop-k l = WalkedTo (table_in l.store) (joined l.k (refs (table_in l.store))) l.walk l.made

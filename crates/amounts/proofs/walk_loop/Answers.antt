@@ -4,17 +4,7 @@ use native.Mathlib.Omega.{arith}
 use Rattle.reader.specs.Store.{start_at, table_in}
 use Rattle.amounts.specs.Rows.{past_row, start-in, past-start, past_end}
 use Rattle.amounts.specs.Walked.{WalkedTo}
-use Rattle.amounts.proofs.Laws.{count-few}
 use Rattle.amounts.proofs.walk_loop.Goals as goal
-
-pub overflow_add-k : goal.overflow_add-k
-overflow_add-k c = let p = c.requires.held in omega (arith, p.1, count-few p.0)
-
-pub start_at-r-end-requires : goal.start_at-r-end-requires
-start_at-r-end-requires c = let p = c.requires.held in omega (arith, p.1, count-few p.0)
-
-pub start_at-r-requires : goal.start_at-r-requires
-start_at-r-requires c = let p = c.requires.held in omega (arith, p.1, count-few p.0)
 
 pub loop-r-init : goal.loop-r-init
 loop-r-init c = let p = c.requires.held in rw (c.start_at-r.ensures, past-start p.0 c.args.k p.1) c.requires.walked
@@ -31,4 +21,4 @@ returns c =
     let p = c.requires.held in
     let some = start-in p.0 a.k p.1 in
     let all : l.r ≡ start_at a.store.now (a.k + 1) = omega (arith, l.auto.r-end (omega (arith, some))) in
-    rw (← (past_end p.0 a.k p.1)) (subst (λ (m : ℕ). WalkedTo (table_in a.store.now) (past_row a.store.now a.k m) l.walk) all l.invariant)
+    rw (← (past_end p.0 a.k p.1)) (subst (λ (m : ℕ). WalkedTo (table_in a.store.now) (past_row a.store.now a.k m) l.walk l.made) all l.invariant)

@@ -9,8 +9,8 @@ use Rattle.bodies.proofs.value_of.Goals as goal
 pub returns-clause-by_index : goal.returns-clause-by_index
 returns-clause-by_index c =
     let a = c.args in
-    let n = c.default-waiting in
+    let n = c.default-none in
     let none : n.result.count ≡ 0 = search rules in
-    let w = c.work_rows-row in
-    λ ns b. at-bottom (lead_from a.store.now a.from (a.past - a.from) []) ns a.i a.memory.now n.result w.new.self none
+    let w = c.work_rows-worked in
+    λ ns b. at-bottom (lead_from a.store.now a.from (a.past - a.from) []) ns a.i a.memory.now n.result w.result.waiting none
     w.ensures.count_value.0 (w.ensures.by_index ns b)

@@ -12,3 +12,6 @@ returns-clause-by_index c =
     let y = rw (c.value_at.ensures, c.array_at.ensures) at c.store_in.ensures in
     statement-stored a.bases.now a.i (statement_at a.store.now a.row (a.past - suc a.row) []) a.memory.now _
     c.value_of-x.result.value c.requires.performable.stores.0 value y
+
+pub returns-clause-stopped : goal.returns-clause-stopped
+returns-clause-stopped c = rw (add-one c.args.row) at c.value_of-x.ensures.stopped

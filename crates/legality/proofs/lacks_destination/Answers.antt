@@ -2,15 +2,8 @@ use native.Mathlib.Omega.{arith}
 use mathlib.Core.Path.{◌∙◌, sym}
 use borrow.Author.Tests.{eqb-true, eq-eqb}
 use mathlib.Core.Bool.{false≢true}
-use Rattle.amounts.specs.Rows.{past-few}
 use Rattle.legality.proofs.Laws.{reference-fits, row-stored, row_other}
 use Rattle.legality.proofs.lacks_destination.Goals as goal
-
-pub is_destination-requires : goal.is_destination-requires
-is_destination-requires c = let p = c.requires in omega (arith, p.j_bound.1, past-few p.held _ p.j_bound.0)
-
-pub reference_at-requires : goal.reference_at-requires
-reference_at-requires c = let p = c.requires in omega (arith, p.j_bound.1, past-few p.held _ p.j_bound.0)
 
 pub lacks_loop-requires : goal.lacks_loop-requires
 lacks_loop-requires c =

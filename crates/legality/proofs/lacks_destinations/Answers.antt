@@ -1,11 +1,8 @@
 use Prim.Native.Nat.{◌+◌}
 use native.Mathlib.Omega.{arith}
 use mathlib.Core.Path.{◌∙◌, sym}
-use Rattle.legality.proofs.Laws.{count-few, left-start, left-next, found-row, left_end, up-to-last, past-last}
+use Rattle.legality.proofs.Laws.{left-start, left-next, found-row, left_end, up-to-last, past-last}
 use Rattle.legality.proofs.lacks_destinations.Goals as goal
-
-pub start_at-r-requires : goal.start_at-r-requires
-start_at-r-requires c = let p = c.requires in omega (arith, p.j_bound.0, count-few p.held)
 
 pub loop-r-init : goal.loop-r-init
 loop-r-init c = rw c.start_at-r.ensures (left-start c.requires.held _ c.args.j c.requires.j_bound.0)

@@ -1,16 +1,7 @@
 use native.Mathlib.Omega.{arith}
 use mathlib.Core.Path.{◌∙◌, sym}
-use Rattle.legality.proofs.Laws.{count-few, left-start, left-next, found-row, left_end}
+use Rattle.legality.proofs.Laws.{left-start, left-next, found-row, left_end}
 use Rattle.legality.proofs.lacks_loop.Goals as goal
-
-pub overflow_add-k : goal.overflow_add-k
-overflow_add-k c = let p = c.requires in omega (arith, p.1.there, count-few p.0)
-
-pub start_at-r-end-requires : goal.start_at-r-end-requires
-start_at-r-end-requires c = let p = c.requires in omega (arith, p.1.there, count-few p.0)
-
-pub start_at-r-requires : goal.start_at-r-requires
-start_at-r-requires c = let p = c.requires in omega (arith, p.1.there, count-few p.0)
 
 pub loop-r-init : goal.loop-r-init
 loop-r-init c = rw c.start_at-r.ensures (left-start c.requires.0 _ c.args.k c.requires.1.there)

@@ -1,25 +1,14 @@
 use mathlib.Core.Path.{◌∙◌, sym}
-use native.Mathlib.Omega.{arith}
 use borrow.Author.Tests.{ltb-true, ltb-false}
 use Rattle.reader.specs.Store.{table_in}
-use Rattle.amounts.specs.Rows.{past-few}
 use Rattle.legality.specs.Code.{between}
 use Rattle.legality.proofs.Laws.{reference-fits, touch-stores, row_here, row-empty, row_apart}
 use Rattle.legality.proofs.lacks_row.Goals as goal
-
-pub array_at-requires : goal.array_at-requires
-array_at-requires c = let p = c.requires in omega (arith, p.storing.1, past-few p.held _ p.storing.0.there)
 
 pub returns-then-array_at-x : goal.returns-then-array_at-x
 returns-then-array_at-x c =
     let a = c.args in
     row_apart a.store.now a.a.now a.x a.k a.r (λ e. c.if-array_at-x.true (c.array_at.ensures ∙ sym e))
-
-pub is_reference-requires : goal.is_reference-requires
-is_reference-requires c = let p = c.requires in omega (arith, p.storing.1, past-few p.held _ p.storing.0.there)
-
-pub reference_at-requires : goal.reference_at-requires
-reference_at-requires c = let p = c.requires in omega (arith, p.storing.1, past-few p.held _ p.storing.0.there)
 
 pub lacks_between-requires : goal.lacks_between-requires
 lacks_between-requires c =

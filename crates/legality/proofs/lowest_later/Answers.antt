@@ -1,10 +1,8 @@
 use native.Mathlib.Omega.{arith}
 use Rattle.reader.specs.Held.{count_held}
-use Rattle.legality.proofs.Laws.{count-few, none-start, none-next, later-found, later-none}
+use Rattle.amounts.proofs.Laws.{count-few}
+use Rattle.legality.proofs.Laws.{none-start, none-next, later-found, later-none}
 use Rattle.legality.proofs.lowest_later.Goals as goal
-
-pub overflow_step-k : goal.overflow_step-k
-overflow_step-k c = let p = c.requires.held in omega (arith, p.1, count-few p.0)
 
 pub loop-k-init : goal.loop-k-init
 loop-k-init c = let a = c.args in none-start c.requires.held.0 a.a.now a.j

@@ -1,21 +1,15 @@
+use Rattle.std.proofs.lemmas.Result.{err_from_is_err_and}
 use Rattle.plans.proofs.CodeLaws.{made-laid}
 use Rattle.printing.proofs.Laws.{refused-given, made-given}
 use Rattle.printing.proofs.print_listing.Goals as goal
 
-pub returns-then-r-ne0 : goal.returns-then-r-ne0
-returns-then-r-ne0 c =
-    let a = c.args in
-    let told = c.plan_table-p.ensures in
-    rw c.refused.ensures (refused-given a.s.now a.w _ _ a.out.now told c.if-r-ne0.true)
+pub returns-in_err-axis : goal.returns-in_err-axis
+returns-in_err-axis c =
+    let p = err_from_is_err_and c.from_residual.result c.from_residual.ensures.1 in
+    rw (p.1, p.2) (refused-given c.args.s.now c.args.w c.args.out.now _ c.in_err-axis.ensures)
 
 pub print_lines-requires : goal.print_lines-requires
-print_lines-requires c =
-    let a = c.args in
-    let m = c.plan_table-p.ensures.made c.if-r-ne0.false in
-    made-laid a.s.now a.w _ _ m
+print_lines-requires c = made-laid c.args.s.now c.args.w _ _ c.in_ok-axis.ensures
 
 pub returns : goal.returns
-returns c =
-    let a = c.args in
-    let m = c.plan_table-p.ensures.made c.if-r-ne0.false in
-    made-given a.s.now a.w _ _ a.out.now _ _ m c.print_lines.ensures
+returns c = made-given c.args.s.now c.args.w c.args.out.now _ _ c.in_ok-axis.ensures c.print_lines.ensures

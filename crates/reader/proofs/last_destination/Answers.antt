@@ -1,10 +1,9 @@
 use native.Mathlib.Omega.{arith}
-use mathlib.Core.Path.{◌≡◌, sym, subst}
+use mathlib.Core.Path.{◌≡◌, subst}
 use Prim.Native.Nat.{◌-◌}
-use borrow.Author.Tests.{eqb-true, eqb-false}
 use Rattle.reader.specs.Rows.{LastDestination}
 use Rattle.reader.specs.Held.{count_held, few-loops, few-rows}
-use Rattle.reader.specs.RowLaws.{behind-last, behind-few, behind-before, last_found, first_found}
+use Rattle.reader.specs.RowLaws.{behind-last, behind-few, first_found}
 use Rattle.reader.proofs.last_destination.Goals as goal
 
 pub start_at-start-requires : goal.start_at-start-requires
@@ -24,17 +23,6 @@ pub is_destination-requires : goal.is_destination-requires
 is_destination-requires c =
     let l = c.loop-r in
     behind-few c.requires.0 c.args.k c.requires.1 (l.r - 1) l.invariant
-
-pub loop-r-preserved : goal.loop-r-preserved
-loop-r-preserved c =
-    let l = c.loop-r in
-    behind-before c.args.store.now c.args.k (l.r - 1) l.invariant
-    (omega (arith, c.start_at-start.ensures, c.loop-r-test.true)) (eqb-false _ _ (sym c.if-is_destination.ensures))
-
-pub returns-then-is_destination : goal.returns-then-is_destination
-returns-then-is_destination c =
-    let l = c.loop-r in
-    last_found c.args.store.now c.args.k (l.r - 1) l.invariant (eqb-true _ _ (sym c.if-is_destination.ensures))
 
 pub returns : goal.returns
 returns c =

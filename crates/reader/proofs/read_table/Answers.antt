@@ -1,6 +1,6 @@
 use native.Mathlib.Omega.{arith}
 use lib.Seq.{get_or-set_same}
-use Rattle.reader.proofs.Turns.{start, places, turn-refused, turn-tail, turn-ended, passed-room, further, passed-places, turn-passed}
+use Rattle.reader.proofs.Turns.{start, turn-refused, turn-tail, turn-ended, passed-room, further, passed-places, turn-passed}
 use Rattle.reader.proofs.read_table.Goals as goal
 
 pub loop-r-init : goal.loop-r-init
@@ -8,11 +8,6 @@ loop-r-init c =
     let a = c.args in
     start a.s.now _ c.blank-t.result c.blank-t.ensures
     (get_or-set_same a.store.now.starts 0 0 0 (omega (arith, a.store.now.sized.starts_sized)))
-
-pub read_record-found-requires : goal.read_record-found-requires
-read_record-found-requires c = let l = c.loop-r in
-    let s = c.args.s.now in
-    (places s l.store l.t l.at l.rows l.invariant).arrays
 
 pub returns-in-Refused : goal.returns-in-Refused
 returns-in-Refused c =
