@@ -115,7 +115,7 @@ fn partner_or_destination(store: &Store, rows: LoopRows) -> Option<usize>
 }
 
 // The offsets with one row more: a destination's sets that of its array.
-#[tactic(auto, unfolding(crate::specs::Rows::with_offset))]
+#[tactic(auto, using(reader::specs::StoreLaws::array_small), unfolding(crate::specs::Rows::with_offset))]
 fn put_offset(store: &Store, row: usize, offsets: &mut [Option<u32>; 16])
     requires { row < 576 }
     ensures { offsets.new ≡ with_offset store.now row offsets.old }
@@ -140,7 +140,7 @@ fn stored_offsets(store: &Store, from: usize, past: usize) -> [Option<u32>; 16]
 }
 
 // Row `row` is a reference to an array that is stored, at another offset than that.
-#[tactic(auto, unfolding(crate::specs::Rows::differs))]
+#[tactic(auto, using(reader::specs::StoreLaws::array_small), unfolding(crate::specs::Rows::differs))]
 fn row_differs(store: &Store, offsets: &[Option<u32>; 16], row: usize) -> bool
     requires { row < 576 }
     ensures { result ≡ differs store.now offsets.now row }
