@@ -21,7 +21,7 @@ use Rattle.bodies.specs.declared.Waiting.{Waiting}
 use Rattle.std.specs.Prelude.{Option, None, Some}
 use Rattle.bodies.specs.Stack.{tops, waiting, Holds}
 use Rattle.bodies.specs.Workable.{Based, Element, ReadsWithin, Ready, next}
-use Rattle.records.specs.declared.storage.RowKind.TheVariants as row
+use Rattle.records.specs.declared.table_rows.RowKind.TheVariants as row
 use Rattle.bodies.specs.Stopped.{Stepped, Opens, Stopped}
 
 -- WHICH ITEM IT IS
