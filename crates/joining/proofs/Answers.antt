@@ -29,7 +29,7 @@ use Rattle.joins.proofs.Copied.{bytes-length, bytes-joined}
 use Rattle.joining.proofs.Walks.{copied-both}
 
 -- an accepted table is longer than its arrays' records
-long : (s c : List ℕ) → table s ≡ accepted (table_in c) → 5 * length (table_in c).lengths < length s
+long : (s : List ℕ) (c : Store) → table s ≡ accepted (table_in c) → 5 * length (table_in c).lengths < length s
 long s c e = accepted-long s (table_in c) (accepted-parallel s (table_in c) e).0
 
 -- WRITING
