@@ -48,6 +48,7 @@ pub enum Part {
 }
 
 // How many lines `count` indices have, the last one perhaps not full.
+#[tactic(auto, unfolding(crate::specs::Blocks::lines))]
 fn lines_of(count: u32, line: u32) -> u32
     requires { (0 < line) × (count + line < 2 ^ 32) }
     ensures { result ≡ lines count line }
@@ -94,6 +95,7 @@ impl Axis {
     }
 
     // The part of loop k, whose bounds are `own`, that block b has, whose indices are `blk`. The last block peels nothing.
+    #[tactic(auto, unfolding(crate::specs::Parts::fused_part, crate::specs::Parts::peeled_part))]
     pub fn part(&self, part: Part, own: Range, blk: Range, b: u32, k: usize) -> Range
         requires block { b < self.now.blocks }
         requires a_loop { k < 16 }

@@ -44,6 +44,11 @@ module _ {old : Writer} {m : ℕ} {f : ℕ → List ℕ} {n : ℕ} where
   lines_next {k} inv l p =
       rw (add-one k) (record { within = l; puts = puts-most (m * suc k) (omega (arith, mul-suc m k)) (puts_then inv.puts p) })
 
+  pub lines_end : (most : ℕ) {k : ℕ} {new : Writer} → m * n ≤ most → Lines old m f n k new → n ≤ k → Puts old (each n f) most new
+  lines_end most {k} h inv l =
+      let e : k ≡ n = omega (arith, inv.within) in
+      puts-most most h (rw e at inv.puts)
+
 -- THE LINES ARE THE LISTING'S
 module _ (a : Axis) (before after : ℕ) where
   -- of n loops, with the ranges f n in phase n

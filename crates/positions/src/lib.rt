@@ -138,6 +138,7 @@ impl Columns<'_> {
     }
 
     // What loop k adds to the count below t.
+    #[tactic(auto, unfolding(lists::specs::Below::weighted))]
     fn weighted_at(&self, t: usize, k: usize) -> usize
         requires { k < loops_in self.now }
         ensures { (result ≡ weighted_in self.now t k) × (result ≤ 2 ^ 48) }

@@ -88,8 +88,8 @@ fn run_planned(a: Axis, order: &[u8], store: &Store, memory: &mut [f64]) -> Resu
     requires { Laid a store.now }
     ensures { (s : List ℕ) (w : Settings) → planned s w ≡ accepted (planned_in a store.now) → Runs s w order.now memory.old result memory.new }
 {
-    let bases = iterations::bases_of(store).firsts;
-    if memory.len() != bases[16] as usize {
+    let bases = iterations::bases_of(store);
+    if memory.len() != bases.total() {
         return Err(Refusal::met(Ground::Memory, 0));
     }
     let mut ends = [0u32; ENDS];
@@ -105,7 +105,7 @@ fn run_planned(a: Axis, order: &[u8], store: &Store, memory: &mut [f64]) -> Resu
         barriers: &barriers,
         lists: &lists[..],
         store,
-        bases: &bases,
+        bases: &bases.firsts,
     };
     Ok(run_row(order, &layout, memory))
 }

@@ -1,11 +1,10 @@
 -- One offset for each array that is stored: where every reference to it has that one, no two references collide.
-use Prim.Native.Nat.{ℕ, suc, ◌+◌, ◌-◌, ◌≤◌, ◌<◌}
+use Prim.Native.Nat.{ℕ, ◌+◌, ◌-◌, ◌≤◌, ◌<◌}
 use native.Mathlib.Omega.{arith}
 use native.Mathlib.Decide.{ℕ_discrete}
-use native.Mathlib.Numerals.{add-one}
 use mathlib.Core.Path.{◌≡◌, refl, sym, ap, subst, ◌∙◌}
 use mathlib.Core.Logic.{◌⊎◌, inl, inr, ⊎_elim}
-use mathlib.Core.Bool.{Bool, true, false, not, ◌||◌, false≢true}
+use mathlib.Core.Bool.{false, not, false≢true}
 use mathlib.Core.List.{List}
 use mathlib.Core.List.{Memᴰ as Mem}
 use lib.Dec.{eqb, ltb}
@@ -109,27 +108,6 @@ module _ (c : Store) where
             same : Dec (o ≡ value_at c i) → (not (eqb o (value_at c i)) && ltb (kind_at c i) 2) ≡ false → o ≡ value_at c i
             same (yes y) z = y
             same (no y) z = absurd (false≢true (sym z ∙ rw (ne_eqb o (value_at c i) y, lt-ltb (kind_at c i) 2 k)))
-
-  -- THE TEST OF ROWS, those before `row` passed over
-  module _ (os : List (Option ℕ)) (from past : ℕ) where
-    abbrev pub Agreeing : ℕ → Type 0
-    Agreeing row = (from ≤ row) × (row ≤ past) × (some_from (differs c os) from (past - from) ≡ some_from (differs c os) row (past - row))
-
-    module _ (row : ℕ) (w : Agreeing row) where
-      module _ (h : row < past) where
-        next : some_from (differs c os) row (past - row) ≡ (differs c os row || some_from (differs c os) (suc row) (past - suc row))
-        unfolding some_from
-        next = let e : past - row ≡ suc (past - suc row) = omega arith in ap (some_from (differs c os) row) e
-
-        pub agreeing-next : false ≡ differs c os row → Agreeing (row + 1)
-        agreeing-next e = rw (add-one row) (omega (arith, w.0), h, w.2 ∙ next ∙ ap (λ (b : Bool). b || some_from (differs c os) (suc row) (past - suc row)) (sym e))
-
-        pub agreeing-found : true ≡ differs c os row → true ≡ some_from (differs c os) from (past - from)
-        agreeing-found e = sym (w.2 ∙ next ∙ ap (λ (b : Bool). b || some_from (differs c os) (suc row) (past - suc row)) (sym e))
-
-      pub agreeing-end : past ≤ row → false ≡ some_from (differs c os) from (past - from)
-      unfolding some_from
-      agreeing-end h = let e : past - row ≡ 0 = omega arith in sym (w.2 ∙ ap (some_from (differs c os) row) e)
 
   -- WHERE NONE DIFFERS, no two collide
   module _ (f l from past : ℕ) (os : List (Option ℕ)) (w : StoredAt c from past os) (none : false ≡ some_from (differs c os) from (past - from)) where

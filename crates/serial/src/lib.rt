@@ -156,12 +156,7 @@ fn some_differs(store: &Store, offsets: &[Option<u32>; 16], from: usize, past: u
     requires { (from ≤ past) × (past ≤ 576) }
     ensures { result ≡ some_from (differs store.now offsets.now) from (past - from) }
 {
-    for row in from..past {
-        if row_differs(store, offsets, row) {
-            return true;
-        }
-    }
-    false
+    (from..past).any(|row| row_differs(store, offsets, row))
 }
 
 // The first two references of loop k that meet in two different iterations, one of them storing: their numbers among the loop's references, which are

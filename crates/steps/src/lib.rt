@@ -113,8 +113,8 @@ impl Counts {
         requires { Laid a store.now × (b < a.blocks) }
         ensures { Leaves (stepped_by b self.done memory.old (remembered elements (length memory.old) (accepted (planned_in a store.now)))) result.counts.done memory.new result.report }
     {
-        let bases = iterations::bases_of(store).firsts;
-        if memory.len() != bases[16] as usize {
+        let bases = iterations::bases_of(store);
+        if memory.len() != bases.total() {
             return self.refused(Refusal::met(Ground::Memory, 0));
         }
         let mut ends = [0u32; ENDS];
@@ -133,7 +133,7 @@ impl Counts {
             barriers: &barriers,
             lists: &lists[..],
             store,
-            bases: &bases,
+            bases: &bases.firsts,
         };
         self.step_laid(&layout, b, 0, memory)
     }

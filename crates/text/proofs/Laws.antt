@@ -47,6 +47,9 @@ module _ {old : Writer} (x : ℕ) where
         record { same_reference = q.same_reference; put = record { bytes = q.put.bytes; place = q.put.place; few = length-decimal 19 x (omega arith) } }
 
 -- A LINE, field by field
+pub field_put : {old mid new : Writer} (x : ℕ) → Puts old (32 ∷ []) 1 mid → Puts mid (decimal x) 20 new → Puts old (field x) 21 new
+field_put x p q = puts_then p q
+
 module _ (old : Writer) (w xs : List ℕ) where
   -- after a line's word and i of its fields, of which `text` is what was put
   pub record LineInv (i : ℕ) (new : Writer) : Type 0 where

@@ -36,8 +36,7 @@ pub extern "C" fn vempaldi_version() -> u32
 pub extern "C" fn vempaldi_check(table: &[u8], answer: &mut [u64; 4])
     ensures { answer.new ≡ answered (refusal_of (accepts table.now)) answer.old }
 {
-    let r = serial::check(table);
-    write_answer(answer, r);
+    write_answer(answer, serial::check(table));
 }
 
 // Joins two tables into the lent bytes; answers how many bytes were written, 0 where it refuses.
@@ -52,8 +51,7 @@ pub extern "C" fn vempaldi_join(
     ensures value { result ≡ count_of (joining left.now right.now (length out.old)) }
     ensures out_after { out.new ≡ final (joining left.now right.now (length out.old)) out.old }
 {
-    let o = joining::join(left, right, out);
-    tell_outcome(answer, o)
+    tell_outcome(answer, joining::join(left, right, out))
 }
 
 // Facts of a table, four bytes each; answers how many bytes were written, 0 where it refuses.
@@ -63,8 +61,7 @@ pub extern "C" fn vempaldi_facts(table: &[u8], out: &mut [u8], answer: &mut [u64
     ensures value { result ≡ count_of (facts_given table.now (length out.old)) }
     ensures out_after { out.new ≡ final (facts_given table.now (length out.old)) out.old }
 {
-    let o = facts::facts(table, out);
-    tell_outcome(answer, o)
+    tell_outcome(answer, facts::facts(table, out))
 }
 
 // Shift and peel of each loop, four bytes each; answers how many bytes were written, 0 where it refuses.
@@ -78,8 +75,7 @@ pub extern "C" fn vempaldi_shifts_and_peels(
     ensures value { result ≡ count_of (amounts table.now (length out.old)) }
     ensures out_after { out.new ≡ final (amounts table.now (length out.old)) out.old }
 {
-    let o = entries::shifts_and_peels(table, out);
-    tell_outcome(answer, o)
+    tell_outcome(answer, entries::shifts_and_peels(table, out))
 }
 
 // The listing of a plan; answers how many bytes were written, 0 where it refuses.
@@ -94,8 +90,7 @@ pub extern "C" fn vempaldi_listing(
     ensures value { result ≡ count_of (listing_given table.now settings (length out.old)) }
     ensures out_after { out.new ≡ final (listing_given table.now settings (length out.old)) out.old }
 {
-    let o = printing::print_listing(table, settings, out);
-    tell_outcome(answer, o)
+    tell_outcome(answer, printing::print_listing(table, settings, out))
 }
 
 // The threshold, four bytes; answers how many bytes were written, 0 where it refuses.
@@ -105,8 +100,7 @@ pub extern "C" fn vempaldi_threshold(table: &[u8], out: &mut [u8], answer: &mut 
     ensures value { result ≡ count_of (thresholds table.now (length out.old)) }
     ensures out_after { out.new ≡ final (thresholds table.now (length out.old)) out.old }
 {
-    let o = entries::threshold(table, out);
-    tell_outcome(answer, o)
+    tell_outcome(answer, entries::threshold(table, out))
 }
 
 // Whether a plan is accepted, the one by hand or the table's own, or the refusal; answers its threshold, 0 where it refuses.
@@ -119,9 +113,7 @@ pub extern "C" fn vempaldi_check_plan(
     ensures answer_after { answer.new ≡ answered (refusal_of (planned table.now settings)) answer.old }
     ensures value { result ≡ threshold_in (planned table.now settings) }
 {
-    let v = plans::check_plan(table, settings);
-    write_answer(answer, v.refusal);
-    v.threshold
+    tell_outcome(answer, plans::check_plan(table, settings))
 }
 
 // Sweeps before and after fusion, four bytes each; answers how many bytes were written, 0 where it refuses.
@@ -131,8 +123,7 @@ pub extern "C" fn vempaldi_sweeps(table: &[u8], out: &mut [u8], answer: &mut [u6
     ensures value { result ≡ count_of (sweeps_given table.now (length out.old)) }
     ensures out_after { out.new ≡ final (sweeps_given table.now (length out.old)) out.old }
 {
-    let o = entries::sweeps(table, out);
-    tell_outcome(answer, o)
+    tell_outcome(answer, entries::sweeps(table, out))
 }
 
 // First and last index of each block, four bytes each; answers how many bytes were written, 0 where it refuses.
@@ -147,8 +138,7 @@ pub extern "C" fn vempaldi_blocks(
     ensures value { result ≡ count_of (blocks_given table.now settings (length out.old)) }
     ensures out_after { out.new ≡ final (blocks_given table.now settings (length out.old)) out.old }
 {
-    let o = entries::blocks(table, settings, out);
-    tell_outcome(answer, o)
+    tell_outcome(answer, entries::blocks(table, settings, out))
 }
 
 // Loop and iteration of each in a processor's fused list, four bytes each; answers how many bytes were written, 0 where it refuses.
@@ -164,8 +154,7 @@ pub extern "C" fn vempaldi_fused_list(
     ensures value { result ≡ count_of (fused_given table.now settings processor (length out.old)) }
     ensures out_after { out.new ≡ final (fused_given table.now settings processor (length out.old)) out.old }
 {
-    let o = entries::list(table, 0, settings, processor, out);
-    tell_outcome(answer, o)
+    tell_outcome(answer, entries::list(table, 0, settings, processor, out))
 }
 
 // Loop and iteration of each in a processor's peeled list, four bytes each; answers how many bytes were written, 0 where it refuses.
@@ -181,8 +170,7 @@ pub extern "C" fn vempaldi_peeled_list(
     ensures value { result ≡ count_of (peeled_given table.now settings processor (length out.old)) }
     ensures out_after { out.new ≡ final (peeled_given table.now settings processor (length out.old)) out.old }
 {
-    let o = entries::list(table, 1, settings, processor, out);
-    tell_outcome(answer, o)
+    tell_outcome(answer, entries::list(table, 1, settings, processor, out))
 }
 
 // Of each loop the range that a processor runs before the barrier, four bytes each number; answers how many bytes were written, 0 where it refuses.
@@ -198,8 +186,7 @@ pub extern "C" fn vempaldi_fused_ranges(
     ensures value { result ≡ count_of (fused_ranges_given table.now settings processor (length out.old)) }
     ensures out_after { out.new ≡ final (fused_ranges_given table.now settings processor (length out.old)) out.old }
 {
-    let o = entries::ranges(table, 0, settings, processor, out);
-    tell_outcome(answer, o)
+    tell_outcome(answer, entries::ranges(table, 0, settings, processor, out))
 }
 
 // And past it.
@@ -215,8 +202,7 @@ pub extern "C" fn vempaldi_peeled_ranges(
     ensures value { result ≡ count_of (peeled_ranges_given table.now settings processor (length out.old)) }
     ensures out_after { out.new ≡ final (peeled_ranges_given table.now settings processor (length out.old)) out.old }
 {
-    let o = entries::ranges(table, 1, settings, processor, out);
-    tell_outcome(answer, o)
+    tell_outcome(answer, entries::ranges(table, 1, settings, processor, out))
 }
 
 // The plain run of a table in the lent memory. A refused run leaves the memory as found.
@@ -225,8 +211,7 @@ pub extern "C" fn vempaldi_plain_run(table: &[u8], memory: &mut [f64], answer: &
     ensures answer_after { answer.new ≡ answered (refusal_of (plain_answer table.now (length memory.old))) answer.old }
     ensures memory_after { memory.new ≡ plain_memory table.now memory.old }
 {
-    let r = plain::plain_run(table, memory);
-    write_answer(answer, r);
+    write_answer(answer, plain::plain_run(table, memory));
 }
 
 // One step of a processor: the counts and the memory are as the step before left them, first all counts 0.
@@ -246,14 +231,11 @@ pub extern "C" fn vempaldi_step(
     ensures answer_after { answer.new ≡ answered (refusal_in (report_at table.now settings processor counts.old memory.old)) answer.old }
 {
     let done = *counts;
-    let state = Counts { done };
-    let r = state.step(table, settings, processor, memory);
-    let c = r.counts;
-    let left = c.done;
+    let stepped = Counts { done }.step(table, settings, processor, memory);
+    let left = stepped.counts.done;
     *counts = left;
-    let told = r.report;
-    tell_report(report, told);
-    write_answer(answer, refusal_in(told));
+    tell_report(report, stepped.report);
+    write_answer(answer, refusal_in(stepped.report));
 }
 
 // A run in a caller's order, whose bytes name processors; answers how many of its calls were idle. A refused run leaves the memory as found.
@@ -269,7 +251,5 @@ pub extern "C" fn vempaldi_run(
     ensures memory_after { memory.new ≡ run_memory table.now settings order.now memory.old }
     ensures value { result ≡ run_idle table.now settings order.now memory.old }
 {
-    let v = running::run(table, settings, order, memory);
-    write_answer(answer, v.refusal);
-    v.idle as u64
+    tell_outcome(answer, running::run(table, settings, order, memory))
 }

@@ -3,9 +3,6 @@ use Rattle.ranges.specs.Listed.{few-blocks}
 use Rattle.layouts.proofs.Laws.{standing-next}
 use Rattle.layouts.proofs.put_all_lists.Goals as goal
 
-pub overflow_mul-b : goal.overflow_mul-b
-overflow_mul-b c = omega (arith, few-blocks c.args.a c.args.store.now c.requires.0)
-
 pub put_lists-requires : goal.put_lists-requires
 put_lists-requires c =
     let few = few-blocks c.args.a c.args.store.now c.requires.0 in

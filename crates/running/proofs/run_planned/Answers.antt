@@ -9,16 +9,16 @@ use Rattle.steps.specs.Laid.{loaded-in}
 use Rattle.running.proofs.Laws.{calling-in, calling-some, runs-unlike, runs-made}
 use Rattle.running.proofs.run_planned.Goals as goal
 
-pub returns-then-memory-bases : goal.returns-then-memory-bases
-returns-then-memory-bases c =
+pub returns-then-memory-total : goal.returns-then-memory-total
+returns-then-memory-total c =
     let a = c.args in
     let p = c.requires in
     let st = a.store.now in
-    let bs = c.bases_of in
+    let bs = c.bases_of-bases in
     let ld = loaded-in p bs.result.firsts bs.ensures in
-    let n = loaded-total ld _ refl in
+    let n = loaded-total ld _ c.total.ensures in
     rw c.met.ensures
-    (λ s w e. runs-unlike s w a.order.now a.memory.now (planned_in a.a st) e (λ z. c.if-memory-bases.true (z ∙ sym n)))
+    (λ s w e. runs-unlike s w a.order.now a.memory.now (planned_in a.a st) e (λ z. c.if-memory-total.true (z ∙ sym n)))
 
 pub put_ends-requires : goal.put_ends-requires
 put_ends-requires c = (c.requires, refl, zeros-small 192)
@@ -28,13 +28,13 @@ run_row-requires c =
     let a = c.args in
     let p = c.requires in
     let st = a.store.now in
-    let bs = c.bases_of in
+    let bs = c.bases_of-bases in
     let ld = loaded-in p bs.result.firsts bs.ensures in
-    let n = loaded-total ld _ refl in
+    let n = loaded-total ld _ c.total.ensures in
     let l = c.put_ends.ensures in
     let y = c.put_all_lists.ensures in (
       calling-some a.a st p _ _ bs.result.firsts ld l.0 l.1 (omega (arith, y.long)) y.each,
-      c.if-memory-bases.false ∙ n,
+      c.if-memory-total.false ∙ n,
     )
 
 pub returns : goal.returns
@@ -42,12 +42,12 @@ returns c =
     let a = c.args in
     let p = c.requires in
     let st = a.store.now in
-    let bs = c.bases_of in
+    let bs = c.bases_of-bases in
     let ld = loaded-in p bs.result.firsts bs.ensures in
-    let n = loaded-total ld _ refl in
+    let n = loaded-total ld _ c.total.ensures in
     let l = c.put_ends.ensures in
     let y = c.put_all_lists.ensures in
     let x = c.run_row in
-    λ s w e. runs-made s w a.order.now a.memory.now (planned_in a.a st) e (c.if-memory-bases.false ∙ n) _ x.result
+    λ s w e. runs-made s w a.order.now a.memory.now (planned_in a.a st) e (c.if-memory-total.false ∙ n) _ x.result
     (x.ensures (work_in a.a st) (step s w)
     (calling-in a.a st p _ _ bs.result.firsts ld l.0 l.1 (omega (arith, y.long)) y.each s w e))

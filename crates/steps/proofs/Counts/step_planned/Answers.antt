@@ -9,13 +9,13 @@ use Rattle.steps.specs.Laid.{loaded-in, lent-in}
 use Rattle.steps.proofs.Laws.{leaves-unlike, leaves-wrong, leaves-called}
 use Rattle.steps.proofs.Counts.step_planned.Goals as goal
 
-pub returns-then-memory-bases : goal.returns-then-memory-bases
-returns-then-memory-bases c =
+pub returns-then-memory-total : goal.returns-then-memory-total
+returns-then-memory-total c =
     let a = c.args in
     let st = a.store.now in
-    let n = loaded-total (loaded-in c.requires.0 c.bases_of.result.firsts c.bases_of.ensures) _ refl in
+    let n = loaded-total (loaded-in c.requires.0 c.bases_of-bases.result.firsts c.bases_of-bases.ensures) _ c.total.ensures in
     rw (c.refused.ensures, c.met.ensures)
-    (leaves-unlike a.a st a.b a.self.done a.memory.now (λ e. c.if-memory-bases.true (e ∙ sym n)))
+    (leaves-unlike a.a st a.b a.self.done a.memory.now (λ e. c.if-memory-total.true (e ∙ sym n)))
 
 pub put_ends-requires : goal.put_ends-requires
 put_ends-requires c = (c.requires.0, refl, zeros-small 192)
@@ -24,9 +24,9 @@ pub returns-then-wrong_state : goal.returns-then-wrong_state
 returns-then-wrong_state c =
     let a = c.args in
     let st = a.store.now in
-    let n = loaded-total (loaded-in c.requires.0 c.bases_of.result.firsts c.bases_of.ensures) _ refl in
+    let n = loaded-total (loaded-in c.requires.0 c.bases_of-bases.result.firsts c.bases_of-bases.ensures) _ c.total.ensures in
     rw (c.refused-then-wrong_state.ensures, c.met-then-wrong_state.ensures)
-    (leaves-wrong a.a st a.b a.self.done a.memory.now (c.if-memory-bases.false ∙ n) _
+    (leaves-wrong a.a st a.b a.self.done a.memory.now (c.if-memory-total.false ∙ n) _
     c.put_ends.ensures.0 c.wrong_state.result c.wrong_state.ensures c.if-wrong_state.true)
 
 pub step_laid-requires : goal.step_laid-requires
@@ -34,12 +34,12 @@ step_laid-requires c =
     let a = c.args in
     let p = c.requires in
     let st = a.store.now in
-    let ld = loaded-in p.0 c.bases_of.result.firsts c.bases_of.ensures in
+    let ld = loaded-in p.0 c.bases_of-bases.result.firsts c.bases_of-bases.ensures in
     let l = c.put_ends.ensures in
     let y = c.put_lists.ensures in
     let room : 0 + 96 ≤ length c.put_lists.new.lists = omega (arith, y.1.long) in (
       (work_in a.a st, lent-in a.a st p.0 _ l.0 l.1 a.b _ 0 _ (λ i. (room, y.0)) ld),
-      c.if-memory-bases.false ∙ loaded-total ld _ refl,
+      c.if-memory-total.false ∙ loaded-total ld _ c.total.ensures,
     )
 
 pub returns : goal.returns
@@ -47,10 +47,10 @@ returns c =
     let a = c.args in
     let p = c.requires in
     let st = a.store.now in
-    let ld = loaded-in p.0 c.bases_of.result.firsts c.bases_of.ensures in
+    let ld = loaded-in p.0 c.bases_of-bases.result.firsts c.bases_of-bases.ensures in
     let l = c.put_ends.ensures in
     let y = c.put_lists.ensures in
     let room : 0 + 96 ≤ length c.put_lists.new.lists = omega (arith, y.1.long) in
-    leaves-called a.a st a.b a.self.done a.memory.now (c.if-memory-bases.false ∙ loaded-total ld _ refl) _ l.0 c.wrong_state.result
+    leaves-called a.a st a.b a.self.done a.memory.now (c.if-memory-total.false ∙ loaded-total ld _ c.total.ensures) _ l.0 c.wrong_state.result
     c.wrong_state.ensures c.if-wrong_state.false p.1 _ _ _
     (c.step_laid.ensures (work_in a.a st) (lent-in a.a st p.0 _ l.0 l.1 a.b _ 0 _ (λ i. (room, y.0)) ld))

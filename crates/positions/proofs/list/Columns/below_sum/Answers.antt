@@ -1,12 +1,7 @@
 use Rattle.std.proofs.Common.{◌∙◌, arith}
-use Rattle.blocks.specs.SumLaws.{total-next}
 use Rattle.positions.specs.Search.{below_all}
-use Rattle.positions.specs.Code.{loops_in, range_in, shift_in, weight_in, weighted_in}
+use Rattle.positions.specs.Code.{loops_in, range_in, shift_in, weight_in}
 use Rattle.positions.proofs.list.Columns.below_sum.Goals as goal
-
-pub loop-k-preserved : goal.loop-k-preserved
-loop-k-preserved c =
-    (omega arith, total-next _ (weighted_in c.args.self.now c.args.t) _ _ c.loop-k.invariant.1 c.weighted_at-sum.ensures.0)
 
 pub returns : goal.returns
 returns c =

@@ -1,4 +1,4 @@
-use Rattle.std.proofs.Common.{◌≡◌, suc, sym, arith}
+use Rattle.std.proofs.Common.{sym, arith}
 use Rattle.lists.proofs.BelowLaws.{below-zero, below-first}
 use Rattle.positions.specs.Code.{loops_in, range_in, shift_in, weight_in}
 use Rattle.positions.proofs.list.Columns.find.Goals as goal
@@ -16,9 +16,3 @@ loop-s-init c =
       },
       omega arith,
     )
-
-pub returns : goal.returns
-returns c =
-    let l = c.loop-s in
-    let e : l.s.high ≡ suc l.s.low = omega arith in
-    record { inside = omega arith; low = omega arith; high = rw e at l.invariant.0.after; before = omega arith }

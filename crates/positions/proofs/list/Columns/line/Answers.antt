@@ -3,10 +3,6 @@ use Rattle.positions.specs.LineLaws.{line-next, line-end}
 use Rattle.positions.specs.Code.{loops_in, range_in, shift_in, weight_in}
 use Rattle.positions.proofs.list.Columns.line.Goals as goal
 
-pub with-l-requires : goal.with-l-requires
-with-l-requires c =
-    let s = c.args.self.now.sized in (s.small c.loop-k.k, omega (arith, s.loops), omega (arith, s.loops))
-
 pub loop-k-preserved : goal.loop-k-preserved
 loop-k-preserved c =
     let s = c.args.self.now in
