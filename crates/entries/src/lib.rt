@@ -27,7 +27,7 @@ use blocks::{Axis, Range};
 use numbers::{NUMBER, PAIR};
 use plans::Settings;
 use ranges::PHASE;
-use records::{STORE, Store};
+use records::Store;
 use refusals::Refusal;
 use text::Writer;
 
@@ -60,7 +60,7 @@ fn give_amounts(out: &mut [u8], store: &Store) -> Result<usize, Refusal>
 pub fn shifts_and_peels(s: &[u8], out: &mut [u8]) -> Result<usize, Refusal>
     ensures { Gives (amounts s.now (length out.old)) out.old out.new result }
 {
-    let mut store = [0u32; STORE];
+    let mut store = Store::new();
     serial::read_through(s, &mut store)?;
     give_amounts(out, &store)
 }
@@ -84,7 +84,7 @@ fn give_threshold(out: &mut [u8], store: &Store) -> Result<usize, Refusal>
 pub fn threshold(s: &[u8], out: &mut [u8]) -> Result<usize, Refusal>
     ensures { Gives (thresholds s.now (length out.old)) out.old out.new result }
 {
-    let mut store = [0u32; STORE];
+    let mut store = Store::new();
     serial::read_through(s, &mut store)?;
     give_threshold(out, &store)
 }
@@ -107,7 +107,7 @@ fn give_sweeps(out: &mut [u8], store: &Store) -> Result<usize, Refusal>
 pub fn sweeps(s: &[u8], out: &mut [u8]) -> Result<usize, Refusal>
     ensures { Gives (sweeps_given s.now (length out.old)) out.old out.new result }
 {
-    let mut store = [0u32; STORE];
+    let mut store = Store::new();
     serial::read_through(s, &mut store)?;
     give_sweeps(out, &store)
 }
@@ -141,7 +141,7 @@ fn give_blocks(out: &mut [u8], a: &Axis) -> Result<usize, Refusal>
 pub fn blocks(s: &[u8], w: Settings, out: &mut [u8]) -> Result<usize, Refusal>
     ensures { Gives (blocks_given s.now w (length out.old)) out.old out.new result }
 {
-    let mut store = [0u32; STORE];
+    let mut store = Store::new();
     let axis = plans::plan_table(s, w, &mut store)?;
     give_blocks(out, &axis)
 }
@@ -176,7 +176,7 @@ fn give_list(out: &mut [u8], phase: u32, a: &Axis, b: u32, store: &Store) -> Res
 pub fn list(s: &[u8], phase: u32, w: Settings, b: u32, out: &mut [u8]) -> Result<usize, Refusal>
     ensures { Gives (list_given phase s.now w b (length out.old)) out.old out.new result }
 {
-    let mut store = [0u32; STORE];
+    let mut store = Store::new();
     let axis = plans::plan_for(s, w, b, &mut store)?;
     give_list(out, phase, &axis, b, &store)
 }
@@ -231,7 +231,7 @@ fn give_ranges(
 pub fn ranges(s: &[u8], phase: u32, w: Settings, b: u32, out: &mut [u8]) -> Result<usize, Refusal>
     ensures { Gives (ranges_given phase s.now w b (length out.old)) out.old out.new result }
 {
-    let mut store = [0u32; STORE];
+    let mut store = Store::new();
     let axis = plans::plan_for(s, w, b, &mut store)?;
     give_ranges(out, phase, &axis, b, &store)
 }

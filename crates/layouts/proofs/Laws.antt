@@ -6,6 +6,7 @@ use mathlib.Core.Path.{◌≡◌, ◌∙◌}
 use mathlib.Core.Logic.{inl}
 use mathlib.Core.List.{List}
 use lib.ListN.{length, set, length-set}
+use Rattle.records.specs.declared.storage.Store.{Store}
 use Rattle.reader.specs.Store.{table_in}
 use Rattle.blocks.specs.declared.Axis.{Axis}
 use Rattle.blocks.specs.Sums.{column}
@@ -19,7 +20,7 @@ use Rattle.layouts.specs.Layout.{work_in, Stands, Standing, with_ends, stands-ap
 use Rattle.layouts.specs.Ends.{ends-here, ends-other, ends-small}
 
 -- ONE PROCESSOR
-pub ends-put : (a : Axis) (c : List ℕ) (b : ℕ) (xs : List ℕ) (own x y s : ℕ) → own ≡ b → x ≡ length (work (table_in c) (fusion_in a) 0 b)
+pub ends-put : (a : Axis) (c : Store) (b : ℕ) (xs : List ℕ) (own x y s : ℕ) → own ≡ b → x ≡ length (work (table_in c) (fusion_in a) 0 b)
     → y ≡ length (work (table_in c) (fusion_in a) 1 b) → s ≡ x + y → set (set xs own x) (64 + own) s ≡ with_ends a c b xs
 ends-put a c b xs own x y s e f g q =
     let one : x ≡ before (work_in a c) 1 b = omega arith in
@@ -27,13 +28,13 @@ ends-put a c b xs own x y s e f g q =
     rw (e, one, two)
 
 -- ALL: it is written where the phases of the first b processors end
-pub record Ending (a : Axis) (c : List ℕ) (ends : List ℕ) (b : ℕ) : Type 0 where
+pub record Ending (a : Axis) (c : Store) (ends : List ℕ) (b : ℕ) : Type 0 where
   pub below : b ≤ a.blocks
   pub size : length ends ≡ 192
   pub small : EndsFit ends
   pub are : (n d : ℕ) → n < 2 → d < b → column ends (64 * n + d) ≡ before (work_in a c) (suc n) d
 
-module _ (a : Axis) (c : List ℕ) (h : Laid a c) where
+module _ (a : Axis) (c : Store) (h : Laid a c) where
   pub ending-none : (ends : List ℕ) → length ends ≡ 192 → EndsFit ends → Ending a c ends 0
   ending-none ends e s = record { below = omega arith; size = e; small = s; are = λ n d l i. absurd (omega arith) }
 

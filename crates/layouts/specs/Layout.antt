@@ -4,6 +4,7 @@ use Rattle.std.proofs.Common.{arith, ap, ◌∙◌, inl, inr}
 use mathlib.Core.List.{Memᴰ as Mem}
 use Rattle.model.specs.declared.Iteration.{Iteration}
 use Rattle.model.specs.Table.{Inside}
+use Rattle.records.specs.declared.storage.Store.{Store}
 use Rattle.reader.specs.Store.{loops_in, table_in}
 use Rattle.blocks.specs.declared.Axis.{Axis}
 use Rattle.blocks.specs.Sums.{column}
@@ -15,10 +16,10 @@ use Rattle.ranges.specs.Code.{range_of, list_of, RangesKept, Apart}
 use Rattle.ranges.specs.Listed.{few-loops, list-in, kept-apart, apart-twice}
 
 -- the work of the plan in an axis, of the table in a store
-abbrev pub work_in : Axis → List ℕ → Work Iteration
+abbrev pub work_in : Axis → Store → Work Iteration
 work_in a c = record { processors = a.blocks; phases = phases (table_in c) (fusion_in a); list = work (table_in c) (fusion_in a) }
 
-module _ (a : Axis) (c : List ℕ) where
+module _ (a : Axis) (c : Store) where
   -- processor b's lists stand from `at` on, phase after phase
   pub record Stands (xs : List ℕ) (at b : ℕ) : Type 0 where
     pub fused : RangesKept xs at (loops_in c) (range_of 0 a c b) (column a.shifts)

@@ -8,6 +8,7 @@ use lib.ListN.{length, get_or, set, length-set}
 use lib.Seq.{get_or-set_same, get_or-set_other}
 use Rattle.blocks.specs.declared.Axis.{Axis}
 use Rattle.blocks.specs.declared.Range.{Range}
+use Rattle.records.specs.declared.storage.Store.{Store}
 use Rattle.reader.specs.Store.{loops_in}
 use Rattle.plans.specs.Code.{Laid}
 use Rattle.blocks.specs.SumLaws.{total-next}
@@ -85,11 +86,11 @@ module _ (old xs : List ℕ) (at k : ℕ) (f : ℕ → Range) (s : ℕ → ℕ) 
         now j l (no y) place value here before = before (omega arith)
 
 -- THE SUM of the first k loops' indices
-pub record Summed (a : Axis) (c : List ℕ) (n b k sum : ℕ) : Type 0 where
+pub record Summed (a : Axis) (c : Store) (n b k sum : ℕ) : Type 0 where
   pub sum_is : sum ≡ indices_in k (range_of n a c b)
   pub small : sum ≤ k * 65791
 
-pub summed-next : (a : Axis) (c : List ℕ) (h : Laid a c) (n b k sum x : ℕ) (r : Range) → k < loops_in c → Summed a c n b k sum → r ≡ range_of n a c b k → x ≡ r.past - r.from
+pub summed-next : (a : Axis) (c : Store) (h : Laid a c) (n b k sum x : ℕ) (r : Range) → k < loops_in c → Summed a c n b k sum → r ≡ range_of n a c b k → x ≡ r.past - r.from
     → Summed a c n b (k + 1) (sum + x)
 summed-next a c h n b k sum x r l s e f =
     let w : x ≡ (range_of n a c b k).past - (range_of n a c b k).from = f ∙ ap (λ (z : Range). z.past - z.from) e in

@@ -2,6 +2,7 @@
 -- numbers give.
 use Rattle.std.specs.Prelude.{ℕ, zero, suc, ◌+◌, ◌≤◌, ◌<◌, ◌≡◌, List, length, get_or, take, drop}
 use Rattle.model.specs.declared.Iteration.{Iteration}
+use Rattle.records.specs.declared.storage.Store.{Store}
 use Rattle.reader.specs.Store.{first_at, last_at, table_in}
 use Rattle.blocks.specs.declared.Axis.{Axis}
 use Rattle.blocks.specs.declared.Part.{Part}
@@ -19,16 +20,16 @@ part_in zero = Fused
 part_in (suc n) = Peeled
 
 -- the part of loop k that a block has
-abbrev pub part_at : Part → Axis → List ℕ → Range → ℕ → ℕ → Range
+abbrev pub part_at : Part → Axis → Store → Range → ℕ → ℕ → Range
 part_at part a c blk b k =
     part_of part (record { from = first_at c k; past = suc (last_at c k) }) blk a.blocks b (column a.shifts k) (column a.peels k)
 
 -- in phase n, of block b
-abbrev pub range_of : ℕ → Axis → List ℕ → ℕ → ℕ → Range
+abbrev pub range_of : ℕ → Axis → Store → ℕ → ℕ → Range
 range_of n a c b k = part_at (part_in n) a c (block_in a b) b k
 
 -- block b's two lists have so many iterations
-pub record Measures (a : Axis) (c : List ℕ) (b : ℕ) (l : Lengths) : Type 0 where
+pub record Measures (a : Axis) (c : Store) (b : ℕ) (l : Lengths) : Type 0 where
   pub fused-is : l.fused ≡ length (work (table_in c) (fusion_in a) 0 b)
   pub peeled-is : l.peeled ≡ length (work (table_in c) (fusion_in a) 1 b)
 

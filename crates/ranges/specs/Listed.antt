@@ -8,6 +8,7 @@ use mathlib.Core.List.{Memᴰ as Mem}
 use Rattle.order.specs.Lists.{nth-mem}
 use Rattle.model.specs.Table.{count, first, last, iteration, Inside}
 use Rattle.model.specs.declared.Iteration.{Iteration}
+use Rattle.records.specs.declared.storage.Store.{Store}
 use Rattle.reader.specs.Store.{first_at, last_at, loops_in, table_in}
 use Rattle.reader.specs.Held.{count_held, first-held, last-held}
 use Rattle.reader.specs.Held.{few-loops as few-held}
@@ -29,7 +30,7 @@ use Rattle.positions.specs.Search.{Aligned}
 use Rattle.plans.specs.Code.{Laid}
 use Rattle.ranges.specs.Code.{part_in, range_of, cut, list_of, RangesKept, Apart}
 
-module _ (a : Axis) (c : List ℕ) (h : Laid a c) where
+module _ (a : Axis) (c : Store) (h : Laid a c) where
   -- WHAT THE CODE ASKS
   pub few-loops : loops_in c ≤ 16
   few-loops = few-held h.held
@@ -162,7 +163,7 @@ module _ (xs : List ℕ) (at l : ℕ) (few : l ≤ 16) (room : at + 48 ≤ lengt
         let e : at + 32 + k ≡ at + k + 32 = omega arith in
         cut_at xs (at + 32) l (omega arith) k i ∙ ap (λ (j : ℕ). get_or xs j 0) e ∙ kept.shift k i
 
-pub list-in : (a : Axis) (c : List ℕ) (h : Laid a c) (n b : ℕ) (xs : List ℕ) (at : ℕ) → RangesKept xs at (loops_in c) (range_of n a c b) (column a.shifts)
+pub list-in : (a : Axis) (c : Store) (h : Laid a c) (n b : ℕ) (xs : List ℕ) (at : ℕ) → RangesKept xs at (loops_in c) (range_of n a c b) (column a.shifts)
     → list_of xs at (loops_in c) n ≡ work (table_in c) (fusion_in a) n b
 list-in a c h n b xs at kept = go n (λ k l. rng k l ∙ range-in a c h n b k (omega (arith, loops-are a c h)))
   where

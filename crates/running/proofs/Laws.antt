@@ -9,6 +9,7 @@ use Rattle.std.specs.Prelude.{Ok, Err}
 use Rattle.refusals.specs.declared.Refusal.{Refusal}
 use Rattle.refusals.specs.Refusals.{met}
 use Rattle.refusals.specs.Answers.{accepted, refused}
+use Rattle.records.specs.declared.storage.Store.{Store}
 use Rattle.reader.specs.Store.{table_in}
 use Rattle.blocks.specs.declared.Axis.{Axis}
 use Rattle.iterations.specs.Memory.{element_total, remembered}
@@ -31,7 +32,7 @@ use Rattle.running.specs.Code.{Step, Calling, Rowed}
 use Rattle.running.specs.Runs.{Runs}
 
 -- WHAT THE CODE IS LENT, where the plan is laid out
-module _ (a : Axis) (c : List ℕ) (h : Laid a c) (es xs bs : List ℕ) (loaded : Loaded (table_in c) c bs) (ended : Ended (work_in a c) es)
+module _ (a : Axis) (c : Store) (h : Laid a c) (es xs bs : List ℕ) (loaded : Loaded (table_in c) c bs) (ended : Ended (work_in a c) es)
     (long : length es ≡ 192) (room : 6144 ≤ length xs) (stands : (b : ℕ) → b < a.blocks → Stands a c xs (96 * b) b) where
   calling-by : (step : Step) → ((b : ℕ) (cs : List ℕ) (m : List Float) → length m ≡ element_total (table_in c) → Reachable (work_in a c) cs
       → step b cs m ≡ called (work_in a c) (table_in c) b cs m) → Calling (work_in a c) step a.blocks es xs c bs

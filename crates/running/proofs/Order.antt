@@ -8,6 +8,7 @@ use lib.ListN.{length, get_or, drop, drop_of_length-le}
 use lib.Seq.{drop-cons}
 use lib.Ieee.{Float}
 use Rattle.model.specs.declared.Iteration.{Iteration}
+use Rattle.records.specs.declared.storage.Store.{Store}
 use Rattle.reader.specs.Store.{table_in}
 use Rattle.iterations.specs.Memory.{element_total}
 use Rattle.turns.specs.Turn.{Work}
@@ -22,7 +23,7 @@ use Rattle.running.specs.Idle.{idling}
 use Rattle.running.proofs.Calls.{idling-small, leaves-reachable, leaves-long, then-counts, then-memory, then-idle}
 
 -- what is left of it from byte k on gives, with what is done, what the whole gives from the first memory
-pub record Going (w : Work Iteration) (step : Step) (c order : List ℕ) (begun : List Float) (cs : List ℕ) (m : List Float) (n k : ℕ) : Type 0 where
+pub record Going (w : Work Iteration) (step : Step) (c : Store) (order : List ℕ) (begun : List Float) (cs : List ℕ) (m : List Float) (n k : ℕ) : Type 0 where
   pub few : n ≤ k
   pub reachable : Reachable w cs
   pub long : length m ≡ element_total (table_in c)
@@ -30,7 +31,7 @@ pub record Going (w : Work Iteration) (step : Step) (c order : List ℕ) (begun 
   pub memory-left : memory_after step (drop k order) cs m ≡ memory_after step order none_done begun
   pub idle-left : n + idle (reports step (drop k order) cs m) ≡ idle (reports step order none_done begun)
 
-module _ (w : Work Iteration) (step : Step) (c order : List ℕ) (begun : List Float) where
+module _ (w : Work Iteration) (step : Step) (c : Store) (order : List ℕ) (begun : List Float) where
   pub going_start : length begun ≡ element_total (table_in c) → Going w step c order begun none_done begun 0 0
   going_start l = record {
     few = omega arith;

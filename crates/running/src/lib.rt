@@ -20,7 +20,7 @@ use blocks::Axis;
 use layouts::{ALL_LISTS, LISTS};
 use plans::Settings;
 use ranges::PHASES;
-use records::{STORE, Store};
+use records::Store;
 use refusals::{Ground, Refusal};
 use stepping::Report;
 use steps::{Counts, Layout};
@@ -114,7 +114,7 @@ fn run_planned(a: Axis, order: &[u8], store: &Store, memory: &mut [f64]) -> Resu
 pub fn run(s: &[u8], w: Settings, order: &[u8], memory: &mut [f64]) -> Result<usize, Refusal>
     ensures { Runs s.now w order.now memory.old result memory.new }
 {
-    let mut store = [0u32; STORE];
+    let mut store = Store::new();
     let a = plans::plan_table(s, w, &mut store)?;
     run_planned(a, order, &store, memory)
 }

@@ -10,6 +10,7 @@ use lib.ListN.{length, get_or}
 use borrow.Author.Tests.{leb-true, lt-ltb, le-ltb}
 use Rattle.model.specs.declared.Iteration.{Iteration}
 use Rattle.model.specs.Table.{iteration}
+use Rattle.records.specs.declared.storage.Store.{Store}
 use Rattle.reader.specs.Store.{loops_in}
 use Rattle.blocks.specs.Sums.{column}
 use Rattle.turns.specs.Turn.{Work, before, closed, phase_of, next}
@@ -30,7 +31,7 @@ come-used es b done (suc m) = go (leb (before_by es (suc m) b) done) refl (come-
     go true e ih = leb-true (before_by es (suc m) b) done e
     go false e ih = ih
 
-module _ {w : Work Iteration} {P b : ℕ} {es xs : List ℕ} {at : ℕ} {c : List ℕ} (p : Phased w P es) (h : Listed w b xs at c) (below : b < P)
+module _ {w : Work Iteration} {P b : ℕ} {es xs : List ℕ} {at : ℕ} {c : Store} (p : Phased w P es) (h : Listed w b xs at c) (below : b < P)
     (cs : List ℕ) (n : ℕ) (found : n ≡ phase_by es 2 b (column cs b)) (small : n < 2) where
   abbrev done : ℕ
   done = column cs b

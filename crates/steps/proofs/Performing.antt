@@ -11,6 +11,7 @@ use Rattle.refusals.specs.Refusals.{met}
 use Rattle.model.specs.declared.Iteration.{Iteration}
 use Rattle.model.specs.Table.{iteration, Inside}
 use Rattle.model.specs.Bodies.{run}
+use Rattle.records.specs.declared.storage.Store.{Store}
 use Rattle.reader.specs.Store.{table_in}
 use Rattle.blocks.specs.Sums.{column}
 use Rattle.turns.specs.Turn.{Work, Said, refuses, performs, waits, ends, before, After, next, after, turn}
@@ -26,13 +27,13 @@ use Rattle.steps.proofs.Same.{called-below, called-past}
 use Rattle.steps.specs.Leaves.{Leaves}
 
 -- a number not below P
-pub leaves-past : {w : Work Iteration} {P b : ℕ} {es : List ℕ} → Phased w P es → (c cs : List ℕ) (m : List Float) → P ≤ b
+pub leaves-past : {w : Work Iteration} {P b : ℕ} {es : List ℕ} → Phased w P es → (c : Store) (cs : List ℕ) (m : List Float) → P ≤ b
     → Leaves (called w (table_in c) b cs m) cs m (Refused (met 10 0))
 leaves-past {w} {P} {b} p c cs m past =
     rw (called-past w (table_in c) b cs m (omega (arith, p.counted))) (record { counts-are = refl; memory-is = refl; report-is = refl })
 
 -- ONE BELOW P
-module _ {w : Work Iteration} {P b : ℕ} {es xs : List ℕ} {at : ℕ} {c bs : List ℕ} (h : Lent w P b es xs at c bs) (below : b < P) (cs : List ℕ) where
+module _ {w : Work Iteration} {P b : ℕ} {es xs : List ℕ} {at : ℕ} {c : Store} {bs : List ℕ} (h : Lent w P b es xs at c bs) (below : b < P) (cs : List ℕ) where
   proper : b < w.processors
   proper = omega (arith, h.phased.counted)
 

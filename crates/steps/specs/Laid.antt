@@ -1,5 +1,6 @@
 -- LAWS: what the code of a step is lent is had of a plan that is laid out.
 use Rattle.std.specs.Prelude.{ℕ, ◌+◌, ◌≤◌, ◌<◌, ◌≡◌, refl, List, length}
+use Rattle.records.specs.declared.storage.Store.{Store}
 use Rattle.reader.specs.Store.{table_in}
 use Rattle.blocks.specs.declared.Axis.{Axis}
 use Rattle.barriers.specs.Code.{Ended}
@@ -10,10 +11,10 @@ use Rattle.ranges.specs.Listed.{few-loops, few-blocks}
 use Rattle.layouts.specs.Layout.{work_in, Stands, stands-list, work-inside}
 use Rattle.steps.specs.Lent.{Phased, Lent}
 
-pub loaded-in : {a : Axis} {c : List ℕ} → Laid a c → (bs : List ℕ) → Based bs (table_in c).lengths → Loaded (table_in c) c bs
+pub loaded-in : {a : Axis} {c : Store} → Laid a c → (bs : List ℕ) → Based bs (table_in c).lengths → Loaded (table_in c) c bs
 loaded-in h bs based = record { holds = h.held; valid = h.fit.valid; based = based }
 
-module _ (a : Axis) (c : List ℕ) (h : Laid a c) (ends : List ℕ) (ended : Ended (work_in a c) ends) (long : length ends ≡ 192) where
+module _ (a : Axis) (c : Store) (h : Laid a c) (ends : List ℕ) (ended : Ended (work_in a c) ends) (long : length ends ≡ 192) where
   pub phased-in : Phased (work_in a c) a.blocks ends
   phased-in = record { counted = refl; few = few-blocks a c h; two = refl; ended = ended; ends-long = long }
 

@@ -4,6 +4,7 @@ use Rattle.std.specs.Prelude.{ℕ, ◌+◌, ◌*◌, ◌≤◌, ◌<◌, ◌≡�
 use mathlib.Core.List.{Memᴰ as Mem}
 use Rattle.model.specs.declared.Iteration.{Iteration}
 use Rattle.model.specs.Table.{Inside}
+use Rattle.records.specs.declared.storage.Store.{Store}
 use Rattle.reader.specs.Store.{loops_in, table_in}
 use Rattle.turns.specs.Turn.{Work}
 use Rattle.barriers.specs.Code.{Ended}
@@ -20,14 +21,14 @@ pub record Phased (w : Work Iteration) (P : ℕ) (ends : List ℕ) : Type 0 wher
   pub ends-long : length ends ≡ 192
 
 -- processor b's lists stand from `at` on, and they are iterations of the table in the store c
-pub record Listed (w : Work Iteration) (b : ℕ) (xs : List ℕ) (at : ℕ) (c : List ℕ) : Type 0 where
+pub record Listed (w : Work Iteration) (b : ℕ) (xs : List ℕ) (at : ℕ) (c : Store) : Type 0 where
   pub few-loops : loops_in c ≤ 16
   pub room : at + 96 ≤ length xs
   pub is : (n : ℕ) → n < 2 → list_of xs (at + 48 * n) (loops_in c) n ≡ w.list n b
   pub inside : (n : ℕ) (x : Iteration) → n < 2 → Mem x (w.list n b) → Inside (table_in c) x
 
 -- a call that names b is lent this; bs is where the table's arrays begin. Of a number not below P nothing is asked of the lists
-pub record Lent (w : Work Iteration) (P b : ℕ) (ends xs : List ℕ) (at : ℕ) (c bs : List ℕ) : Type 0 where
+pub record Lent (w : Work Iteration) (P b : ℕ) (ends xs : List ℕ) (at : ℕ) (c : Store) (bs : List ℕ) : Type 0 where
   pub phased : Phased w P ends
   pub listed : b < P → Listed w b xs at c
   pub loaded : Loaded (table_in c) c bs

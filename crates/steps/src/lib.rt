@@ -20,7 +20,7 @@ use blocks::Axis;
 use layouts::LISTS;
 use plans::Settings;
 use ranges::{PHASE, PHASES};
-use records::{STORE, Store};
+use records::Store;
 use refusals::{Ground, Refusal};
 use stepping::Report;
 
@@ -142,7 +142,7 @@ impl Counts {
     pub fn step(self, s: &[u8], w: Settings, processor: u32, memory: &mut [f64]) -> Stepped
         ensures { Leaves (step s.now w processor self.done memory.old) result.counts.done memory.new result.report }
     {
-        let mut store = [0u32; STORE];
+        let mut store = Store::new();
         match plans::plan_for(s, w, processor, &mut store) {
             Ok(a) => self.step_planned(a, processor, &store, memory),
             Err(r) => self.refused(r),
