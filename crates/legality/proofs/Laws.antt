@@ -3,18 +3,16 @@ use Prim.Native.Nat.{ℕ, zero, suc, ◌+◌, ◌-◌, ◌*◌, ◌/◌, ◌%◌
 use native.Mathlib.Omega.{arith}
 use native.Mathlib.Decide.{ℕ_discrete, dec_lt}
 use native.Mathlib.Numerals.{add-one}
-use native.Mathlib.Nat.{mul-suc, mul-le-mul, mul-le-mul_left}
 use mathlib.Core.Path.{◌≡◌, refl, sym, ap, subst, ◌∙◌}
 use mathlib.Core.Logic.{◌⊎◌, inl, inr, ⊎_elim}
-use mathlib.Core.Bool.{Bool, true, false, false≢true, ◌&&◌, ◌||◌, or-false, or-true, and-false}
+use mathlib.Core.Bool.{Bool, true, false, false≢true, ◌&&◌, ◌||◌, or-false, or-true}
 use mathlib.Core.List.{List, [], ◌∷◌}
 use mathlib.Core.List.{Memᴰ as Mem}
 use lib.Dec.{ltb}
 use Rattle.std.specs.Prelude.{Some, None, Result, Ok, Err}
 use Rattle.std.specs.List.{list_any}
 use Rattle.std.proofs.Math.Bool.{or_assoc}
-use lib.ListN.{length, get_or, set, length-set}
-use lib.Seq.{get_or-set_same, get_or-set_other}
+use lib.ListN.{length, get_or}
 use borrow.Author.Tests.{lt-ltb, le-ltb, eq-eqb, ne_eqb}
 use Rattle.overlap.specs.Booleans.{both_true, either_true, not-true, same_test}
 use Rattle.model.specs.declared.Reference.{Reference}
@@ -45,17 +43,6 @@ use Rattle.legality.specs.ByHand.{too_large, first_unmet, judged, by_hand}
 use Rattle.legality.specs.Code.{missing, lacking, between, with_row, with_loop, stored_with, destination_row, destinations, unmet_in, least_unmet_in, loop_of, pair_of}
 
 -- TWO REFERENCES
-module _ (amounts : Amounts) (x y : Reference) (a b d : ℕ) (a-is : a ≡ get_or amounts.shifts y.number 0) (b-is : b ≡ get_or amounts.shifts x.number 0) (d-is : d ≡ y.offset - x.offset) where
-  shift_is : ltb (get_or amounts.shifts y.number 0) (get_or amounts.shifts x.number 0 + (y.offset - x.offset)) ≡ ltb a (b + d)
-  shift_is = rw (a-is, b-is, d-is)
-
-  pub missing-shift : a < b + d → true ≡ missing amounts x y
-  missing-shift l = sym (let e = shift_is ∙ lt-ltb a (b + d) l in rw e)
-
-  pub missing-peel : (b + d ≤ a) → (e f g : ℕ) → e ≡ get_or amounts.peels y.number 0 → f ≡ get_or amounts.peels x.number 0 → g ≡ x.offset - y.offset
-      → ltb e (f + g) ≡ missing amounts x y
-  missing-peel l e f g e-is f-is g-is = let z = shift_is ∙ le-ltb a (b + d) l in rw (z, e-is, f-is, g-is)
-
 pub touch-swap : (x y : Reference) → touch x y ≡ touch y x
 touch-swap x y = same_test (touch x y) (touch y x) (turn x y) (turn y x)
   where
@@ -77,9 +64,6 @@ module _ (t : Table) (amounts : Amounts) where
         go : (d : Bool) → d ≡ (d && missing amounts x y)
         go true = sym m
         go false = refl
-
-    pub lacking-fine : missing amounts x y ≡ false → false ≡ lacking t amounts x y
-    lacking-fine m = sym (rw m (and-false (dependence t x y)))
 
   -- no dependence leads back
   lacking-late : (x y : Reference) → y.number ≤ x.number → lacking t amounts x y ≡ false
@@ -155,13 +139,6 @@ module _ (c : List ℕ) (amounts : Amounts) where
 -- THE LAST DESTINATIONS of the loops below k, and of one loop more
 abbrev pub LastsTo : (c lasts : List ℕ) → ℕ → Type 0
 LastsTo c lasts k = (length lasts ≡ 16) × ((i : ℕ) → i < k → LastDestination c i (get_or lasts i 0))
-
-pub lasts-next : (c lasts : List ℕ) (k r : ℕ) → k < 16 → LastsTo c lasts k → LastDestination c k r → LastsTo c (set lasts k r) (k + 1)
-lasts-next c lasts k r l (long, f) d = (length-set lasts k r ∙ long, λ i u. go i u (ℕ_discrete i k))
-  where
-    go : (i : ℕ) → i < k + 1 → Dec (i ≡ k) → LastDestination c i (get_or (set lasts k r) i 0)
-    go i u (yes q) = rw (q, get_or-set_same lasts k r 0 (omega arith)) d
-    go i u (no q) = rw (get_or-set_other lasts k i r 0 q) (f i (omega arith))
 
 -- the rows up to it are the loop's
 pub up-to-last : (c : List ℕ) (j last r : ℕ) → LastDestination c j last → r ≤ last → r < start_at c (j + 1)
@@ -450,11 +427,3 @@ module _ (t : Table) (n : ℕ) (bs : List ℕ) (same : n ≡ 8 * count t) (a : A
 
   pub hand-ok : ◌≡◌ {A = Result (Unit {0}) Refusal} (Ok (tt {0})) (result_of (λ (_ : Amounts). tt {0}) (judged t a)) → Ok a ≡ result_of (λ (b : Amounts). b) (by_hand t n bs)
   hand-ok e = answers-accepted _ (by_hand t n bs) a (hand-is ∙ judged-ok t a e)
-
--- the numbers of a loop stand inside the bytes
-pub stride-near : (stride first loops k : ℕ) → loops ≤ 16 → first + 2 ≤ stride → stride ≤ 4 → k < loops
-    → (stride * k + first + 1 < stride * loops) × (stride * loops ≤ 64)
-stride-near stride first loops k l m n i =
-    let up : stride * suc k ≤ stride * loops = mul-le-mul_left stride (omega arith) in
-    let top : stride * loops ≤ 4 * 16 = mul-le-mul n l in
-    (omega (arith, up, mul-suc stride k), omega arith)
