@@ -26,7 +26,7 @@ use amounts::Amounts;
 use blocks::{Axis, Range};
 use numbers::{NUMBER, PAIR};
 use plans::Settings;
-use ranges::PHASE;
+use ranges::PhaseRanges;
 use records::Store;
 use refusals::Refusal;
 use text::Writer;
@@ -147,13 +147,13 @@ pub fn blocks(s: &[u8], w: Settings, out: &mut [u8]) -> Result<usize, Refusal>
 }
 
 // Loop and iteration of each of `size` in the list of a phase that kept ranges give.
-fn write_list(out: &mut [u8], phase: u32, loops: usize, size: usize, lists: &[u32; PHASE]) -> usize
-    requires { (loops ≤ 16) × Fitting size (list_of lists.now 0 loops phase) }
-    ensures { Put out.old 0 (encoded (pairs_of (list_of lists.now 0 loops phase))) (8 * size) out.new result }
+fn write_list(out: &mut [u8], phase: u32, loops: usize, size: usize, ranges: &PhaseRanges) -> usize
+    requires { (loops ≤ 16) × Fitting size (list_of ranges.now loops phase) }
+    ensures { Put out.old 0 (encoded (pairs_of (list_of ranges.now loops phase))) (8 * size) out.new result }
 {
     let mut row = Writer::new(out);
     for n in 0..size {
-        let x = ranges::nth_of(phase, loops, lists, 0, n);
+        let x = ranges::nth_of(phase, loops, ranges, n);
         numbers::put_pair(&mut row, x.number as u32, x.index as u32);
     }
     row.count()
@@ -164,12 +164,12 @@ fn give_list(out: &mut [u8], phase: u32, a: &Axis, b: u32, store: &Store) -> Res
     requires { Laid a.now store.now × (b < a.now.blocks) }
     ensures { Gives (fitted (length out.old) (encoded (pairs_of (work (table_in store.now) (fusion_in a.now) phase b)))) out.old out.new result }
 {
-    let mut lists = [0u32; PHASE];
-    let size = ranges::put_list(phase, a, b, store, &mut lists, 0);
+    let mut ranges = PhaseRanges::new();
+    let size = ranges::put_list(phase, a, b, store, &mut ranges);
     if out.len() < PAIR * size {
         return Err(outputs::short());
     }
-    Ok(write_list(out, phase, reader::loops_in(store), size, &lists))
+    Ok(write_list(out, phase, reader::loops_in(store), size, &ranges))
 }
 
 // Loop and iteration of each in processor b's list in a phase: 0 is its fused list, 1 its peeled one.

@@ -18,6 +18,7 @@ use Rattle.turns.proofs.Reach.{none-reachable}
 use Rattle.stepping.specs.declared.Report.{Report}
 use Rattle.steps.specs.Called.{called}
 use Rattle.steps.specs.Leaves.{Leaves}
+use Rattle.layouts.specs.declared.Lists.{Lists}
 use Rattle.running.specs.Code.{Step, Calling, Ordered}
 use Rattle.running.specs.Idle.{idling}
 use Rattle.running.proofs.Calls.{idling-small, leaves-reachable, leaves-long, then-counts, then-memory, then-idle}
@@ -42,7 +43,7 @@ module _ (w : Work Iteration) (step : Step) (c : Store) (order : List ℕ) (begu
     idle-left = omega arith;
   }
 
-  pub going_next : {P : ℕ} {es xs bs : List ℕ} → Calling w step P es xs c bs → (cs ds : List ℕ) (m o : List Float) (n k : ℕ) (said : Report)
+  pub going_next : {P : ℕ} {es : List ℕ} {xs : List Lists} {bs : List ℕ} → Calling w step P es xs c bs → (cs ds : List ℕ) (m o : List Float) (n k : ℕ) (said : Report)
       → Going w step c order begun cs m n k → k < length order → Leaves (called w (table_in c) (get_or order k 0) cs m) ds o said
       → Going w step c order begun ds o (n + idling said) (k + 1)
   going_next g cs ds m o n k said y i h = rw (add-one k) (record {

@@ -21,6 +21,7 @@ use Rattle.stepping.specs.declared.Report.{Report}
 use Rattle.stepping.specs.declared.Report.TheVariants.{Refused, Performed}
 use Rattle.stepping.specs.Step.{report_of}
 use Rattle.stepping.proofs.Meaning.{said-performs}
+use Rattle.layouts.specs.declared.Lists.{Lists}
 use Rattle.steps.specs.Lent.{Phased, Lent}
 use Rattle.steps.specs.Called.{called}
 use Rattle.steps.proofs.Same.{called-below, called-past}
@@ -33,7 +34,7 @@ leaves-past {w} {P} {b} p c cs m past =
     rw (called-past w (table_in c) b cs m (omega (arith, p.counted))) (record { counts-are = refl; memory-is = refl; report-is = refl })
 
 -- ONE BELOW P
-module _ {w : Work Iteration} {P b : ℕ} {es xs : List ℕ} {at : ℕ} {c : Store} {bs : List ℕ} (h : Lent w P b es xs at c bs) (below : b < P) (cs : List ℕ) where
+module _ {w : Work Iteration} {P b : ℕ} {es : List ℕ} {xs : List Lists} {at : ℕ} {c : Store} {bs : List ℕ} (h : Lent w P b es xs at c bs) (below : b < P) (cs : List ℕ) where
   proper : b < w.processors
   proper = omega (arith, h.phased.counted)
 
