@@ -18,7 +18,7 @@ impl Range {
     pub fn length(self) -> u32
         ensures { result ≡ self.past - self.from }
     {
-        self.past.saturating_sub(self.from)
+        arithmetic::length_of(self.from, self.past)
     }
 }
 

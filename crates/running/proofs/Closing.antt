@@ -57,8 +57,9 @@ module _ {w : Work Iteration} {step : Step} {P : ℕ} {es xs : List ℕ} {c : St
           ∙ ap (λ (a : After Iteration (List Float)). performing a.said) (sym (g.calls b cs m long r ∙ called-below w (table_in c) b cs m l))
 
   module _ (most : ℕ) (from : List ℕ) (begun : List Float) where
-    pub closing-start : length begun ≡ element_total (table_in c) → Reachable w from → Closing w step P c most from begun from begun most
-    closing-start e r = record { reachable = r; long = e; left = refl }
+    pub closing-start : (n : ℕ) → n ≡ most → length begun ≡ element_total (table_in c) → Reachable w from
+        → Closing w step P c most from begun from begun n
+    closing-start n all e r = record { reachable = r; long = e; left = rw all refl }
 
     module _ (cs : List ℕ) (m : List Float) (n : ℕ) (y : Closing w step P c most from begun cs m n) where
       module _ (some : 0 < n) (phases : ℕ) (two : phases ≡ 2) where

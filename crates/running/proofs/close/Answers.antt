@@ -7,8 +7,7 @@ use Rattle.running.proofs.close.Goals as goal
 pub loop-i-init : goal.loop-i-init
 loop-i-init c =
     let a = c.args in
-    let e : a.most - 0 ≡ a.most = omega arith in
-    λ w step g r. rw e (closing-start g a.most a.from.done a.memory.now c.requires.1 r)
+    λ w step g r. closing-start g a.most a.from.done a.memory.now _ (omega arith) c.requires.1 r
 
 pub returns-in_default : goal.returns-in_default
 returns-in_default c =
