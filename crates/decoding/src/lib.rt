@@ -218,7 +218,14 @@ fn array_tests(n: u32, t: Summary) -> Result<(), Ground>
 }
 
 #[tactic(auto, unfolding(records::specs::Grounds::fields))]
-fn loop_tests(first: u32, last: u32, q: u32, o: u32, t: Summary, lens: &[u32; MOST_ARRAYS]) -> Result<(), Ground>
+fn loop_tests(
+    first: u32,
+    last: u32,
+    q: u32,
+    o: u32,
+    t: Summary,
+    lens: &[u32; MOST_ARRAYS],
+) -> Result<(), Ground>
     requires { t.arrays ≤ 16 }
     ensures { number_met result ≡ fields (Record.Loop first last q o) t lens.now }
 {
@@ -308,7 +315,12 @@ fn passing(r: Record, n: usize) -> Tested
 
 // The record at a place and the place after it, or the ground that it meets; the arrays' lengths are lent.
 #[tactic(auto, unfolding(records::specs::Grounds::ground, records::specs::Bytes::record_at))]
-fn record_at(s: &[u8], at: usize, t: Summary, lens: &[u32; MOST_ARRAYS]) -> Result<(Record, usize), Ground>
+fn record_at(
+    s: &[u8],
+    at: usize,
+    t: Summary,
+    lens: &[u32; MOST_ARRAYS],
+) -> Result<(Record, usize), Ground>
     requires { t.arrays ≤ 16 }
     ensures met { number_met result ≡ ground s.now at t lens.now }
     ensures found { IfOk result (λ f. (f.0 ≡ record_at s.now at) × (f.1 ≡ at + 1 + body_length (byte s.now at))) }

@@ -1,5 +1,5 @@
 -- What the planner's code leaves: what it tells of an answer, and the plan along one index beside the table in the store.
-use Rattle.std.specs.Prelude.{ℕ, ◌≤◌, ◌<◌, ◌≡◌, List, length, Option, Result, MatchOption, MatchResult}
+use Rattle.std.specs.Prelude.{◌≤◌, ◌<◌, ◌≡◌, length, Option, Result, MatchOption, MatchResult}
 use Rattle.refusals.specs.declared.Refusal.{Refusal}
 use Rattle.refusals.specs.Answers.{AnswerOf, accepted, refused}
 use Rattle.records.specs.declared.storage.Store.{Store}

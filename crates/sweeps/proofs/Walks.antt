@@ -4,7 +4,6 @@ use native.Mathlib.Omega.{arith}
 use native.Mathlib.Numerals.{add-one}
 use mathlib.Core.Path.{◌≡◌, ap, ap₂, ◌∙◌, fun_ext}
 use mathlib.Core.Bool.{Bool, false, ◌||◌}
-use mathlib.Core.List.{List}
 use Rattle.marks.specs.Marks.{marked, size}
 use Rattle.marks.specs.MarkLaws.{size-most, size_same, none-marked}
 use Rattle.model.specs.Table.{Table, count}

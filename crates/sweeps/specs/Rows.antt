@@ -1,5 +1,5 @@
 -- The sets of a loop as the code has them, and what is left of the loop's rows in a store: what is said of them.
-use Rattle.std.specs.Prelude.{ℕ, suc, ◌+◌, ◌≡◌, Bool, ◌&&◌, ◌||◌, List, eqb}
+use Rattle.std.specs.Prelude.{ℕ, suc, ◌+◌, ◌≡◌, Bool, ◌&&◌, ◌||◌, eqb}
 use Rattle.marks.specs.Marks.{marked, size}
 use Rattle.model.specs.declared.Reference.{Reference}
 use Rattle.model.specs.Table.{Table}
