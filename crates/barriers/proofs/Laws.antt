@@ -17,7 +17,7 @@ use Rattle.turns.specs.Lowest.{lowest-is, lowest-holds, lowest-none}
 use Rattle.barriers.specs.Code.{left_by, last_open_by, beyond_by, wrong_by, ready_by, below}
 
 -- what is found with the last open phase
-module _ (P : ℕ) (ends counts : List ℕ) (phases m : ℕ) (e : m ≡ last_open_by P ends counts phases) where
+module _ (P : ℕ) (ends : List (List ℕ)) (counts : List ℕ) (phases m : ℕ) (e : m ≡ last_open_by P ends counts phases) where
   pub ready-found : below P (lowest P (left_by ends counts (m + 1))) ≡ below P (lowest P (ready_by P ends counts phases))
   ready-found = ap (λ (n : ℕ). below P (lowest P (left_by ends counts n))) (add-one m ∙ ap suc e)
 

@@ -2,7 +2,7 @@
 use Prim.Native.Nat.{ℕ, zero, suc, ◌-◌, ◌≤◌, ◌<◌}
 use Rattle.std.proofs.Common.{arith, sym, ap, subst, ◌∙◌, lt-ltb, le-ltb}
 use Rattle.std.proofs.Math.Decide.{ℕ_discrete, dec_lt, dec_le}
-use Rattle.std.specs.Prelude.{◌≡◌, refl, Bool, true, false, cond, ◌&&◌, ◌||◌, List, ltb, replicate}
+use Rattle.std.specs.Prelude.{◌≡◌, refl, Bool, true, false, cond, ◌&&◌, ◌||◌, List, [], length, get_or, ltb, replicate}
 use Rattle.std.proofs.Math.Bool.{and-false}
 use Rattle.std.proofs.lemmas.Bool.{false≢true}
 use Rattle.blocks.specs.Sums.{column, some}
@@ -12,17 +12,31 @@ use Rattle.turns.specs.TwoPhases.{closed-first}
 use Rattle.turns.specs.Row.{performing, listed}
 use Rattle.turns.proofs.Reach.{before-up, closed-opened, opened-closed, Turn, does, halts, stops, turn_is}
 use Rattle.turns.specs.Reachable.{Opened}
-use Rattle.barriers.specs.Code.{before_by, come_by, phase_by, closed_by, open_by, last_open_by, beyond_by, wrong_by, ready_by, listed_by, EndsFit, Ended}
+use Rattle.barriers.specs.Code.{before_by, come_by, phase_by, closed_by, open_by, last_open_by, beyond_by, wrong_by, ready_by, listed_by, EndsFit, Rows, Ended}
 
 or_right : (x y : Bool) → y ≡ true → (x || y) ≡ true
 or_right true y e = refl
 or_right false y e = e
 
 -- where nothing is written yet
-pub zeros-small : (n : ℕ) → EndsFit (replicate n 0)
-zeros-small zero k = omega arith
-zeros-small (suc n) zero = omega arith
-zeros-small (suc n) (suc k) = zeros-small n k
+zero-row : (m b : ℕ) → column (replicate m 0) b ≤ 3200000
+zero-row zero b = omega arith
+zero-row (suc m) zero = omega arith
+zero-row (suc m) (suc b) = zero-row m b
+
+pub zeros-small : (n m : ℕ) → EndsFit (replicate n (replicate m 0))
+zeros-small zero m k b = omega arith
+zeros-small (suc n) m zero b = zero-row m b
+zeros-small (suc n) m (suc k) b = zeros-small n m k b
+
+pub zeros-rows : Rows (replicate 3 (replicate 64 0))
+zeros-rows = record { rows = refl; each = each }
+  where
+    each : (n : ℕ) → n < 3 → length (get_or (replicate 3 (replicate {A = ℕ} 64 0)) n []) ≡ 64
+    each zero l = refl
+    each (suc zero) l = refl
+    each (suc (suc zero)) l = refl
+    each (suc (suc (suc n))) l = absurd (omega arith)
 
 -- m is the last of the phases up to n whose barrier is open
 pub record Last {A : Type 0} (w : Work A) (counts : List ℕ) (n m : ℕ) : Type 0 where
@@ -30,7 +44,7 @@ pub record Last {A : Type 0} (w : Work A) (counts : List ℕ) (n m : ℕ) : Type
   pub opened : Opened w counts m
   pub later : (k : ℕ) → m < k → k ≤ n → closed w counts k ≡ true
 
-module _ {A : Type 0} {w : Work A} {ends : List ℕ} (h : Ended w ends) where
+module _ {A : Type 0} {w : Work A} {ends : List (List ℕ)} (h : Ended w ends) where
   open w use {processors, phases}
 
   pub before-is : (n b : ℕ) → n ≤ phases → b < processors → before_by ends n b ≡ before w n b

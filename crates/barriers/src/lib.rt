@@ -6,10 +6,11 @@ ghost use Rattle.std.specs.Prelude.{◌≡◌, ◌≤◌, ◌<◌};
 ghost use Rattle.turns.specs.Row.{lowest};
 ghost use Rattle.barriers.specs.Code.{before_by, left_by, closed_by, phase_by, last_open_by, most_by, wrong_by, ready_by, listed_by, below, EndsFit};
 
-// For each phase and processor how many iterations it has up to the end of that phase: processor b's at 64 * phase + b.
-pub const ENDS: usize = 192;
+// For each phase a row, and in it for each processor how many iterations it has up to the end of that phase.
+pub type Ends = [[u32; 64]; 3];
 
-pub type Ends = [u32; ENDS];
+// The rows before any iteration is counted.
+pub const NO_ENDS: Ends = [[0u32; 64]; 3];
 
 // Where the phases of so many processors end.
 #[derive(Clone, Copy)]
@@ -29,7 +30,7 @@ impl Barriers<'_> {
         if n == 0 {
             return 0;
         }
-        self.ends[(64 * (n - 1) + b) as usize]
+        self.ends[n as usize - 1][b as usize]
     }
 
     // The lowest-numbered processor with an iteration left in the phases before phase n.

@@ -1,5 +1,5 @@
 -- Where the phases of one processor end: written, and read off again.
-use Rattle.std.specs.Prelude.{ℕ, zero, suc, ◌+◌, ◌*◌, ◌≤◌, ◌<◌, ◌≡◌, List, length, set}
+use Rattle.std.specs.Prelude.{ℕ, zero, suc, ◌≤◌, ◌<◌, ◌≡◌, List, [], length, get_or, set}
 use Rattle.std.proofs.Common.{arith, ap, ◌∙◌, length-set, get_or-set_same, get_or-set_other}
 use Rattle.std.proofs.Math.Decide.{ℕ_discrete}
 use Rattle.records.specs.declared.storage.Store.{Store}
@@ -8,32 +8,69 @@ use Rattle.blocks.specs.declared.Axis.{Axis}
 use Rattle.blocks.specs.Sums.{column}
 use Rattle.lists.specs.Fusion.{fusion_in, work}
 use Rattle.turns.specs.Turn.{before}
-use Rattle.barriers.specs.Code.{EndsFit}
-use Rattle.layouts.specs.Layout.{work_in, with_ends}
+use Rattle.barriers.specs.Code.{EndsFit, Rows}
+use Rattle.layouts.specs.Layout.{work_in, with_end, with_ends}
 
-module _ (a : Axis) (c : Store) (b : ℕ) where
-  module _ (xs : List ℕ) (size : length xs ≡ 192) (few : b < 64) where
-    pub ends-here : (n : ℕ) → n < 2 → column (with_ends a c b xs) (64 * n + b) ≡ before (work_in a c) (suc n) b
-    ends-here zero l =
-        let e : 64 * 0 + b ≡ b = omega arith in
-        ap (column (with_ends a c b xs)) e
-        ∙ get_or-set_other (set xs b (before (work_in a c) 1 b)) (64 + b) b (before (work_in a c) 2 b) 0 (λ z. omega arith)
-        ∙ get_or-set_same xs b (before (work_in a c) 1 b) 0 (omega arith)
-    ends-here (suc zero) l =
-        let e : 64 * 1 + b ≡ 64 + b = omega arith in
-        ap (column (with_ends a c b xs)) e
-        ∙ get_or-set_same (set xs b (before (work_in a c) 1 b)) (64 + b) (before (work_in a c) 2 b) 0 (simp length-set (omega arith))
-    ends-here (suc (suc n)) l = absurd (omega arith)
+-- ONE NUMBER
+module _ (n b v : ℕ) (xs : List (List ℕ)) where
+  end-other-row : (m d : ℕ) → (m ≡ n → ⊥) → column (get_or (with_end n b v xs) m []) d ≡ column (get_or xs m []) d
+  end-other-row m d p = ap (λ (row : List ℕ). column row d) (get_or-set_other xs n m (set (get_or xs n []) b v) [] p)
 
-    pub ends-other : (i : ℕ) → (i ≡ b → ⊥) → (i ≡ 64 + b → ⊥) → column (with_ends a c b xs) i ≡ column xs i
-    ends-other i p q =
-        get_or-set_other (set xs b (before (work_in a c) 1 b)) (64 + b) i (before (work_in a c) 2 b) 0 q
-        ∙ get_or-set_other xs b i (before (work_in a c) 1 b) 0 p
+  module _ (rows : Rows xs) (proper : n < 3) where
+    end-row : get_or (with_end n b v xs) n [] ≡ set (get_or xs n []) b v
+    end-row = get_or-set_same xs n (set (get_or xs n []) b v) [] (omega (arith, rows.rows))
 
-    pub ends-small : EndsFit xs → length (work (table_in c) (fusion_in a) 0 b) ≤ 1052656 → length (work (table_in c) (fusion_in a) 1 b) ≤ 1052656 → EndsFit (with_ends a c b xs)
-    ends-small s f g i = go (ℕ_discrete i b) (ℕ_discrete i (64 + b))
+    end-here : b < 64 → column (get_or (with_end n b v xs) n []) b ≡ v
+    end-here few = ap (λ (row : List ℕ). column row b) end-row ∙ get_or-set_same (get_or xs n []) b v 0 (omega (arith, rows.each n proper))
+
+    end-other : (m d : ℕ) → (d ≡ b → ⊥) → column (get_or (with_end n b v xs) m []) d ≡ column (get_or xs m []) d
+    end-other m d q = go (ℕ_discrete m n)
       where
-        go : Dec (i ≡ b) → Dec (i ≡ 64 + b) → column (with_ends a c b xs) i ≤ 3200000
-        go (yes e) d = let z : i ≡ 64 * 0 + b = omega arith in omega (arith, ap (column (with_ends a c b xs)) z, ends-here 0 (omega arith))
-        go (no e) (yes d) = let z : i ≡ 64 * 1 + b = omega arith in omega (arith, ap (column (with_ends a c b xs)) z, ends-here 1 (omega arith))
-        go (no e) (no d) = omega (arith, ends-other i e d, s i)
+        go : Dec (m ≡ n) → column (get_or (with_end n b v xs) m []) d ≡ column (get_or xs m []) d
+        go (yes e) = rw e (ap (λ (row : List ℕ). column row d) end-row ∙ get_or-set_other (get_or xs n []) b d v 0 q)
+        go (no p) = end-other-row m d p
+
+    end-rows : Rows (with_end n b v xs)
+    end-rows = record { rows = simp length-set rows.rows; each = λ m l. go m l (ℕ_discrete m n) }
+      where
+        go : (m : ℕ) → m < 3 → Dec (m ≡ n) → length (get_or (with_end n b v xs) m []) ≡ 64
+        go m l (yes e) = rw (e, end-row) (simp length-set (rows.each n proper))
+        go m l (no p) = ap length (get_or-set_other xs n m (set (get_or xs n []) b v) [] p) ∙ rows.each m l
+
+-- BOTH
+module _ (a : Axis) (c : Store) (b : ℕ) where
+  module _ (xs : List (List ℕ)) (rows : Rows xs) where
+    abbrev first : List (List ℕ)
+    first = with_end 0 b (before (work_in a c) 1 b) xs
+
+    one : Rows first
+    one = end-rows 0 b (before (work_in a c) 1 b) xs rows (omega arith)
+
+    pub ends-rows : Rows (with_ends a c b xs)
+    ends-rows = end-rows 1 b (before (work_in a c) 2 b) first one (omega arith)
+
+    pub ends-other : (n d : ℕ) → (d ≡ b → ⊥) → column (get_or (with_ends a c b xs) n []) d ≡ column (get_or xs n []) d
+    ends-other n d q =
+        end-other 1 b (before (work_in a c) 2 b) first one (omega arith) n d q
+        ∙ end-other 0 b (before (work_in a c) 1 b) xs rows (omega arith) n d q
+
+    module _ (few : b < 64) where
+      pub ends-here : (n : ℕ) → n < 2 → column (get_or (with_ends a c b xs) n []) b ≡ before (work_in a c) (suc n) b
+      ends-here zero l =
+          end-other-row 1 b (before (work_in a c) 2 b) first 0 b (λ z. omega arith)
+          ∙ end-here 0 b (before (work_in a c) 1 b) xs rows (omega arith) few
+      ends-here (suc zero) l = end-here 1 b (before (work_in a c) 2 b) first one (omega arith) few
+      ends-here (suc (suc n)) l = absurd (omega arith)
+
+      pub ends-small : EndsFit xs → length (work (table_in c) (fusion_in a) 0 b) ≤ 1052656 → length (work (table_in c) (fusion_in a) 1 b) ≤ 1052656
+          → EndsFit (with_ends a c b xs)
+      ends-small s f g n d = go n (ℕ_discrete d b)
+        where
+          go : (n : ℕ) → Dec (d ≡ b) → column (get_or (with_ends a c b xs) n []) d ≤ 3200000
+          go n (no e) = omega (arith, ends-other n d e, s n d)
+          go zero (yes e) = rw e (omega (arith, ends-here 0 (omega arith)))
+          go (suc zero) (yes e) = rw e (omega (arith, ends-here 1 (omega arith)))
+          go (suc (suc n)) (yes e) =
+              let p = end-other-row 1 b (before (work_in a c) 2 b) first (suc (suc n)) d (λ z. omega arith) in
+              let q = end-other-row 0 b (before (work_in a c) 1 b) xs (suc (suc n)) d (λ z. omega arith) in
+              omega (arith, p, q, s (suc (suc n)) d)

@@ -1,5 +1,5 @@
 -- A plan laid out: for each processor where its phases end, and its lists.
-use Rattle.std.specs.Prelude.{ℕ, zero, suc, ◌+◌, ◌<◌, ◌≡◌, List, length, get_or, set, replicate}
+use Rattle.std.specs.Prelude.{ℕ, zero, suc, ◌<◌, ◌≡◌, List, [], length, get_or, set, replicate}
 use Rattle.std.proofs.lemmas.List.{length-replicate}
 use mathlib.Core.List.{Memᴰ as Mem}
 use Rattle.model.specs.declared.Iteration.{Iteration}
@@ -38,6 +38,10 @@ no_ranges = record {
 abbrev pub no_lists : Lists
 no_lists = record { fused = no_ranges; peeled = no_ranges }
 
+-- the rows with v where phase n of processor b ends
+abbrev pub with_end : ℕ → ℕ → ℕ → List (List ℕ) → List (List ℕ)
+with_end n b v xs = set xs n (set (get_or xs n []) b v)
+
 module _ (a : Axis) (c : Store) where
   -- processor b's lists are kept
   pub record Stands (x : Lists) (b : ℕ) : Type 0 where
@@ -49,9 +53,9 @@ module _ (a : Axis) (c : Store) where
     pub long : length xs ≡ 64
     pub each : (b : ℕ) → b < n → Stands (get_or xs b no_lists) b
 
-  -- the numbers with where processor b's phases end
-  abbrev pub with_ends : ℕ → List ℕ → List ℕ
-  with_ends b xs = set (set xs b (before (work_in a c) 1 b)) (64 + b) (before (work_in a c) 2 b)
+  -- the rows with where processor b's phases end
+  abbrev pub with_ends : ℕ → List (List ℕ) → List (List ℕ)
+  with_ends b xs = with_end 1 b (before (work_in a c) 2 b) (with_end 0 b (before (work_in a c) 1 b) xs)
 
   module _ (h : Laid a c) where
     -- so the list of each phase is the plan's

@@ -2,7 +2,7 @@
 #![tactic(auto)]
 
 ghost use Rattle.std.specs.Prelude.{◌≡◌, ◌<◌, length};
-ghost use Rattle.barriers.specs.Code.{Ended, EndsFit};
+ghost use Rattle.barriers.specs.Code.{Ended, EndsFit, Rows};
 ghost use Rattle.plans.specs.Code.{Laid};
 ghost use Rattle.layouts.specs.Layout.{work_in, ranges_of, Stands, Standing, with_ends};
 
@@ -44,19 +44,19 @@ impl Lists {
 
 // Where the phases of processor b end.
 fn put_end(a: &Axis, b: u32, store: &Store, ends: &mut Ends)
-    requires { Laid a.now store.now × (b < a.now.blocks) × (length ends.old ≡ 192) }
+    requires { Laid a.now store.now × (b < a.now.blocks) × Rows ends.old }
     ensures { ends.new ≡ with_ends a.now store.now b ends.old }
 {
     let l = ranges::lengths_of(a, b, store);
     let own = b as usize;
-    ends[own] = l.fused;
-    ends[64 + own] = l.fused + l.peeled;
+    ends[0][own] = l.fused;
+    ends[1][own] = l.fused + l.peeled;
 }
 
 // Where all phases end.
 pub fn put_ends(a: Axis, store: &Store, ends: &mut Ends)
-    requires { Laid a store.now × (length ends.old ≡ 192) × EndsFit ends.old }
-    ensures { Ended (work_in a store.now) ends.new × (length ends.new ≡ 192) }
+    requires { Laid a store.now × Rows ends.old × EndsFit ends.old }
+    ensures { Ended (work_in a store.now) ends.new × Rows ends.new }
 {
     for b in 0..a.blocks {
         put_end(&a, b, store, ends);

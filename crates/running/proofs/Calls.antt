@@ -54,7 +54,7 @@ turn-long w c b cs m = go (next (iteration 0 0) w b cs)
     go waits = refl
     go ends = refl
 
-module _ {w : Work Iteration} {step : Step} {P : ℕ} {es : List ℕ} {xs : List Lists} {c : Store} {bs : List ℕ} (g : Calling w step P es xs c bs) where
+module _ {w : Work Iteration} {step : Step} {P : ℕ} {es : List (List ℕ)} {xs : List Lists} {c : Store} {bs : List ℕ} (g : Calling w step P es xs c bs) where
   -- whatever number is named
   pub phased : Phased w P es
   phased = (g.lent 0).phased

@@ -40,7 +40,7 @@ pub record Closing (w : Work Iteration) (step : Step) (P : ℕ) (c : Store) (mos
   pub long : length m ≡ element_total (table_in c)
   pub left : memory_after step (closing step P n cs m) cs m ≡ memory_after step (closing step P most from begun) from begun
 
-module _ {w : Work Iteration} {step : Step} {P : ℕ} {es : List ℕ} {xs : List Lists} {c : Store} {bs : List ℕ} (g : Calling w step P es xs c bs) where
+module _ {w : Work Iteration} {step : Step} {P : ℕ} {es : List (List ℕ)} {xs : List Lists} {c : Store} {bs : List ℕ} (g : Calling w step P es xs c bs) where
   -- the lowest that can step
   lowest-can : (cs : List ℕ) (m : List Float) → length m ≡ element_total (table_in c) → Reachable w cs
       → lowest P (ready_by P es cs 2) ≡ lowest P (can_step step cs m)
@@ -125,7 +125,7 @@ closing-busy step P (suc n) cs m = go (dec_lt b P) (closing-busy step P n a.coun
     go (no i) ih = rw (le-ltb b P (omega arith))
 
 -- THE ROW: the order's calls, then the closing ones
-pub rowed : {w : Work Iteration} {step : Step} {P : ℕ} {es : List ℕ} {xs : List Lists} {c : Store} {bs order cs : List ℕ} {m mid left : List Float} {n : ℕ} → Calling w step P es xs c bs
+pub rowed : {w : Work Iteration} {step : Step} {P : ℕ} {es : List (List ℕ)} {xs : List Lists} {c : Store} {bs order cs : List ℕ} {m mid left : List Float} {n : ℕ} → Calling w step P es xs c bs
     → Ordered w step c order m cs mid n → (most : ℕ) → most ≡ listed_by P es 2 → left ≡ memory_after step (closing step P most cs mid) cs mid
     → Rowed w step P order m left n
 unfolding row_of

@@ -18,7 +18,7 @@ use Rattle.iterations.specs.Loaded.{Loaded}
 use Rattle.model.specs.declared.Iteration.{Iteration}
 use Rattle.turns.specs.Turn.{Work}
 use Rattle.turns.specs.Reachable.{Reachable}
-use Rattle.barriers.specs.Code.{Ended}
+use Rattle.barriers.specs.Code.{Ended, Rows}
 use Rattle.plans.specs.Plans.{Settings, Planned, planned}
 use Rattle.plans.specs.Code.{planned_in, Laid}
 use Rattle.ranges.specs.Listed.{few-blocks}
@@ -33,12 +33,12 @@ use Rattle.running.specs.Code.{Step, Calling, Rowed}
 use Rattle.running.specs.Runs.{Runs}
 
 -- WHAT THE CODE IS LENT, where the plan is laid out
-module _ (a : Axis) (c : Store) (h : Laid a c) (es : List ℕ) (xs : List Lists) (bs : List ℕ) (loaded : Loaded (table_in c) c bs) (ended : Ended (work_in a c) es)
-    (long : length es ≡ 192) (stands : Standing a c xs a.blocks) where
+module _ (a : Axis) (c : Store) (h : Laid a c) (es : List (List ℕ)) (xs : List Lists) (bs : List ℕ) (loaded : Loaded (table_in c) c bs) (ended : Ended (work_in a c) es)
+    (rows : Rows es) (stands : Standing a c xs a.blocks) where
   calling-by : (step : Step) → ((b : ℕ) (cs : List ℕ) (m : List Float) → length m ≡ element_total (table_in c) → Reachable (work_in a c) cs
       → step b cs m ≡ called (work_in a c) (table_in c) b cs m) → Calling (work_in a c) step a.blocks es xs c bs
   calling-by step calls = record {
-    lent = λ b. lent-in a c h es ended long b xs b bs (λ l. (omega (arith, stands.long, few-blocks a c h), stands.each b l)) loaded;
+    lent = λ b. lent-in a c h es ended rows b xs b bs (λ l. (omega (arith, stands.long, few-blocks a c h), stands.each b l)) loaded;
     calls = calls;
   }
 

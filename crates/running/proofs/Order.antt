@@ -43,7 +43,7 @@ module _ (w : Work Iteration) (step : Step) (c : Store) (order : List ℕ) (begu
     idle-left = omega arith;
   }
 
-  pub going_next : {P : ℕ} {es : List ℕ} {xs : List Lists} {bs : List ℕ} → Calling w step P es xs c bs → (cs ds : List ℕ) (m o : List Float) (n k : ℕ) (said : Report)
+  pub going_next : {P : ℕ} {es : List (List ℕ)} {xs : List Lists} {bs : List ℕ} → Calling w step P es xs c bs → (cs ds : List ℕ) (m o : List Float) (n k : ℕ) (said : Report)
       → Going w step c order begun cs m n k → k < length order → Leaves (called w (table_in c) (get_or order k 0) cs m) ds o said
       → Going w step c order begun ds o (n + idling said) (k + 1)
   going_next g cs ds m o n k said y i h = rw (add-one k) (record {

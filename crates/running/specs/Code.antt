@@ -17,7 +17,7 @@ Step = ℕ → List ℕ → List Float → After Iteration (List Float)
 
 -- `step` is a call of the work w, whatever number it names, from a memory of the table's length and counts that rows reach; and the code is
 -- lent w, each processor's lists at its number
-pub record Calling (w : Work Iteration) (step : Step) (P : ℕ) (ends : List ℕ) (xs : List Lists) (c : Store) (bs : List ℕ) : Type 0 where
+pub record Calling (w : Work Iteration) (step : Step) (P : ℕ) (ends : List (List ℕ)) (xs : List Lists) (c : Store) (bs : List ℕ) : Type 0 where
   pub lent : (b : ℕ) → Lent w P b ends xs b c bs
   pub calls : (b : ℕ) (cs : List ℕ) (m : List Float) → length m ≡ element_total (table_in c) → Reachable w cs → step b cs m ≡ called w (table_in c) b cs m
 

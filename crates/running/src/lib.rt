@@ -15,7 +15,7 @@ ghost use Rattle.running.specs.Code.{Step, CallingIn, Ordered, Rowed};
 ghost use Rattle.running.specs.Idle.{idling};
 ghost use Rattle.running.specs.Runs.{Runs};
 
-use barriers::{Barriers, ENDS};
+use barriers::{Barriers, NO_ENDS};
 use blocks::Axis;
 use layouts::{Lists, PROCESSORS};
 use plans::Settings;
@@ -90,7 +90,7 @@ fn run_planned(a: Axis, order: &[u8], store: &Store, memory: &mut [f64]) -> Resu
     if memory.len() != bases.total() {
         return Err(Refusal::met(Ground::Memory, 0));
     }
-    let mut ends = [0u32; ENDS];
+    let mut ends = NO_ENDS;
     layouts::put_ends(a, store, &mut ends);
     let barriers = Barriers {
         ends: &ends,

@@ -41,7 +41,7 @@ module _ (a : Axis) (c : Store) (b : ℕ) (cs : List ℕ) (m : List Float) where
   unfolding stepped_by
   leaves-unlike e = rw (remembered-unlike elements (length m) (planned_in a c) e) (record { counts-are = refl; memory-is = refl; report-is = refl })
 
-  module _ (long : length m ≡ element_total (table_in c)) (ends : List ℕ) (ended : Ended (work_in a c) ends) (x : Bool)
+  module _ (long : length m ≡ element_total (table_in c)) (ends : List (List ℕ)) (ended : Ended (work_in a c) ends) (x : Bool)
       (asked : x ≡ wrong_by a.blocks ends cs 2) where
     wrong : wrong_state (work_in a c) cs ≡ x
     wrong = sym (asked ∙ wrong-by-open ended cs)

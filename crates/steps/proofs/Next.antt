@@ -26,7 +26,7 @@ use Rattle.stepping.specs.Step.{report_of}
 use Rattle.steps.specs.Lent.{Phased, Listed}
 
 -- a phase that a processor has come to is behind it no further than what it has done
-pub come-used : (es : List ℕ) (b done m : ℕ) → before_by es (come_by es b done m) b ≤ done
+pub come-used : (es : List (List ℕ)) (b done m : ℕ) → before_by es (come_by es b done m) b ≤ done
 come-used es b done zero = omega arith
 come-used es b done (suc m) = go (leb (before_by es (suc m) b) done) refl (come-used es b done m)
   where
@@ -35,7 +35,7 @@ come-used es b done (suc m) = go (leb (before_by es (suc m) b) done) refl (come-
     go true e ih = leb-true (before_by es (suc m) b) done e
     go false e ih = ih
 
-module _ {w : Work Iteration} {P b : ℕ} {es : List ℕ} {xs : List Lists} {at : ℕ} {c : Store} (p : Phased w P es) (h : Listed w b xs at c) (below : b < P)
+module _ {w : Work Iteration} {P b : ℕ} {es : List (List ℕ)} {xs : List Lists} {at : ℕ} {c : Store} (p : Phased w P es) (h : Listed w b xs at c) (below : b < P)
     (cs : List ℕ) (n : ℕ) (found : n ≡ phase_by es 2 b (column cs b)) (small : n < 2) where
   abbrev done : ℕ
   done = column cs b

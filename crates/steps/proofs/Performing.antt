@@ -1,5 +1,5 @@
 -- What a step of a plan that is laid out leaves: 10, or the iteration that it reports, performed.
-use Prim.Native.Nat.{ℕ, suc, ◌+◌, ◌-◌, ◌*◌, ◌≤◌, ◌<◌}
+use Prim.Native.Nat.{ℕ, suc, ◌+◌, ◌-◌, ◌≤◌, ◌<◌}
 use native.Mathlib.Omega.{arith}
 use native.Mathlib.Numerals.{add-one}
 use mathlib.Core.Path.{◌≡◌, refl, sym, ap, subst, ◌∙◌}
@@ -28,13 +28,13 @@ use Rattle.steps.proofs.Same.{called-below, called-past}
 use Rattle.steps.specs.Leaves.{Leaves}
 
 -- a number not below P
-pub leaves-past : {w : Work Iteration} {P b : ℕ} {es : List ℕ} → Phased w P es → (c : Store) (cs : List ℕ) (m : List Float) → P ≤ b
+pub leaves-past : {w : Work Iteration} {P b : ℕ} {es : List (List ℕ)} → Phased w P es → (c : Store) (cs : List ℕ) (m : List Float) → P ≤ b
     → Leaves (called w (table_in c) b cs m) cs m (Refused (met 10 0))
 leaves-past {w} {P} {b} p c cs m past =
     rw (called-past w (table_in c) b cs m (omega (arith, p.counted))) (record { counts-are = refl; memory-is = refl; report-is = refl })
 
 -- ONE BELOW P
-module _ {w : Work Iteration} {P b : ℕ} {es : List ℕ} {xs : List Lists} {at : ℕ} {c : Store} {bs : List ℕ} (h : Lent w P b es xs at c bs) (below : b < P) (cs : List ℕ) where
+module _ {w : Work Iteration} {P b : ℕ} {es : List (List ℕ)} {xs : List Lists} {at : ℕ} {c : Store} {bs : List ℕ} (h : Lent w P b es xs at c bs) (below : b < P) (cs : List ℕ) where
   proper : b < w.processors
   proper = omega (arith, h.phased.counted)
 
@@ -46,7 +46,7 @@ module _ {w : Work Iteration} {P b : ℕ} {es : List ℕ} {xs : List Lists} {at 
       let m = nth-mem (w.list n b) (iteration 0 0) (column cs b - before w n b) i in
       let few : suc n ≤ w.phases = come.proper in (
         subst (Inside (table_in c)) z ((h.listed below).inside n _ (omega (arith, few, t)) m),
-        omega (arith, before-is h.phased.ended (suc n) b few proper, h.phased.ended.small (64 * n + b)),
+        omega (arith, before-is h.phased.ended (suc n) b few proper, h.phased.ended.small n b),
       )
   performs-inside s x (halts n come some which) e = let z : ◌≡◌ {A = ℕ} 0 1 = cc in absurd (omega arith)
   performs-inside s x (stops used opened) e = let z : ◌≡◌ {A = ℕ} 0 1 = cc in absurd (omega arith)

@@ -1,9 +1,9 @@
 -- LAWS: what the code of a step is lent is had of a plan that is laid out.
-use Rattle.std.specs.Prelude.{ℕ, ◌<◌, ◌≡◌, refl, List, length, get_or}
+use Rattle.std.specs.Prelude.{ℕ, ◌<◌, refl, List, length, get_or}
 use Rattle.records.specs.declared.storage.Store.{Store}
 use Rattle.reader.specs.Store.{table_in}
 use Rattle.blocks.specs.declared.Axis.{Axis}
-use Rattle.barriers.specs.Code.{Ended}
+use Rattle.barriers.specs.Code.{Ended, Rows}
 use Rattle.bodies.specs.Workable.{Based}
 use Rattle.iterations.specs.Loaded.{Loaded}
 use Rattle.plans.specs.Code.{Laid}
@@ -15,9 +15,9 @@ use Rattle.steps.specs.Lent.{Phased, Lent}
 pub loaded-in : {a : Axis} {c : Store} → Laid a c → (bs : List ℕ) → Based bs (table_in c).lengths → Loaded (table_in c) c bs
 loaded-in h bs based = record { holds = h.held; valid = h.fit.valid; based = based }
 
-module _ (a : Axis) (c : Store) (h : Laid a c) (ends : List ℕ) (ended : Ended (work_in a c) ends) (long : length ends ≡ 192) where
+module _ (a : Axis) (c : Store) (h : Laid a c) (ends : List (List ℕ)) (ended : Ended (work_in a c) ends) (rows : Rows ends) where
   pub phased-in : Phased (work_in a c) a.blocks ends
-  phased-in = record { counted = refl; few = few-blocks a c h; two = refl; ended = ended; ends-long = long }
+  phased-in = record { counted = refl; few = few-blocks a c h; two = refl; ended = ended; ends-rows = rows }
 
   pub lent-in : (b : ℕ) (xs : List Lists) (at : ℕ) (bs : List ℕ) → (b < a.blocks → (at < length xs) × Stands a c (get_or xs at no_lists) b) → Loaded (table_in c) c bs
       → Lent (work_in a c) a.blocks b ends xs at c bs

@@ -7,7 +7,7 @@ use Rattle.model.specs.Table.{Inside}
 use Rattle.records.specs.declared.storage.Store.{Store}
 use Rattle.reader.specs.Store.{loops_in, table_in}
 use Rattle.turns.specs.Turn.{Work}
-use Rattle.barriers.specs.Code.{Ended}
+use Rattle.barriers.specs.Code.{Ended, Rows}
 use Rattle.iterations.specs.Loaded.{Loaded}
 use Rattle.ranges.specs.Code.{list_of}
 use Rattle.layouts.specs.declared.Lists.{Lists}
@@ -15,12 +15,12 @@ use Rattle.layouts.specs.Layout.{ranges_of, no_lists}
 use Rattle.steps.specs.declared.Layout.{Layout}
 
 -- the numbers say where both phases of w end, for P processors
-pub record Phased (w : Work Iteration) (P : ℕ) (ends : List ℕ) : Type 0 where
+pub record Phased (w : Work Iteration) (P : ℕ) (ends : List (List ℕ)) : Type 0 where
   pub counted : w.processors ≡ P
   pub few : P ≤ 64
   pub two : w.phases ≡ 2
   pub ended : Ended w ends
-  pub ends-long : length ends ≡ 192
+  pub ends-rows : Rows ends
 
 -- processor b's lists stand at `at`, and they are iterations of the table in the store c
 pub record Listed (w : Work Iteration) (b : ℕ) (xs : List Lists) (at : ℕ) (c : Store) : Type 0 where
@@ -30,7 +30,7 @@ pub record Listed (w : Work Iteration) (b : ℕ) (xs : List Lists) (at : ℕ) (c
   pub inside : (n : ℕ) (x : Iteration) → n < 2 → Mem x (w.list n b) → Inside (table_in c) x
 
 -- a call that names b is lent this; bs is where the table's arrays begin. Of a number not below P nothing is asked of the lists
-pub record Lent (w : Work Iteration) (P b : ℕ) (ends : List ℕ) (xs : List Lists) (at : ℕ) (c : Store) (bs : List ℕ) : Type 0 where
+pub record Lent (w : Work Iteration) (P b : ℕ) (ends : List (List ℕ)) (xs : List Lists) (at : ℕ) (c : Store) (bs : List ℕ) : Type 0 where
   pub phased : Phased w P ends
   pub listed : b < P → Listed w b xs at c
   pub loaded : Loaded (table_in c) c bs

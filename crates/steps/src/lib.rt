@@ -15,7 +15,7 @@ ghost use Rattle.steps.specs.Called.{called};
 ghost use Rattle.steps.specs.Leaves.{Leaves};
 ghost use Rattle.steps.specs.Refusing.{refusing};
 
-use barriers::{Barriers, ENDS};
+use barriers::{Barriers, NO_ENDS};
 use blocks::Axis;
 use layouts::Lists;
 use plans::Settings;
@@ -117,7 +117,7 @@ impl Counts {
         if memory.len() != bases.total() {
             return self.refused(Refusal::met(Ground::Memory, 0));
         }
-        let mut ends = [0u32; ENDS];
+        let mut ends = NO_ENDS;
         layouts::put_ends(a, store, &mut ends);
         let barriers = Barriers {
             ends: &ends,

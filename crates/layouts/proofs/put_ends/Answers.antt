@@ -11,4 +11,4 @@ loop-b-preserved c =
 pub returns : goal.returns
 returns c =
     let l = c.loop-b in
-    (ending-all c.args.a c.args.store.now c.requires.0 l.ends l.b l.invariant c.loop-b-test.false, l.invariant.size)
+    (ending-all c.args.a c.args.store.now c.requires.0 l.ends l.b l.invariant c.loop-b-test.false, l.invariant.rows)

@@ -1,5 +1,5 @@
 use mathlib.Core.Path.{refl, sym, ◌∙◌}
-use Rattle.barriers.proofs.Same.{zeros-small}
+use Rattle.barriers.proofs.Same.{zeros-small, zeros-rows}
 use Rattle.iterations.specs.LoadedLaws.{loaded-total}
 use Rattle.plans.specs.Code.{planned_in}
 use Rattle.layouts.specs.Layout.{work_in}
@@ -20,7 +20,7 @@ returns-then-memory-total c =
     (λ s w e. runs-unlike s w a.order.now a.memory.now (planned_in a.a st) e (λ z. c.if-memory-total.true (z ∙ sym n)))
 
 pub put_ends-requires : goal.put_ends-requires
-put_ends-requires c = (c.requires, refl, zeros-small 192)
+put_ends-requires c = (c.requires, zeros-rows, zeros-small 3 64)
 
 pub run_row-requires : goal.run_row-requires
 run_row-requires c =

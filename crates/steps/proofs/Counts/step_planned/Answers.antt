@@ -1,6 +1,6 @@
 use native.Mathlib.Omega.{arith}
-use mathlib.Core.Path.{refl, sym, ◌∙◌}
-use Rattle.barriers.proofs.Same.{zeros-small}
+use mathlib.Core.Path.{sym, ◌∙◌}
+use Rattle.barriers.proofs.Same.{zeros-small, zeros-rows}
 use Rattle.iterations.specs.LoadedLaws.{loaded-total}
 use Rattle.layouts.specs.Layout.{work_in}
 use Rattle.steps.specs.Laid.{loaded-in, lent-in}
@@ -16,7 +16,7 @@ returns-then-memory-total c =
     (leaves-unlike a.a st a.b a.self.done a.memory.now (λ e. c.if-memory-total.true (e ∙ sym n)))
 
 pub put_ends-requires : goal.put_ends-requires
-put_ends-requires c = (c.requires.0, refl, zeros-small 192)
+put_ends-requires c = (c.requires.0, zeros-rows, zeros-small 3 64)
 
 pub returns-then-wrong_state : goal.returns-then-wrong_state
 returns-then-wrong_state c =
