@@ -4,6 +4,7 @@
 ghost use Rattle.std.specs.Prelude.{◌≡◌, ◌+◌, ◌-◌, ◌^◌, ◌≤◌, ◌<◌};
 ghost use Rattle.blocks.specs.Blocks.{lines, start, before, is_short};
 ghost use Rattle.blocks.specs.Sums.{column};
+ghost use Rattle.blocks.specs.Parts.{fused_part, peeled_part};
 ghost use Rattle.blocks.specs.Code.{part_of, block_in};
 
 // The indices from `from` up to `past`, `past` not among them.
@@ -94,35 +95,56 @@ impl Axis {
         }
     }
 
-    // The part of loop k, whose bounds are `own`, that block b has, whose indices are `blk`. The last block peels nothing.
-    #[tactic(auto, unfolding(crate::specs::Parts::fused_part, crate::specs::Parts::peeled_part))]
+    // The fused part of loop k, whose bounds are `own`, in block b, whose indices are `blk`.
+    #[tactic(auto, unfolding(crate::specs::Parts::fused_part))]
+    pub fn fused_part(&self, own: Range, blk: Range, b: u32, k: usize) -> Range
+        requires block { b < self.now.blocks }
+        requires a_loop { k < 16 }
+        requires fits { blk.from + column self.now.peels k < 2 ^ 32 }
+        ensures { result ≡ fused_part own blk self.now.blocks b (column self.now.shifts k) (column self.now.peels k) }
+    {
+        Range {
+            from: if b == 0 {
+                own.from
+            } else {
+                (blk.from + self.peels[k]).max(own.from)
+            },
+            past: if b + 1 == self.blocks {
+                own.past
+            } else {
+                blk.past.saturating_sub(self.shifts[k]).min(own.past)
+            },
+        }
+    }
+
+    // The part of loop k that block b peels: the last block none.
+    #[tactic(auto, unfolding(crate::specs::Parts::peeled_part))]
+    pub fn peeled_part(&self, own: Range, blk: Range, b: u32, k: usize) -> Range
+        requires block { b < self.now.blocks }
+        requires a_loop { k < 16 }
+        requires fits { blk.past + column self.now.peels k < 2 ^ 32 }
+        ensures { result ≡ peeled_part own blk self.now.blocks b (column self.now.shifts k) (column self.now.peels k) }
+    {
+        let blocks = self.blocks;
+        if b + 1 == blocks {
+            return Range { from: 0, past: 0 };
+        }
+        Range {
+            from: blk.past.saturating_sub(self.shifts[k]).max(own.from),
+            past: (blk.past + self.peels[k]).min(own.past),
+        }
+    }
+
+    // The part of loop k, whose bounds are `own`, that block b has, whose indices are `blk`.
     pub fn part(&self, part: Part, own: Range, blk: Range, b: u32, k: usize) -> Range
         requires block { b < self.now.blocks }
         requires a_loop { k < 16 }
         requires fits { (blk.from + column self.now.peels k < 2 ^ 32) × (blk.past + column self.now.peels k < 2 ^ 32) }
         ensures { result ≡ part_of part own blk self.now.blocks b (column self.now.shifts k) (column self.now.peels k) }
     {
-        let shift = self.shifts[k];
-        let peel = self.peels[k];
-        let last = b + 1 == self.blocks;
         match part {
-            Part::Fused => Range {
-                from: if b == 0 {
-                    own.from
-                } else {
-                    (blk.from + peel).max(own.from)
-                },
-                past: if last {
-                    own.past
-                } else {
-                    blk.past.saturating_sub(shift).min(own.past)
-                },
-            },
-            Part::Peeled if last => Range { from: 0, past: 0 },
-            Part::Peeled => Range {
-                from: blk.past.saturating_sub(shift).max(own.from),
-                past: (blk.past + peel).min(own.past),
-            },
+            Part::Fused => self.fused_part(own, blk, b, k),
+            Part::Peeled => self.peeled_part(own, blk, b, k),
         }
     }
 }

@@ -18,6 +18,13 @@ use Rattle.columns.specs.Columns.{array_of, stored_of, ref_at, refs_from, Marked
 use Rattle.columns.specs.declared.Columns.{Columns}
 
 module _ (n : ℕ) (y : Reference) (c : Columns) where
+  -- a reference that is put there leaves the columns as long as they were
+  pub with-lengths : (length (with_reference n y c).arrays ≡ length c.arrays) × (length (with_reference n y c).stored ≡ length c.stored)
+      × (length (with_reference n y c).loops ≡ length c.loops) × (length (with_reference n y c).offsets ≡ length c.offsets)
+  unfolding with_reference
+  with-lengths =
+      (length-set c.arrays n y.array, length-set c.stored n (stored_as y), length-set c.loops n y.number, length-set c.offsets n y.offset)
+
   pub with-sized : Sized c → Sized (with_reference n y c)
   unfolding with_reference
   with-sized z = record {

@@ -37,8 +37,8 @@ use Rattle.amounts.specs.Walked.{ReferenceFits}
 use Rattle.amounts.specs.declared.Amounts.{Amounts}
 use Rattle.blocks.specs.Sums.{some}
 use Rattle.refusals.specs.declared.Refusal.{Refusal}
-use Rattle.refusals.specs.Refusals.{naming}
-use Rattle.refusals.specs.Answers.{accepted, refused, result_of}
+use Rattle.refusals.specs.Refusals.{met, naming}
+use Rattle.refusals.specs.Answers.{accepted, refused, refusal_of, result_of}
 use Rattle.refusals.proofs.AnswerLaws.{answers-accepted, answers-refused, err-refused}
 use Rattle.legality.specs.Written.{amounts_in}
 use Rattle.legality.specs.ByHand.{too_large, first_unmet, judged, by_hand}
@@ -401,6 +401,10 @@ large-any a l m =
     (sym (some-either 16 (λ k. ltb 10000 (get_or a.shifts k 0)) (λ k. ltb 10000 (get_or a.peels k 0))))
 
 -- WHAT THEY ARE REFUSED WITH
+pub judged-large : (t : Table) (a : Amounts) → too_large a ≡ true → met 19 0 ≡ refusal_of (judged t a)
+unfolding judged
+judged-large t a e = sym (rw e)
+
 module _ (t : Table) (a : Amounts) (fine : too_large a ≡ false) where
   pub judged-unmet : (j k : ℕ) → Some (j, k) ≡ pair_of (first_unmet t a) → judged t a ≡ refused (naming 20 j k 0)
   unfolding judged

@@ -112,9 +112,9 @@ module _ (s : List ℕ) (wrong : Bool) (w : Settings) where
   read-refused r e = ap (fitting wrong w) e
 
   module _ (t : Table) (read : table s ≡ accepted t) where
-    pub hand-refused : (r : Refusal) → amounts_for w t ≡ refused r → answer ≡ refused r
+    pub plans-unfit : (r : Refusal) → amounts_for w t ≡ refused r → answer ≡ refused r
     unfolding fitting
-    hand-refused r e = rw (read, e)
+    plans-unfit r e = rw (read, e)
 
     -- where the plan by hand is none, or is accepted, some shifts and peels are
     module _ (o : Option Amounts) (offered : Offered w t o) where

@@ -1,6 +1,6 @@
 -- What is read off a store, and what a row, bounds and counts that are put there leave and hold.
 use Prim.Native.Nat.{ℕ, zero, suc, ◌+◌, ◌<◌}
-use Rattle.std.specs.Prelude.{◌≡◌, get_or, length}
+use Rattle.std.specs.Prelude.{◌≡◌, get_or, take, length}
 use native.Mathlib.Omega.{arith}
 use Rattle.std.proofs.Math.Path.{refl, ap}
 use Rattle.std.proofs.Common.{◌∙◌}
@@ -9,8 +9,8 @@ use Rattle.model.specs.Table.{no_loop, loop, count}
 use Rattle.records.specs.declared.table_rows.Row.{Row}
 use Rattle.records.specs.declared.storage.Store.{Store}
 use Rattle.records.specs.NoRow.{no_row}
-use Rattle.reader.specs.Store.{row_at, array_at, first_at, last_at, start_at, loop_at, loops_from, table_at}
-use Rattle.reader.specs.Store.{with_row, with_bounds}
+use Rattle.reader.specs.Store.{row_at, kind_at, array_at, value_at, kind_number, first_at, last_at, start_at, arrays_in, loops_in, loop_at, loops_from, table_at}
+use Rattle.reader.specs.Store.{with_row, with_bounds, with_counts}
 
 -- the table in the store has so many loops, and each is where it is kept
 module _ (c : Store) where
@@ -61,6 +61,15 @@ module _ (c : Store) (k r : ℕ) (x : Row) where
   unfolding with_row
   row-put few = get_or-set_same c.rows r _ no_row (omega (arith, c.sized.rows_sized))
 
+  pub row-kind : r < 576 → kind_at (with_row k r x c) r ≡ kind_number x.kind
+  row-kind few = ap (λ (y : Row). kind_number y.kind) (row-put few)
+
+  pub row-array : r < 576 → array_at (with_row k r x c) r ≡ x.array
+  row-array few = ap (λ (y : Row). y.array) (row-put few)
+
+  pub row-value : r < 576 → value_at (with_row k r x c) r ≡ x.value
+  row-value few = ap (λ (y : Row). y.value) (row-put few)
+
   pub row-start : k < 17 → start_at (with_row k r x c) k ≡ r + 1
   unfolding with_row
   row-start l = get_or-set_same c.starts k (r + 1) 0 (omega (arith, c.sized.starts_sized))
@@ -78,6 +87,10 @@ module _ (c : Store) (k f l : ℕ) where
   unfolding with_bounds
   bounds-leave = (refl, refl, refl)
 
+  pub bounds-lengths : (n : ℕ) → take n (with_bounds k f l c).lengths ≡ take n c.lengths
+  unfolding with_bounds
+  bounds-lengths n = refl
+
   pub bounds-first : k < 16 → first_at (with_bounds k f l c) k ≡ f
   unfolding with_bounds
   bounds-first few = get_or-set_same c.firsts k f 0 (omega (arith, c.sized.firsts_sized))
@@ -85,3 +98,22 @@ module _ (c : Store) (k f l : ℕ) where
   pub bounds-last : k < 16 → last_at (with_bounds k f l c) k ≡ l
   unfolding with_bounds
   bounds-last few = get_or-set_same c.lasts k l 0 (omega (arith, c.sized.lasts_sized))
+
+-- counts leave all else, and are read back
+module _ (c : Store) (a l : ℕ) where
+  pub counts-leave : ((with_counts a l c).starts ≡ c.starts) × ((with_counts a l c).rows ≡ c.rows)
+      × ((with_counts a l c).firsts ≡ c.firsts) × ((with_counts a l c).lasts ≡ c.lasts)
+  unfolding with_counts
+  counts-leave = (refl, refl, refl, refl)
+
+  pub counts-lengths : (n : ℕ) → take n (with_counts a l c).lengths ≡ take n c.lengths
+  unfolding with_counts
+  counts-lengths n = refl
+
+  pub counts-arrays : arrays_in (with_counts a l c) ≡ a
+  unfolding with_counts
+  counts-arrays = refl
+
+  pub counts-loops : loops_in (with_counts a l c) ≡ l
+  unfolding with_counts
+  counts-loops = refl

@@ -2,7 +2,7 @@ use mathlib.Core.Path.{◌∙◌, sym}
 use Rattle.std.proofs.lemmas.Result.{err_from_is_err_and}
 use Rattle.reader.specs.Store.{table_in}
 use Rattle.tables.proofs.Nine.{valid}
-use Rattle.plans.proofs.Laws.{read-refused, hand-refused, plans-ten, plans-seventeen, plans-chosen}
+use Rattle.plans.proofs.Laws.{read-refused, plans-unfit, plans-ten, plans-seventeen, plans-chosen}
 use Rattle.plans.proofs.plan_unless.Goals as goal
 
 pub returns-in_err-read_through : goal.returns-in_err-read_through
@@ -15,7 +15,7 @@ pub returns-in_err-hand : goal.returns-in_err-hand
 returns-in_err-hand c =
     let a = c.args in
     let p = err_from_is_err_and c.from_residual-in_err-hand.result c.from_residual-in_err-hand.ensures.1 in
-    rw (p.1, p.2) (hand-refused a.s.now a.wrong a.w _ c.in_ok-read_through.ensures.0 _ c.in_err-hand.ensures)
+    rw (p.1, p.2) (plans-unfit a.s.now a.wrong a.w _ c.in_ok-read_through.ensures.0 _ c.in_err-hand.ensures)
 
 pub returns-then-wrong : goal.returns-then-wrong
 returns-then-wrong c =
