@@ -4,6 +4,7 @@
 ghost use Rattle.std.specs.Prelude.{◌≡◌, ◌<◌, length};
 ghost use Rattle.barriers.specs.Code.{Ended, EndsFit, Rows};
 ghost use Rattle.plans.specs.Code.{Laid};
+ghost use Rattle.ranges.specs.Empty.{Empty};
 ghost use Rattle.layouts.specs.Layout.{work_in, ranges_of, Stands, Standing, with_ends};
 
 use barriers::Ends;
@@ -23,7 +24,9 @@ pub struct Lists {
 
 impl Lists {
     // With no range in them.
-    pub fn new() -> Self {
+    pub fn new() -> Self
+        ensures { Empty result.fused × Empty result.peeled }
+    {
         Lists {
             fused: PhaseRanges::new(),
             peeled: PhaseRanges::new(),

@@ -7,6 +7,7 @@ ghost use Rattle.reader.specs.Store.{last_at, loops_in, table_in};
 ghost use Rattle.blocks.specs.Sums.{column};
 ghost use Rattle.lists.specs.Fusion.{fusion_in, work};
 ghost use Rattle.plans.specs.Code.{Laid};
+ghost use Rattle.ranges.specs.Empty.{Empty};
 ghost use Rattle.ranges.specs.Code.{part_in, part_at, range_of, Measures, list_of, RangesKept};
 
 mod phase_ranges;
@@ -51,7 +52,9 @@ pub fn range_at(part: Part, a: &Axis, blk: Range, b: u32, k: usize, store: &Stor
 
 impl PhaseRanges {
     // With no range in it.
-    pub fn new() -> Self {
+    pub fn new() -> Self
+        ensures { Empty result }
+    {
         PhaseRanges {
             froms: [0; 16],
             pasts: [0; 16],
