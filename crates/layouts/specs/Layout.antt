@@ -1,5 +1,5 @@
 -- A plan laid out: for each processor where its phases end, and its lists.
-use Rattle.std.specs.Prelude.{ℕ, zero, suc, ◌<◌, ◌≡◌, List, [], length, get_or, set, replicate}
+use Rattle.std.specs.Prelude.{ℕ, zero, suc, ◌≤◌, ◌<◌, ◌≡◌, List, [], length, get_or, set, replicate}
 use Rattle.std.proofs.lemmas.List.{length-replicate}
 use mathlib.Core.List.{Memᴰ as Mem}
 use Rattle.model.specs.declared.Iteration.{Iteration}
@@ -50,7 +50,7 @@ module _ (a : Axis) (c : Store) where
 
   -- so are those of the first n processors, each in its own place
   pub record Standing (xs : List Lists) (n : ℕ) : Type 0 where
-    pub long : length xs ≡ 64
+    pub long : 64 ≤ length xs
     pub each : (b : ℕ) → b < n → Stands (get_or xs b no_lists) b
 
   -- the rows with where processor b's phases end

@@ -1,7 +1,7 @@
 // A plan laid out: for each processor where its phases end, and its lists.
 #![tactic(auto)]
 
-ghost use Rattle.std.specs.Prelude.{◌≡◌, ◌<◌, length};
+ghost use Rattle.std.specs.Prelude.{◌≡◌, ◌≤◌, ◌<◌, length};
 ghost use Rattle.barriers.specs.Code.{Ended, EndsFit, Rows};
 ghost use Rattle.plans.specs.Code.{Laid};
 ghost use Rattle.ranges.specs.Empty.{Empty};
@@ -76,8 +76,8 @@ pub fn put_lists(a: Axis, b: u32, store: &Store, lists: &mut Lists)
 }
 
 // The lists of all processors.
-pub fn put_all_lists(a: Axis, store: &Store, lists: &mut [Lists; PROCESSORS])
-    requires { Laid a store.now × (length lists.old ≡ 64) }
+pub fn put_all_lists(a: Axis, store: &Store, lists: &mut [Lists])
+    requires { Laid a store.now × (64 ≤ length lists.old) }
     ensures { Standing a store.now lists.new a.blocks }
 {
     for b in 0..a.blocks {

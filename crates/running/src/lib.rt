@@ -98,7 +98,7 @@ fn run_planned(a: Axis, order: &[u8], store: &Store, memory: &mut [f64]) -> Resu
         phases: PHASES,
     };
     let mut lists = [Lists::new(); PROCESSORS];
-    layouts::put_all_lists(a, store, &mut lists);
+    layouts::put_all_lists(a, store, &mut lists[..]);
     let layout = Layout {
         barriers: &barriers,
         lists: &lists[..],
