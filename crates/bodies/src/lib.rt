@@ -14,6 +14,13 @@ ghost use Rattle.bodies.specs.Stopped.{Stepped, Stopped};
 
 use records::{RowKind, Store};
 
+// A table's rows in a store, with where its arrays begin in the memory.
+#[derive(Clone, Copy)]
+pub struct Placed<'a> {
+    pub store: &'a Store,
+    pub bases: &'a [u32; 17],
+}
+
 // The values waiting in a body, with their count.
 #[derive(Clone, Copy, Default)]
 pub struct Waiting {
@@ -55,16 +62,6 @@ fn constant(n: u32) -> f64
     n as f64
 }
 
-// Element i + offset - 255 of an array.
-fn element(array: u32, offset: u32, bases: &[u32; 17], i: usize, memory: &[f64]) -> f64
-    requires { (i < 2 ^ 32) × Element bases.now i (length memory.now) array offset }
-    ensures { result ≡ get_or memory.now (get_or bases.now array 0 + (i + offset - 255)) nan }
-{
-    let base = bases[array as usize] as usize;
-    let at = i + (offset as usize) - 255;
-    memory[base + at]
-}
-
 // Puts x over the n values that wait; like each of the next four, it answers how many then wait. The count goes by value, and not in a struct
 // with the values: there it is in memory at each item, which took a third more time.
 fn push(vs: &mut [f64; 8], n: usize, x: f64) -> usize
@@ -103,32 +100,61 @@ fn apply(vs: &mut [f64; 8], n: usize, op: u32) -> usize
     combine(vs, n, op)
 }
 
-// Works a row in iteration i, and answers how many then wait; of a destination's, at which the items end, nothing. A match of all four kinds
-// becomes a jump by a table, which is slower than these tests.
-fn work_row(
-    vs: &mut [f64; 8],
-    n: usize,
-    store: &Store,
-    row: usize,
-    bases: &[u32; 17],
-    i: usize,
-    memory: &[f64],
-) -> Option<usize>
-    requires row_bound { (row < 576) × (i < 2 ^ 32) × (length vs.old ≡ 8) }
-    requires ready { (kind_at store.now row ≡ 1 → ⊥) → Ready bases.now i (length memory.now) (item_at store.now row) n }
-    ensures { Stepped bases.now i memory.now store.now row vs.old n vs.new result }
-{
-    let array = reader::array_at(store, row);
-    let value = reader::value_at(store, row);
-    if reader::is_reference(store, row) {
-        if reader::is_destination(store, row) {
-            return None;
-        }
-        return Some(push(vs, n, element(array, value, bases, i, memory)));
+impl Placed<'_> {
+    // Element i + offset - 255 of an array.
+    fn element(&self, array: u32, offset: u32, i: usize, memory: &[f64]) -> f64
+        requires { (i < 2 ^ 32) × Element self.now.bases.now i (length memory.now) array offset }
+        ensures { result ≡ get_or memory.now (get_or self.now.bases.now array 0 + (i + offset - 255)) nan }
+    {
+        let base = self.bases[array as usize] as usize;
+        let at = i + (offset as usize) - 255;
+        memory[base + at]
     }
-    match reader::kind_at(store, row) {
-        RowKind::Operation => Some(apply(vs, n, value)),
-        _ => Some(push(vs, n, constant(value))),
+
+    // Works a row in iteration i, and answers how many then wait; of a destination's, at which the items end, nothing. A match of all four kinds
+    // becomes a jump by a table, which is slower than these tests.
+    fn work_row(
+        &self,
+        vs: &mut [f64; 8],
+        n: usize,
+        row: usize,
+        i: usize,
+        memory: &[f64],
+    ) -> Option<usize>
+        requires row_bound { (row < 576) × (i < 2 ^ 32) × (length vs.old ≡ 8) }
+        requires ready { (kind_at self.now.store.now row ≡ 1 → ⊥) → Ready self.now.bases.now i (length memory.now) (item_at self.now.store.now row) n }
+        ensures { Stepped self.now.bases.now i memory.now self.now.store.now row vs.old n vs.new result }
+    {
+        let store = self.store;
+        let array = reader::array_at(store, row);
+        let value = reader::value_at(store, row);
+        if reader::is_reference(store, row) {
+            if reader::is_destination(store, row) {
+                return None;
+            }
+            return Some(push(vs, n, self.element(array, value, i, memory)));
+        }
+        match reader::kind_at(store, row) {
+            RowKind::Operation => Some(apply(vs, n, value)),
+            _ => Some(push(vs, n, constant(value))),
+        }
+    }
+
+    // The value in iteration i of the body in the rows from `from` up to the first destination's or up to `past`.
+    pub fn value_of(&self, from: usize, past: usize, i: usize, memory: &[f64]) -> Valued
+        requires from_le_past { (from ≤ past) × (past ≤ 576) × (i < 2 ^ 32) }
+        requires works { Works (lead_from self.now.store.now from (past - from) []) 0 }
+        requires reads_within { ReadsWithin self.now.bases.now i (length memory.now) (lead_from self.now.store.now from (past - from) []) }
+        ensures stopped { Stopped self.now.store.now from past result.row }
+        ensures by_index { (ns : List ℕ) → Based self.now.bases.now ns → result.value ≡ value ns i (lead_from self.now.store.now from (past - from) []) memory.now }
+    {
+        let none = Waiting::default();
+        let worked = none.work_rows(self, from, past, i, memory);
+        let waiting = worked.waiting;
+        Valued {
+            value: waiting.values[0],
+            row: worked.row,
+        }
     }
 }
 
@@ -136,25 +162,24 @@ impl Waiting {
     // Works the items of the rows from `from` up to the first destination's or up to `past`, in iteration i.
     pub fn work_rows(
         self,
-        store: &Store,
-        bases: &[u32; 17],
+        table: &Placed,
         from: usize,
         past: usize,
         i: usize,
         memory: &[f64],
     ) -> Worked
         requires from_le_past { (from ≤ past) × (past ≤ 576) × (i < 2 ^ 32) × (self.count ≤ 8) }
-        requires works { Works (lead_from store.now from (past - from) []) self.count }
-        requires reads_within { ReadsWithin bases.now i (length memory.now) (lead_from store.now from (past - from) []) }
-        ensures count_value { (result.waiting.count ≡ 1) × Stopped store.now from past result.row }
-        ensures by_index { (ns : List ℕ) → Based bases.now ns → waiting result.waiting ≡ worked_all ns i memory.now (lead_from store.now from (past - from) []) (waiting self) }
+        requires works { Works (lead_from table.now.store.now from (past - from) []) self.count }
+        requires reads_within { ReadsWithin table.now.bases.now i (length memory.now) (lead_from table.now.store.now from (past - from) []) }
+        ensures count_value { (result.waiting.count ≡ 1) × Stopped table.now.store.now from past result.row }
+        ensures by_index { (ns : List ℕ) → Based table.now.bases.now ns → waiting result.waiting ≡ worked_all ns i memory.now (lead_from table.now.store.now from (past - from) []) (waiting self) }
     {
         let Waiting {
             mut values,
             mut count,
         } = self;
         for row in from..past {
-            match work_row(&mut values, count, store, row, bases, i, memory) {
+            match table.work_row(&mut values, count, row, i, memory) {
                 Some(next) => count = next,
                 None => {
                     let waiting = Waiting { values, count };
@@ -164,30 +189,5 @@ impl Waiting {
         }
         let waiting = Waiting { values, count };
         Worked { waiting, row: past }
-    }
-}
-
-// The value in iteration i of the body in the rows from `from` up to the first destination's or up to `past`; `bases` are where the
-// arrays begin in the memory.
-pub fn value_of(
-    store: &Store,
-    bases: &[u32; 17],
-    from: usize,
-    past: usize,
-    i: usize,
-    memory: &[f64],
-) -> Valued
-    requires from_le_past { (from ≤ past) × (past ≤ 576) × (i < 2 ^ 32) }
-    requires works { Works (lead_from store.now from (past - from) []) 0 }
-    requires reads_within { ReadsWithin bases.now i (length memory.now) (lead_from store.now from (past - from) []) }
-    ensures stopped { Stopped store.now from past result.row }
-    ensures by_index { (ns : List ℕ) → Based bases.now ns → result.value ≡ value ns i (lead_from store.now from (past - from) []) memory.now }
-{
-    let none = Waiting::default();
-    let worked = none.work_rows(store, bases, from, past, i, memory);
-    let waiting = worked.waiting;
-    Valued {
-        value: waiting.values[0],
-        row: worked.row,
     }
 }

@@ -14,6 +14,7 @@ ghost use Rattle.outputs.specs.Given.{fitted};
 ghost use Rattle.outputs.specs.Gives.{Gives};
 ghost use Rattle.facts.specs.Facts.{facts_of, facts_given};
 
+use bodies::Placed;
 use numbers::PAIR;
 use records::Store;
 use refusals::Refusal;
@@ -32,12 +33,12 @@ fn put_counts(out: &mut Writer, arrays: usize, loops: usize, elements: u32)
 }
 
 // Each array's first element in the memory, and its length.
-fn put_arrays(out: &mut Writer, arrays: usize, bases: &[u32; 17], store: &Store)
+fn put_arrays(out: &mut Writer, arrays: usize, table: &Placed)
     requires { (out.old.at < 2 ^ 32) × (arrays ≤ 16) }
-    ensures { Puts out.old (encoded (joined arrays (λ q. get_or bases.now q 0 ∷ get_or store.now.lengths q 0 ∷ []))) (8 * arrays) out.new }
+    ensures { Puts out.old (encoded (joined arrays (λ q. get_or table.now.bases.now q 0 ∷ get_or table.now.store.now.lengths q 0 ∷ []))) (8 * arrays) out.new }
 {
     for q in 0..arrays {
-        numbers::put_pair(out, bases[q], store.lengths[q]);
+        numbers::put_pair(out, table.bases[q], table.store.lengths[q]);
     }
 }
 
@@ -53,16 +54,17 @@ fn put_bounds(out: &mut Writer, loops: usize, store: &Store)
     }
 }
 
-// All of them; `bases` are where the arrays begin, and past the last one where the memory ends.
-fn write_facts(out: &mut [u8], bases: &[u32; 17], store: &Store) -> usize
-    requires { Held store.now × Based bases.now (table_in store.now).lengths }
-    ensures { Put out.old 0 (encoded (facts_of (table_in store.now))) 268 out.new result }
+// All of them. Past the last array the memory ends.
+fn write_facts(out: &mut [u8], table: &Placed) -> usize
+    requires { Held table.now.store.now × Based table.now.bases.now (table_in table.now.store.now).lengths }
+    ensures { Put out.old 0 (encoded (facts_of (table_in table.now.store.now))) 268 out.new result }
 {
+    let store = table.store;
     let arrays = reader::arrays_in(store);
     let loops = reader::loops_in(store);
     let mut facts = Writer::new(out);
-    put_counts(&mut facts, arrays, loops, bases[16]);
-    put_arrays(&mut facts, arrays, bases, store);
+    put_counts(&mut facts, arrays, loops, table.bases[16]);
+    put_arrays(&mut facts, arrays, table);
     put_bounds(&mut facts, loops, store);
     facts.count()
 }
@@ -76,8 +78,12 @@ fn give_facts(out: &mut [u8], store: &Store) -> Result<usize, Refusal>
     if out.len() < COUNTS + PAIR * pairs {
         return Err(outputs::short());
     }
-    let bases = iterations::bases_of(store).firsts;
-    Ok(write_facts(out, &bases, store))
+    let bases = iterations::bases_of(store);
+    let table = Placed {
+        store,
+        bases: &bases.firsts,
+    };
+    Ok(write_facts(out, &table))
 }
 
 // Facts of a table.

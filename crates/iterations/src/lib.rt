@@ -12,6 +12,7 @@ ghost use Rattle.iterations.specs.Memory.{element_total};
 ghost use Rattle.iterations.specs.Loaded.{Loaded};
 ghost use Rattle.iterations.specs.Runnable.{Performable, Runnable};
 
+use bodies::Placed;
 use records::Store;
 
 // Where each array begins in the memory; past the last one, where the memory ends.
@@ -68,35 +69,28 @@ fn store(part: &mut [f64], at: usize, x: f64)
     part[at] = canonical(x);
 }
 
-// Stores x at element i + offset - 255 of an array; `bases` are where the arrays begin in the memory.
-fn store_in(array: u32, offset: u32, bases: &[u32; 17], i: usize, memory: &mut [f64], x: f64)
-    requires { (i < 2 ^ 32) × Element bases.now i (length memory.old) array offset }
-    ensures { memory.new ≡ set memory.old (get_or bases.now array 0 + (i + offset - 255)) x }
+// Stores x at element i + offset - 255 of an array.
+fn store_in(array: u32, offset: u32, table: &Placed, i: usize, memory: &mut [f64], x: f64)
+    requires { (i < 2 ^ 32) × Element table.now.bases.now i (length memory.old) array offset }
+    ensures { memory.new ≡ set memory.old (get_or table.now.bases.now array 0 + (i + offset - 255)) x }
 {
-    let base = bases[array as usize] as usize;
+    let base = table.bases[array as usize] as usize;
     let at = i + (offset as usize) - 255;
     store(&mut memory[base..], at, x);
 }
 
 // Iteration i of the statement whose destination is in row `row`; answers the row of the next one, or `past`.
-fn run_statement(
-    store: &Store,
-    bases: &[u32; 17],
-    row: usize,
-    past: usize,
-    i: usize,
-    memory: &mut [f64],
-) -> usize
+fn run_statement(table: &Placed, row: usize, past: usize, i: usize, memory: &mut [f64]) -> usize
     requires row_lt_past { (row < past) × (past ≤ 576) × (i < 2 ^ 32) }
-    requires performable { Performable bases.now i (length memory.old) (statement_at store.now row (past - suc row) []) }
-    ensures stopped { Stopped store.now (suc row) past result }
-    ensures by_index { (ns : List ℕ) → Based bases.now ns → memory.new ≡ performed ns i (statement_at store.now row (past - suc row) []) memory.old }
+    requires performable { Performable table.now.bases.now i (length memory.old) (statement_at table.now.store.now row (past - suc row) []) }
+    ensures stopped { Stopped table.now.store.now (suc row) past result }
+    ensures by_index { (ns : List ℕ) → Based table.now.bases.now ns → memory.new ≡ performed ns i (statement_at table.now.store.now row (past - suc row) []) memory.old }
 {
-    let x = bodies::value_of(store, bases, row + 1, past, i, &memory[..]);
+    let x = table.value_of(row + 1, past, i, &memory[..]);
     store_in(
-        reader::array_at(store, row),
-        reader::value_at(store, row),
-        bases,
+        reader::array_at(table.store, row),
+        reader::value_at(table.store, row),
+        table,
         i,
         memory,
         x.value,
@@ -106,33 +100,26 @@ fn run_statement(
 
 // Iteration i of the statements in the rows from `from` up to `past`, each stored before the next begins. The first stands before the loop: what
 // it asks of its row is then asked once for all iterations of a loop, and most loops have no other.
-pub fn run_rows(
-    store: &Store,
-    bases: &[u32; 17],
-    from: usize,
-    past: usize,
-    i: usize,
-    memory: &mut [f64],
-)
-    requires past_bound { (past ≤ 576) × (i < 2 ^ 32) × Opens store.now from past }
-    requires runnable { Runnable bases.now i (length memory.old) (statements_from store.now from (past - from)) }
-    ensures { (ns : List ℕ) → Based bases.now ns → memory.new ≡ run_all (performed ns i) (statements_from store.now from (past - from)) memory.old }
+pub fn run_rows(table: &Placed, from: usize, past: usize, i: usize, memory: &mut [f64])
+    requires past_bound { (past ≤ 576) × (i < 2 ^ 32) × Opens table.now.store.now from past }
+    requires runnable { Runnable table.now.bases.now i (length memory.old) (statements_from table.now.store.now from (past - from)) }
+    ensures { (ns : List ℕ) → Based table.now.bases.now ns → memory.new ≡ run_all (performed ns i) (statements_from table.now.store.now from (past - from)) memory.old }
 {
     if past <= from {
         return;
     }
-    let mut row = run_statement(store, bases, from, past, i, memory);
+    let mut row = run_statement(table, from, past, i, memory);
     while row < past {
-        row = run_statement(store, bases, row, past, i, memory);
+        row = run_statement(table, row, past, i, memory);
     }
 }
 
 // Iteration `index` of loop `number`, of a table in a store.
-pub fn iterate(store: &Store, bases: &[u32; 17], number: usize, index: usize, memory: &mut [f64])
-    requires { (t : Table) × Loaded t store.now bases.now × Inside t (iteration number index) × (length memory.old ≡ element_total t) }
-    ensures { (t : Table) → Loaded t store.now bases.now → Inside t (iteration number index) → memory.new ≡ run t (iteration number index) memory.old }
+pub fn iterate(table: &Placed, number: usize, index: usize, memory: &mut [f64])
+    requires { (t : Table) × Loaded t table.now.store.now table.now.bases.now × Inside t (iteration number index) × (length memory.old ≡ element_total t) }
+    ensures { (t : Table) → Loaded t table.now.store.now table.now.bases.now → Inside t (iteration number index) → memory.new ≡ run t (iteration number index) memory.old }
 {
-    let from = reader::start_at(store, number);
-    let past = reader::start_at(store, number + 1);
-    run_rows(store, bases, from, past, index, memory);
+    let from = reader::start_at(table.store, number);
+    let past = reader::start_at(table.store, number + 1);
+    run_rows(table, from, past, index, memory);
 }

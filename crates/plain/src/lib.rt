@@ -17,48 +17,49 @@ ghost use Rattle.iterations.specs.Runnable.{Runnable};
 ghost use Rattle.plain.specs.Plain.{plain_answer, run_of, plain_memory};
 ghost use Rattle.plain.specs.Running.{Running};
 
+use bodies::Placed;
 use records::Store;
 use refusals::{Ground, Refusal};
 
 // Iterations `first` to `last` of the statements in the rows from `from` up to `past`.
 pub fn run_range(
-    store: &Store,
-    bases: &[u32; 17],
+    table: &Placed,
     from: usize,
     past: usize,
     first: usize,
     last: usize,
     memory: &mut [f64],
 )
-    requires past_bound { (past ≤ 576) × (last < 2 ^ 32) × Opens store.now from past }
-    requires by_index { (i : ℕ) → first ≤ i → i ≤ last → Runnable bases.now i (length memory.old) (statements_from store.now from (past - from)) }
-    ensures { (ns : List ℕ) → Based bases.now ns → memory.new ≡ upward (λ i. run_all (performed ns i) (statements_from store.now from (past - from))) first (suc last - first) memory.old }
+    requires past_bound { (past ≤ 576) × (last < 2 ^ 32) × Opens table.now.store.now from past }
+    requires by_index { (i : ℕ) → first ≤ i → i ≤ last → Runnable table.now.bases.now i (length memory.old) (statements_from table.now.store.now from (past - from)) }
+    ensures { (ns : List ℕ) → Based table.now.bases.now ns →
+        memory.new ≡ upward (λ i. run_all (performed ns i) (statements_from table.now.store.now from (past - from))) first (suc last - first) memory.old }
 {
     for i in first..=last {
-        iterations::run_rows(store, bases, from, past, i, memory);
+        iterations::run_rows(table, from, past, i, memory);
     }
 }
 
 // One loop, from first to last.
-fn run_loop(number: usize, store: &Store, bases: &[u32; 17], memory: &mut [f64])
-    requires { Running store.now bases.now memory.old × (number < count (table_in store.now)) }
-    ensures { memory.new ≡ looped (table_in store.now) number memory.old }
+fn run_loop(number: usize, table: &Placed, memory: &mut [f64])
+    requires { Running table.now.store.now table.now.bases.now memory.old × (number < count (table_in table.now.store.now)) }
+    ensures { memory.new ≡ looped (table_in table.now.store.now) number memory.old }
 {
-    let from = reader::start_at(store, number);
-    let past = reader::start_at(store, number + 1);
-    let first = reader::first_at(store, number) as usize;
-    let last = reader::last_at(store, number) as usize;
-    run_range(store, bases, from, past, first, last, memory);
+    let from = reader::start_at(table.store, number);
+    let past = reader::start_at(table.store, number + 1);
+    let first = reader::first_at(table.store, number) as usize;
+    let last = reader::last_at(table.store, number) as usize;
+    run_range(table, from, past, first, last, memory);
 }
 
 // All loops, in table order.
-fn run_loops(store: &Store, bases: &[u32; 17], memory: &mut [f64])
-    requires { Running store.now bases.now memory.old }
-    ensures { memory.new ≡ plain_run (table_in store.now) memory.old }
+fn run_loops(table: &Placed, memory: &mut [f64])
+    requires { Running table.now.store.now table.now.bases.now memory.old }
+    ensures { memory.new ≡ plain_run (table_in table.now.store.now) memory.old }
 {
-    let loops = reader::loops_in(store);
+    let loops = reader::loops_in(table.store);
     for k in 0..loops {
-        run_loop(k, store, bases, memory);
+        run_loop(k, table, memory);
     }
 }
 
@@ -72,7 +73,11 @@ fn run_table(store: &Store, memory: &mut [f64]) -> Result<(), Refusal>
     if memory.len() != bases.total() {
         return Err(Refusal::met(Ground::Memory, 0));
     }
-    run_loops(store, &bases.firsts, memory);
+    let table = Placed {
+        store,
+        bases: &bases.firsts,
+    };
+    run_loops(&table, memory);
     Ok(())
 }
 

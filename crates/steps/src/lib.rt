@@ -17,6 +17,7 @@ ghost use Rattle.steps.specs.Refusing.{refusing};
 
 use barriers::{Barriers, NO_ENDS};
 use blocks::Axis;
+use bodies::Placed;
 use layouts::Lists;
 use plans::Settings;
 use ranges::PHASES;
@@ -99,7 +100,11 @@ impl Counts {
         }
         let report = layout.next_of(&self.done, b, at);
         if let Report::Performed { number, index } = report {
-            iterations::iterate(layout.store, layout.bases, number, index, memory);
+            let table = Placed {
+                store: layout.store,
+                bases: layout.bases,
+            };
+            iterations::iterate(&table, number, index, memory);
             self.done[b as usize] += 1;
         }
         Stepped {

@@ -11,5 +11,5 @@ returns c =
     let p = rw m at (rw n at c.put_counts.ensures) in
     let q = rw n at c.put_arrays.ensures in
     let r = rw m at c.put_bounds.ensures in
-    let w = puts-first c.new-facts.ensures.bytes c.new-facts.ensures.place (facts-put a.store.now a.bases.now c.requires.0 c.requires.1 p q r) in
+    let w = puts-first c.new-facts.ensures.bytes c.new-facts.ensures.place (facts-put a.table.now.store.now a.table.now.bases.now c.requires.0 c.requires.1 p q r) in
     search rules

@@ -10,7 +10,7 @@ returns-clause-by_index c =
     let a = c.args in
     let value = rw (add-one a.row) at c.value_of-x.ensures.by_index in
     let y = rw (c.value_at.ensures, c.array_at.ensures) at c.store_in.ensures in
-    statement-stored a.bases.now a.i (statement_at a.store.now a.row (a.past - suc a.row) []) a.memory.now _
+    statement-stored a.table.now.bases.now a.i (statement_at a.table.now.store.now a.row (a.past - suc a.row) []) a.memory.now _
     c.value_of-x.result.value c.requires.performable.stores.0 value y
 
 pub returns-clause-stopped : goal.returns-clause-stopped

@@ -7,4 +7,4 @@ pub returns : goal.returns
 returns c =
     let a = c.args in
     rw c.store.ensures
-    (part-stored a.memory.now (get_or a.bases.now a.array 0) (a.i + a.offset - 255) a.x c.requires.1.2)
+    (part-stored a.memory.now (get_or a.table.now.bases.now a.array 0) (a.i + a.offset - 255) a.x c.requires.1.2)

@@ -10,7 +10,7 @@ loop-row-init c =
     let a = c.args in
     let p = c.requires in
     let long : length a.self.values ≡ 8 = search rules in
-    rows_start a.bases.now a.i a.memory.now a.store.now a.from a.past a.self long p.from_le_past.0 p.from_le_past.3 p.works
+    rows_start a.table.now.bases.now a.i a.memory.now a.table.now.store.now a.from a.past a.self long p.from_le_past.0 p.from_le_past.3 p.works
     p.reads_within
 
 pub work_row-requires : goal.work_row-requires
@@ -19,7 +19,7 @@ work_row-requires c =
     let l = c.loop-row in record {
       row_bound = (omega (arith, c.requires.from_le_past.1, c.loop-row-test.true), c.requires.from_le_past.2, l.invariant.long);
       ready =
-          rows-ready a.bases.now a.i a.memory.now a.store.now a.from a.past a.self l.row (record { values = l.values; count = l.count }) l.invariant
+          rows-ready a.table.now.bases.now a.i a.memory.now a.table.now.store.now a.from a.past a.self l.row (record { values = l.values; count = l.count }) l.invariant
           c.loop-row-test.true;
     }
 
@@ -28,7 +28,7 @@ loop-row-preserved c =
     let a = c.args in
     let l = c.loop-row in
     let w = c.work_row in
-    rows_next a.bases.now a.i a.memory.now a.store.now a.from a.past a.self l.row (record { values = l.values; count = l.count }) l.invariant
+    rows_next a.table.now.bases.now a.i a.memory.now a.table.now.store.now a.from a.past a.self l.row (record { values = l.values; count = l.count }) l.invariant
     c.loop-row-test.true w.new.vs w.result w.ensures c.in-Some.next c.in-Some.is
 
 pub returns-in-None : goal.returns-in-None
@@ -36,7 +36,7 @@ returns-in-None c =
     let a = c.args in
     let l = c.loop-row in
     let w = c.work_row in
-    let both = rows-met a.bases.now a.i a.memory.now a.store.now a.from a.past a.self l.row (record { values = l.values; count = l.count }) l.invariant
+    let both = rows-met a.table.now.bases.now a.i a.memory.now a.table.now.store.now a.from a.past a.self l.row (record { values = l.values; count = l.count }) l.invariant
     c.loop-row-test.true w.new.vs w.result w.ensures c.in-None.is in
     record { count_value = both.0; by_index = both.1 }
 
@@ -44,6 +44,6 @@ pub returns : goal.returns
 returns c =
     let a = c.args in
     let l = c.loop-row in
-    let both = rows_end a.bases.now a.i a.memory.now a.store.now a.from a.past a.self l.row (record { values = l.values; count = l.count }) l.invariant
+    let both = rows_end a.table.now.bases.now a.i a.memory.now a.table.now.store.now a.from a.past a.self l.row (record { values = l.values; count = l.count }) l.invariant
     c.loop-row-test.false in
     record { count_value = both.0; by_index = both.1 }
