@@ -15,6 +15,8 @@ use Rattle.order.specs.Reorder.{run_all-append}
 use Rattle.model.specs.declared.Reference.{Reference}
 use Rattle.model.specs.Table.{Table, count}
 use Rattle.model.specs.References.{touch, refs, all_refs}
+use Rattle.records.specs.declared.storage.Store.{Store}
+use Rattle.reader.specs.StoreLaws.{array_small}
 use Rattle.reader.specs.Store.{first_at, last_at, start_at, kind_at, value_at, table_in}
 use Rattle.reader.specs.Held.{Held, first-held, last-held, count_held, few-loops, few-rows}
 use Rattle.reader.specs.Rows.{ref_in, refs_in}
@@ -37,7 +39,7 @@ use Rattle.columns.specs.Columns.{ref_at, refs_from, Marked, no_references, with
 use Rattle.columns.specs.ColumnLaws.{with-sized, other-marked, here-marked, refs-with, refs-length, refs-mem, refs-first, refs-next, refs_end}
 use Rattle.amounts.specs.Walked.{ReferenceFits, Pairable, Earlier, NextStep, SomeNext, Taken, Bounded, numbers_in, Walked}
 
-pub count-few : {c : List ℕ} → Held c → count (table_in c) ≤ 16
+pub count-few : {c : Store} → Held c → count (table_in c) ≤ 16
 count-few h = omega (arith, count_held h, few-loops h)
 
 -- where a loop's rows are, and how many loops there are: what is asked where code reads a row or a loop
@@ -45,7 +47,7 @@ pub ruleset row_bounds = (past-few, count-few)
 
 -- ONE PAIR
 -- the test of two references, on the bounds as they are stored
-pub meet-stored : {c : List ℕ} → Held c → (x y : Reference) → ReferenceFits (table_in c) x → ReferenceFits (table_in c) y → (f l g m : ℕ)
+pub meet-stored : {c : Store} → Held c → (x y : Reference) → ReferenceFits (table_in c) x → ReferenceFits (table_in c) y → (f l g m : ℕ)
     → f ≡ first_at c x.number → l ≡ last_at c x.number → g ≡ first_at c y.number → m ≡ last_at c y.number → (b : Bool)
     → b ≡ overlap f l x.offset g m y.offset → b ≡ meet_in (table_in c) x y
 meet-stored h x y u v f l g m a d p q b e =
@@ -141,7 +143,7 @@ module _ (t : Table) (columns : Columns) (from : ℕ) (y : Reference) where
       ∙ (let z : from - 0 ≡ from = omega arith in rw z at (r.rest n))
 
 -- THE REFERENCES SO FAR
-module _ {c : List ℕ} (h : Held c) (k : ℕ) (l : k < count (table_in c)) where
+module _ {c : Store} (h : Held c) (k : ℕ) (l : k < count (table_in c)) where
   -- those of earlier loops
   joined-fits : (x : Reference) → Mem x (joined k (refs (table_in c))) → (x.number < k) × ReferenceFits (table_in c) x
   joined-fits x m =
@@ -269,7 +271,7 @@ module _ {c : List ℕ} (h : Held c) (k : ℕ) (l : k < count (table_in c)) wher
         mark x i (no q) = other-marked n y columns x q (w.marked x (omega (arith, w.references)))
 
 -- A ROW OF A LOOP
-module _ {c : List ℕ} (h : Held c) (k : ℕ) (l : k < count (table_in c)) (n : ℕ) (columns : Columns) (a : Numbers) (from : ℕ) (e : from ≡ length (joined k (refs (table_in c))))
+module _ {c : Store} (h : Held c) (k : ℕ) (l : k < count (table_in c)) (n : ℕ) (columns : Columns) (a : Numbers) (from : ℕ) (e : from ≡ length (joined k (refs (table_in c))))
     (r : ℕ) (u : start_at c k ≤ r) (v : r < start_at c (k + 1)) (w : Walked (table_in c) (past_row c k r) n columns a) where
   pub row-few : n < 576
   row-few = omega (arith, w.references, past-few-references h k r l u, past-few h k l)
@@ -280,12 +282,12 @@ module _ {c : List ℕ} (h : Held c) (k : ℕ) (l : k < count (table_in c)) (n :
     offset-here = (row_in h k l r v).offset q
 
     pub reference-earlier : Earlier (table_in c) columns from (ref_in c k r)
-    reference-earlier = earlier-of h k l _ n columns a w (ref_in c k r) refl (omega arith) offset-here from e
+    reference-earlier = earlier-of h k l _ n columns a w (ref_in c k r) refl (array_small c r) offset-here from e
 
     pub reference-steps : SomeNext (table_in c) columns from (ref_in c k r) a.made
     reference-steps =
         let (rest, same) = past-ahead h k l r u (omega arith) in
-        next-steps h k l _ n columns a w (ref_in c k r) refl (omega arith) offset-here from e (refs_in c k (r + 1) (start_at c (k + 1)) ++ rest)
+        next-steps h k l _ n columns a w (ref_in c k r) refl (array_small c r) offset-here from e (refs_in c k (r + 1) (start_at c (k + 1)) ++ rest)
         (rw (rows_next c k r (start_at c (k + 1)) v, row-reference c k r q) at same)
 
     pub reference-next : (columns' : Columns) (d : Numbers)
@@ -295,7 +297,7 @@ module _ {c : List ℕ} (h : Held c) (k : ℕ) (l : k < count (table_in c)) (n :
         → Walked (table_in c) (past_row c k (r + 1)) (n + 1) columns' d
     reference-next columns' d put made more =
         rw (past_next h k l r u, row-reference c k r q)
-        (walked_next h k l _ n columns a w (ref_in c k r) refl (omega arith) offset-here from e row-few columns' d put made more)
+        (walked_next h k l _ n columns a w (ref_in c k r) refl (array_small c r) offset-here from e row-few columns' d put made more)
 
   -- another item
   pub item-next : 2 ≤ kind_at c r → Walked (table_in c) (past_row c k (r + 1)) n columns a
@@ -324,7 +326,7 @@ unfolding steps
 walked_all w = w.numbers
 
 -- which are the numbers of before
-pub walked-amounts : {c : List ℕ} → Held c → (s p : List ℕ) (made : ℕ) → numbers_in s p made ≡ walked (graph (table_in c))
+pub walked-amounts : {c : Store} → Held c → (s p : List ℕ) (made : ℕ) → numbers_in s p made ≡ walked (graph (table_in c))
     → (s ≡ shifts (graph (table_in c))) × (p ≡ peels (graph (table_in c)))
 walked-amounts {c} h s p made e =
     let same = e ∙ walked-numbers (graph (table_in c)) (all_refs-below (table_in c) (count-few h)) in

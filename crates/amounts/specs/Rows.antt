@@ -6,6 +6,7 @@ use Rattle.order.specs.Lists.{mem-joined, joined-split}
 use Rattle.model.specs.declared.Reference.{Reference}
 use Rattle.model.specs.Table.{count}
 use Rattle.model.specs.References.{refs, all_refs}
+use Rattle.records.specs.declared.storage.Store.{Store}
 use Rattle.reader.specs.Store.{start_at, table_in}
 use Rattle.reader.specs.Stored.{Row}
 use Rattle.reader.specs.Held.{Held, rows-rise, few-rows, row-held}
@@ -14,11 +15,11 @@ use Rattle.reader.specs.RowLaws.{refs_end, refs-split, refs-up, refs-few, refs-h
 use Rattle.chains.specs.Bounds.{InRange}
 
 -- the references before row r of loop k
-abbrev pub past_row : (c : List ℕ) (k r : ℕ) → List Reference
+abbrev pub past_row : (c : Store) (k r : ℕ) → List Reference
 past_row c k r = joined k (refs (table_in c)) ++ refs_in c k (start_at c k) r
 
 -- A LOOP OF THE TABLE
-module _ {c : List ℕ} (h : Held c) (k : ℕ) (l : k < count (table_in c)) where
+module _ {c : Store} (h : Held c) (k : ℕ) (l : k < count (table_in c)) where
   -- its references
   pub refs-in : refs (table_in c) k ≡ refs_in c k (start_at c k) (start_at c (k + 1))
   refs-in = rw (add-one k) (refs-held h k l)
@@ -65,7 +66,7 @@ module _ {c : List ℕ} (h : Held c) (k : ℕ) (l : k < count (table_in c)) wher
       )
 
 -- there are no more references than rows
-pub joined-few : {c : List ℕ} → Held c → (k : ℕ) → k ≤ count (table_in c) → length (joined k (refs (table_in c))) ≤ start_at c k
+pub joined-few : {c : Store} → Held c → (k : ℕ) → k ≤ count (table_in c) → length (joined k (refs (table_in c))) ≤ start_at c k
 joined-few h zero l = omega arith
 joined-few {c} h (suc k) l =
     rw (refs-held h k l)
@@ -77,7 +78,7 @@ joined-few {c} h (suc k) l =
       length-append (joined k (refs (table_in c))) (refs_in c k (start_at c k) (start_at c (suc k))),
     ))
 
-pub past-few-references : {c : List ℕ} → Held c → (k r : ℕ) → k < count (table_in c) → start_at c k ≤ r → length (past_row c k r) ≤ r
+pub past-few-references : {c : Store} → Held c → (k r : ℕ) → k < count (table_in c) → start_at c k ≤ r → length (past_row c k r) ≤ r
 past-few-references {c} h k r l i =
     omega (
       arith,
@@ -87,5 +88,5 @@ past-few-references {c} h k r l i =
     )
 
 -- no offset of a table is above 510
-pub in-range : {c : List ℕ} → Held c → InRange (all_refs (table_in c))
+pub in-range : {c : Store} → Held c → InRange (all_refs (table_in c))
 in-range {c} h x m = let (k, l, i) = mem-joined (refs (table_in c)) (count (table_in c)) m in refs-range h k l x i

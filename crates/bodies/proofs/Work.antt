@@ -11,6 +11,7 @@ use lib.Ieee.{Float, nan, binary64, of_int}
 use lib.IntN.{pos}
 use borrow.Author.Tests.{eq-eqb, ne_eqb}
 use Rattle.std.proofs.lemmas.Bool.Decides.{nat_tests}
+use Rattle.records.specs.declared.storage.Store.{Store}
 use Rattle.records.specs.History.{operands}
 use Rattle.model.specs.Table.{Item, read, constant, operation}
 use Rattle.model.specs.Bodies.{negated, combined, applied, worked, worked_all, value}
@@ -20,7 +21,7 @@ use Rattle.bodies.specs.declared.Waiting.{Waiting}
 use Rattle.std.specs.Prelude.{Option, None, Some}
 use Rattle.bodies.specs.Stack.{tops, waiting, Holds}
 use Rattle.bodies.specs.Workable.{Based, Element, ReadsWithin, Ready, next}
-use Rattle.reader.specs.declared.RowKind.TheVariants as row
+use Rattle.records.specs.declared.table_rows.RowKind.TheVariants as row
 use Rattle.bodies.specs.Stopped.{Stepped, Opens, Stopped}
 
 -- WHICH ITEM IT IS
@@ -119,7 +120,7 @@ module _ (bs : List ℕ) (i : ℕ) (m : List Float) (whole : List Item) (s : Lis
   left_end w d l = (l.works, l.gives)
 
 -- the items in the rows from `from` up to the first destination's or up to `past`, worked from where s waits: those before `row` are worked
-module _ (bs : List ℕ) (i : ℕ) (m : List Float) (cs : List ℕ) (from past : ℕ) (s : Waiting) where
+module _ (bs : List ℕ) (i : ℕ) (m : List Float) (cs : Store) (from past : ℕ) (s : Waiting) where
   abbrev all : List Item
   all = lead_from cs from (past - from) []
 
@@ -214,7 +215,7 @@ operations k e = grind (arith, nat_tests)
 pub constants : (k : ℕ) → false ≡ ltb k 2 → (row_kind k ≡ row.Operation → ⊥) → k ≡ 2
 constants k e f = grind (arith, nat_tests)
 
-module _ (bs : List ℕ) (i : ℕ) (m : List Float) (c : List ℕ) (r : ℕ) (vs : List Float) (n : ℕ) (ready : (kind_at c r ≡ 1 → ⊥) → Ready bs i (length m) (item_at c r) n) where
+module _ (bs : List ℕ) (i : ℕ) (m : List Float) (c : Store) (r : ℕ) (vs : List Float) (n : ℕ) (ready : (kind_at c r ≡ 1 → ⊥) → Ready bs i (length m) (item_at c r) n) where
   abbrev After : List Float → Option ℕ → Type 0
   After = Stepped bs i m c r vs n
 

@@ -12,8 +12,7 @@ ghost use Rattle.bodies.specs.Stack.{tops, waiting, Holds};
 ghost use Rattle.bodies.specs.Workable.{Based, Element, ReadsWithin, Ready};
 ghost use Rattle.bodies.specs.Stopped.{Stepped, Stopped};
 
-use reader::RowKind;
-use records::Store;
+use records::{RowKind, Store};
 
 // The values waiting in a body, with their count.
 #[derive(Clone, Copy, Default)]

@@ -6,7 +6,7 @@ ghost use Rattle.records.specs.Bytes.{byte, two, four, offset, kind_of, body_len
 ghost use Rattle.records.specs.Grounds.{◌if◌else◌, early, edge, fields, ground, number_met, passed, tested};
 ghost use Rattle.records.specs.Clear.{span_of};
 
-use records::{Kind, Record, Store, Summary, Tested};
+use records::{Kind, MOST_ARRAYS, Record, Summary, Tested};
 use refusals::{Ground, Refusal};
 
 // The largest length of an array, count of elements in all, last index, offset (kept with 255 added) and count of a loop's items and
@@ -218,7 +218,14 @@ fn array_tests(n: u32, t: Summary) -> Result<(), Ground>
 }
 
 #[tactic(auto, unfolding(records::specs::Grounds::fields))]
-fn loop_tests(first: u32, last: u32, q: u32, o: u32, t: Summary, lens: &Store) -> Result<(), Ground>
+fn loop_tests(
+    first: u32,
+    last: u32,
+    q: u32,
+    o: u32,
+    t: Summary,
+    lens: &[u32; MOST_ARRAYS],
+) -> Result<(), Ground>
     requires { t.arrays ≤ 16 }
     ensures { number_met result ≡ fields (Record.Loop first last q o) t lens.now }
 {
@@ -230,7 +237,7 @@ fn loop_tests(first: u32, last: u32, q: u32, o: u32, t: Summary, lens: &Store) -
 }
 
 #[tactic(auto, unfolding(records::specs::Grounds::fields))]
-fn read_tests(q: u32, o: u32, t: Summary, lens: &Store) -> Result<(), Ground>
+fn read_tests(q: u32, o: u32, t: Summary, lens: &[u32; MOST_ARRAYS]) -> Result<(), Ground>
     requires { t.arrays ≤ 16 }
     ensures { number_met result ≡ fields (Record.Read q o) t lens.now }
 {
@@ -265,7 +272,7 @@ fn operation_tests(o: u32, t: Summary) -> Result<(), Ground>
 }
 
 #[tactic(auto, unfolding(records::specs::Grounds::fields))]
-fn statement_tests(q: u32, o: u32, t: Summary, lens: &Store) -> Result<(), Ground>
+fn statement_tests(q: u32, o: u32, t: Summary, lens: &[u32; MOST_ARRAYS]) -> Result<(), Ground>
     requires { t.arrays ≤ 16 }
     ensures { number_met result ≡ fields (Record.Statement q o) t lens.now }
 {
@@ -275,7 +282,7 @@ fn statement_tests(q: u32, o: u32, t: Summary, lens: &Store) -> Result<(), Groun
 
 // The tests on a record's fields.
 #[tactic(auto, unfolding(records::specs::Grounds::fields))]
-fn fields_ground(r: Record, t: Summary, lens: &Store) -> Result<(), Ground>
+fn fields_ground(r: Record, t: Summary, lens: &[u32; MOST_ARRAYS]) -> Result<(), Ground>
     requires { t.arrays ≤ 16 }
     ensures { number_met result ≡ fields r t lens.now }
 {
@@ -308,7 +315,12 @@ fn passing(r: Record, n: usize) -> Tested
 
 // The record at a place and the place after it, or the ground that it meets; the arrays' lengths are lent.
 #[tactic(auto, unfolding(records::specs::Grounds::ground, records::specs::Bytes::record_at))]
-fn record_at(s: &[u8], at: usize, t: Summary, lens: &Store) -> Result<(Record, usize), Ground>
+fn record_at(
+    s: &[u8],
+    at: usize,
+    t: Summary,
+    lens: &[u32; MOST_ARRAYS],
+) -> Result<(Record, usize), Ground>
     requires { t.arrays ≤ 16 }
     ensures met { number_met result ≡ ground s.now at t lens.now }
     ensures found { IfOk result (λ f. (f.0 ≡ record_at s.now at) × (f.1 ≡ at + 1 + body_length (byte s.now at))) }
@@ -329,7 +341,7 @@ fn record_at(s: &[u8], at: usize, t: Summary, lens: &Store) -> Result<(Record, u
 
 // Reads one record and tests it; the arrays' lengths are lent.
 #[tactic(auto, using(records::proofs::Ways::ground_some), unfolding(records::specs::Grounds::tested))]
-pub fn read_record(s: &[u8], at: usize, t: Summary, lens: &Store) -> Tested
+pub fn read_record(s: &[u8], at: usize, t: Summary, lens: &[u32; MOST_ARRAYS]) -> Tested
     requires { t.arrays ≤ 16 }
     ensures { result ≡ tested s.now at t lens.now }
 {

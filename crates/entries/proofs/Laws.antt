@@ -8,6 +8,7 @@ use borrow.Author.Tests.{lt-ltb, le-ltb}
 use Rattle.order.specs.Sequences.{joined}
 use Rattle.model.specs.Table.{count, iteration}
 use Rattle.model.specs.declared.Iteration.{Iteration}
+use Rattle.records.specs.declared.storage.Store.{Store}
 use Rattle.reader.specs.Store.{loops_in, table_in}
 use Rattle.reader.specs.Held.{Held, count_held}
 use Rattle.grounds.specs.Accepted.{Valid}
@@ -60,7 +61,7 @@ module _ (size : ℕ) (l : List Iteration) (e : size ≡ length l) where
       ap (λ (w : List ℕ). length (encoded w)) (sym (list-pairs l)) ∙ pairs-length (length l) (loop_at l) (index_at l) ∙ ap (λ (n : ℕ). 8 * n) (sym e)
 
 -- SHIFTS AND PEELS of the table in a store
-module _ (c xs ys : List ℕ) (h : Held c) (s : xs ≡ shifts (graph (table_in c))) (p : ys ≡ peels (graph (table_in c))) where
+module _ (c : Store) (xs ys : List ℕ) (h : Held c) (s : xs ≡ shifts (graph (table_in c))) (p : ys ≡ peels (graph (table_in c))) where
   pub amounts-are : (l : ℕ) → l ≡ loops_in c → joined l (λ k. column xs k ∷ column ys k ∷ []) ≡ amounts_of (table_in c)
   amounts-are l e = let n = count_held h in rw (e, s, p, n)
 
@@ -70,18 +71,18 @@ module _ (c xs ys : List ℕ) (h : Held c) (s : xs ≡ shifts (graph (table_in c
   pub threshold-fits : Valid (table_in c) → (x : ℕ) → x ≡ threshold xs ys → x < 2 ^ 32
   threshold-fits v x e = omega (arith, threshold-is x e, threshold-small (table_in c) v)
 
-pub amounts-size : (c : List ℕ) → Held c → (l : ℕ) → l ≡ loops_in c → length (encoded (amounts_of (table_in c))) ≡ 8 * l
+pub amounts-size : (c : Store) → Held c → (l : ℕ) → l ≡ loops_in c → length (encoded (amounts_of (table_in c))) ≡ 8 * l
 amounts-size c h l e = pairs-length _ _ _ ∙ ap (λ (n : ℕ). 8 * n) (count_held h ∙ sym e)
 
 -- BLOCKS of a plan
 pub blocks-size : (a : Axis) → length (encoded (blocks_of (fusion_in a))) ≡ 8 * a.blocks
 blocks-size a = pairs-length a.blocks (fusion_in a).edge (λ b. (fusion_in a).edge (suc b) - 1)
 
-pub blocks-ask : (a : Axis) (c : List ℕ) → Laid a c → (a.blocks ≤ 64) × Cuttable a
+pub blocks-ask : (a : Axis) (c : Store) → Laid a c → (a.blocks ≤ 64) × Cuttable a
 blocks-ask a c h = (few-blocks a c h, cuttable a c h)
 
 -- LISTS of a plan: kept ranges give them
-module _ (a : Axis) (c : List ℕ) (h : Laid a c) (phase b : ℕ) (l : b < a.blocks) where
+module _ (a : Axis) (c : Store) (h : Laid a c) (phase b : ℕ) (l : b < a.blocks) where
   pub list-fits : (size : ℕ) (xs : List Iteration) → xs ≡ work (table_in c) (fusion_in a) phase b
       → (size ≡ length (work (table_in c) (fusion_in a) phase b)) × (size ≤ 1052656) → Fitting size xs
   list-fits size xs e n =
@@ -101,7 +102,7 @@ module _ (r : Range) where
   pub zero-some : r.from < r.past → empty_as_zero r ≡ r
   zero-some l = rw (lt-ltb r.from r.past l)
 
-pub ranges-are : (a : Axis) (c : List ℕ) → Laid a c → (phase b : ℕ)
+pub ranges-are : (a : Axis) (c : Store) → Laid a c → (phase b : ℕ)
     → joined (loops_in c) (λ k. (empty_as_zero (range_in phase a c b k)).from ∷ (empty_as_zero (range_in phase a c b k)).past ∷ []) ≡ ranges_of phase b (planned_in a c)
 ranges-are a c h phase b = go phase
   where
@@ -120,10 +121,10 @@ ranges-are a c h phase b = go phase
         same (range_in (suc m) a c b) (loop_range 1 b (planned_in a c)) (loops_in c) (λ k l. range-in a c h (suc m) b k l)
         ∙ ap (λ (n : ℕ). joined n (λ k. (empty_as_zero (loop_range 1 b (planned_in a c) k)).from ∷ (empty_as_zero (loop_range 1 b (planned_in a c) k)).past ∷ [])) (loops-are a c h)
 
-pub ranges-size : (a : Axis) (c : List ℕ) → Laid a c → (phase b : ℕ) → length (encoded (ranges_of phase b (planned_in a c))) ≡ 8 * loops_in c
+pub ranges-size : (a : Axis) (c : Store) → Laid a c → (phase b : ℕ) → length (encoded (ranges_of phase b (planned_in a c))) ≡ 8 * loops_in c
 ranges-size a c h phase b = pairs-length (count (table_in c)) _ _ ∙ ap (λ (n : ℕ). 8 * n) (sym (loops-are a c h))
 
 -- a call that names a processor has a plan with that processor
-module _ (s : List ℕ) (w : Settings) (b : ℕ) (x : Axis) (c : List ℕ) (m : Made (planned_for s w b) x c) where
+module _ (s : List ℕ) (w : Settings) (b : ℕ) (x : Axis) (c : Store) (m : Made (planned_for s w b) x c) where
   pub named-laid : Laid x c × (b < x.blocks)
   named-laid = (made-laid s w x c (named-made s w b x c m), (named-accepts s w b (planned_in x c) m.is).1)

@@ -26,8 +26,8 @@ use amounts::Amounts;
 use blocks::{Axis, Range};
 use numbers::{NUMBER, PAIR};
 use plans::Settings;
-use ranges::PHASE;
-use records::{STORE, Store};
+use ranges::PhaseRanges;
+use records::Store;
 use refusals::Refusal;
 use text::Writer;
 
@@ -60,7 +60,7 @@ fn give_amounts(out: &mut [u8], store: &Store) -> Result<usize, Refusal>
 pub fn shifts_and_peels(s: &[u8], out: &mut [u8]) -> Result<usize, Refusal>
     ensures { Gives (amounts s.now (length out.old)) out.old out.new result }
 {
-    let mut store = [0u32; STORE];
+    let mut store = Store::new();
     serial::read_through(s, &mut store)?;
     give_amounts(out, &store)
 }
@@ -84,7 +84,7 @@ fn give_threshold(out: &mut [u8], store: &Store) -> Result<usize, Refusal>
 pub fn threshold(s: &[u8], out: &mut [u8]) -> Result<usize, Refusal>
     ensures { Gives (thresholds s.now (length out.old)) out.old out.new result }
 {
-    let mut store = [0u32; STORE];
+    let mut store = Store::new();
     serial::read_through(s, &mut store)?;
     give_threshold(out, &store)
 }
@@ -107,7 +107,7 @@ fn give_sweeps(out: &mut [u8], store: &Store) -> Result<usize, Refusal>
 pub fn sweeps(s: &[u8], out: &mut [u8]) -> Result<usize, Refusal>
     ensures { Gives (sweeps_given s.now (length out.old)) out.old out.new result }
 {
-    let mut store = [0u32; STORE];
+    let mut store = Store::new();
     serial::read_through(s, &mut store)?;
     give_sweeps(out, &store)
 }
@@ -141,19 +141,19 @@ fn give_blocks(out: &mut [u8], a: &Axis) -> Result<usize, Refusal>
 pub fn blocks(s: &[u8], w: Settings, out: &mut [u8]) -> Result<usize, Refusal>
     ensures { Gives (blocks_given s.now w (length out.old)) out.old out.new result }
 {
-    let mut store = [0u32; STORE];
+    let mut store = Store::new();
     let axis = plans::plan_table(s, w, &mut store)?;
     give_blocks(out, &axis)
 }
 
 // Loop and iteration of each of `size` in the list of a phase that kept ranges give.
-fn write_list(out: &mut [u8], phase: u32, loops: usize, size: usize, lists: &[u32; PHASE]) -> usize
-    requires { (loops ≤ 16) × Fitting size (list_of lists.now 0 loops phase) }
-    ensures { Put out.old 0 (encoded (pairs_of (list_of lists.now 0 loops phase))) (8 * size) out.new result }
+fn write_list(out: &mut [u8], phase: u32, loops: usize, size: usize, ranges: &PhaseRanges) -> usize
+    requires { (loops ≤ 16) × Fitting size (list_of ranges.now loops phase) }
+    ensures { Put out.old 0 (encoded (pairs_of (list_of ranges.now loops phase))) (8 * size) out.new result }
 {
     let mut row = Writer::new(out);
     for n in 0..size {
-        let x = ranges::nth_of(phase, loops, lists, 0, n);
+        let x = ranges::nth_of(phase, loops, ranges, n);
         numbers::put_pair(&mut row, x.number as u32, x.index as u32);
     }
     row.count()
@@ -164,19 +164,19 @@ fn give_list(out: &mut [u8], phase: u32, a: &Axis, b: u32, store: &Store) -> Res
     requires { Laid a.now store.now × (b < a.now.blocks) }
     ensures { Gives (fitted (length out.old) (encoded (pairs_of (work (table_in store.now) (fusion_in a.now) phase b)))) out.old out.new result }
 {
-    let mut lists = [0u32; PHASE];
-    let size = ranges::put_list(phase, a, b, store, &mut lists, 0);
+    let mut ranges = PhaseRanges::new();
+    let size = ranges::put_list(phase, a, b, store, &mut ranges);
     if out.len() < PAIR * size {
         return Err(outputs::short());
     }
-    Ok(write_list(out, phase, reader::loops_in(store), size, &lists))
+    Ok(write_list(out, phase, reader::loops_in(store), size, &ranges))
 }
 
 // Loop and iteration of each in processor b's list in a phase: 0 is its fused list, 1 its peeled one.
 pub fn list(s: &[u8], phase: u32, w: Settings, b: u32, out: &mut [u8]) -> Result<usize, Refusal>
     ensures { Gives (list_given phase s.now w b (length out.old)) out.old out.new result }
 {
-    let mut store = [0u32; STORE];
+    let mut store = Store::new();
     let axis = plans::plan_for(s, w, b, &mut store)?;
     give_list(out, phase, &axis, b, &store)
 }
@@ -231,7 +231,7 @@ fn give_ranges(
 pub fn ranges(s: &[u8], phase: u32, w: Settings, b: u32, out: &mut [u8]) -> Result<usize, Refusal>
     ensures { Gives (ranges_given phase s.now w b (length out.old)) out.old out.new result }
 {
-    let mut store = [0u32; STORE];
+    let mut store = Store::new();
     let axis = plans::plan_for(s, w, b, &mut store)?;
     give_ranges(out, phase, &axis, b, &store)
 }

@@ -9,6 +9,7 @@ use Rattle.order.specs.Sequences.{joined}
 use Rattle.order.specs.Lists.{joined_same}
 use Rattle.model.specs.Table.{Table, count, first, last}
 use Rattle.model.specs.Bodies.{begins}
+use Rattle.records.specs.declared.storage.Store.{Store}
 use Rattle.reader.specs.Store.{first_at, last_at, arrays_in, loops_in, table_in}
 use Rattle.reader.specs.Held.{Held, few-arrays, arrays-held, count_held, few-loops, first-held, last-held}
 use Rattle.bodies.specs.Workable.{Based}
@@ -28,7 +29,7 @@ three-put x y z {old} {new = new} p q =
     append_assoc (four x) (four y) (four z) ∙ ap (λ (l : List ℕ). four x ++ (four y ++ l)) (sym (append-nil (four z))) in
     subst (λ (l : List ℕ). Puts old l 12 new) w (puts_then p q)
 
-module _ (c bs : List ℕ) (h : Held c) (based : Based bs (table_in c).lengths) where
+module _ (c : Store) (bs : List ℕ) (h : Held c) (based : Based bs (table_in c).lengths) where
   pub arrays-are : arrays_in c ≡ arrays (table_in c)
   arrays-are = sym (arrays-held h)
 
@@ -42,12 +43,12 @@ module _ (c bs : List ℕ) (h : Held c) (based : Based bs (table_in c).lengths) 
       ∙ ap (λ (n : ℕ). arrays (table_in c) ∷ n ∷ get_or bs 16 0 ∷ []) loops-are
       ∙ ap (λ (n : ℕ). arrays (table_in c) ∷ count (table_in c) ∷ n ∷ []) e
 
-  listed-are : joined (arrays_in c) (λ q. get_or bs q 0 ∷ get_or c q 0 ∷ []) ≡ arrays_of (table_in c)
+  listed-are : joined (arrays_in c) (λ q. get_or bs q 0 ∷ get_or c.lengths q 0 ∷ []) ≡ arrays_of (table_in c)
   listed-are =
-      joined_same (λ q. begins (table_in c).lengths q ∷ get_or (table_in c).lengths q 0 ∷ []) (λ q. get_or bs q 0 ∷ get_or c q 0 ∷ []) (arrays_in c)
+      joined_same (λ q. begins (table_in c).lengths q ∷ get_or (table_in c).lengths q 0 ∷ []) (λ q. get_or bs q 0 ∷ get_or c.lengths q 0 ∷ []) (arrays_in c)
       (λ q l.
       let e = based q (omega (arith, few-arrays h)) in
-      let f = get_or-take (arrays_in c) c q 0 l in
+      let f = get_or-take (arrays_in c) c.lengths q 0 l in
       rw (e, f))
       ∙ ap (λ (n : ℕ). joined n (λ q. begins (table_in c).lengths q ∷ get_or (table_in c).lengths q 0 ∷ [])) arrays-are
 
@@ -62,7 +63,7 @@ module _ (c bs : List ℕ) (h : Held c) (based : Based bs (table_in c).lengths) 
   -- three texts one after the other
   pub facts-put : {old mid more new : Writer}
       → Puts old (encoded (arrays_in c ∷ loops_in c ∷ get_or bs 16 0 ∷ [])) 12 mid
-      → Puts mid (encoded (joined (arrays_in c) (λ q. get_or bs q 0 ∷ get_or c q 0 ∷ []))) (8 * arrays_in c) more
+      → Puts mid (encoded (joined (arrays_in c) (λ q. get_or bs q 0 ∷ get_or c.lengths q 0 ∷ []))) (8 * arrays_in c) more
       → Puts more (encoded (joined (loops_in c) (λ k. first_at c k ∷ last_at c k ∷ []))) (8 * loops_in c) new
       → Puts old (encoded (facts_of (table_in c))) 268 new
   facts-put {old} {mid} {more} {new} p q r =
@@ -86,5 +87,5 @@ facts-long t =
       pairs-length (count t) (first t) (last t),
     )
 
-pub facts-size : (c : List ℕ) → Held c → (x y : ℕ) → x ≡ arrays_in c → y ≡ loops_in c → length (encoded (facts_of (table_in c))) ≡ 12 + 8 * (x + y)
+pub facts-size : (c : Store) → Held c → (x y : ℕ) → x ≡ arrays_in c → y ≡ loops_in c → length (encoded (facts_of (table_in c))) ≡ 12 + 8 * (x + y)
 facts-size c h x y e f = facts-long (table_in c) ∙ omega (arith, arrays-held h, count_held h)

@@ -15,7 +15,7 @@ ghost use Rattle.outputs.specs.Gives.{Gives};
 ghost use Rattle.facts.specs.Facts.{facts_of, facts_given};
 
 use numbers::PAIR;
-use records::{STORE, Store};
+use records::Store;
 use refusals::Refusal;
 use text::Writer;
 
@@ -34,10 +34,10 @@ fn put_counts(out: &mut Writer, arrays: usize, loops: usize, elements: u32)
 // Each array's first element in the memory, and its length.
 fn put_arrays(out: &mut Writer, arrays: usize, bases: &[u32; 17], store: &Store)
     requires { (out.old.at < 2 ^ 32) × (arrays ≤ 16) }
-    ensures { Puts out.old (encoded (joined arrays (λ q. get_or bases.now q 0 ∷ get_or store.now q 0 ∷ []))) (8 * arrays) out.new }
+    ensures { Puts out.old (encoded (joined arrays (λ q. get_or bases.now q 0 ∷ get_or store.now.lengths q 0 ∷ []))) (8 * arrays) out.new }
 {
     for q in 0..arrays {
-        numbers::put_pair(out, bases[q], store[q]);
+        numbers::put_pair(out, bases[q], store.lengths[q]);
     }
 }
 
@@ -84,7 +84,7 @@ fn give_facts(out: &mut [u8], store: &Store) -> Result<usize, Refusal>
 pub fn facts(s: &[u8], out: &mut [u8]) -> Result<usize, Refusal>
     ensures { Gives (facts_given s.now (length out.old)) out.old out.new result }
 {
-    let mut store = [0u32; STORE];
+    let mut store = Store::new();
     serial::read_through(s, &mut store)?;
     give_facts(out, &store)
 }

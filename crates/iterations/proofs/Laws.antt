@@ -15,6 +15,7 @@ use borrow.Rule.Slice.PartMut.{mid_of, put_mid, mid_len, set_mid_at}
 use Rattle.model.specs.Table.{Statement}
 use Rattle.model.specs.Bodies.{begins, value, performed}
 use Rattle.order.specs.Sequences.{run_all}
+use Rattle.records.specs.declared.storage.Store.{Store}
 use Rattle.reader.specs.Store.{kind_at, statement_at, body_from, statements_from}
 use Rattle.grounds.specs.Statements.{sum}
 use Rattle.bodies.specs.Workable.{Based}
@@ -67,7 +68,7 @@ statement-stored bs i s m after x few f g ns b = rw (g, b s.array (omega arith),
 
 -- THE STATEMENTS ONE BY ONE
 -- in the rows from `row` on there are the statements left: they give, from what the memory now holds, what all give
-module _ (cs bs : List ℕ) (from past i : ℕ) (m₀ : List Float) where
+module _ (cs : Store) (bs : List ℕ) (from past i : ℕ) (m₀ : List Float) where
   abbrev left : ℕ → List Statement
   left row = statements_from cs row (past - row)
 
@@ -118,6 +119,6 @@ module _ (cs bs : List ℕ) (from past i : ℕ) (m₀ : List Float) where
     first_next = rows_next from m₀ (rows_start o a) h
 
 -- what is left is a start
-pub rows-again : (cs bs : List ℕ) (from past i : ℕ) (m₀ : List Float) (row : ℕ) (m : List Float) → RowsLeft cs bs from past i m₀ row m
+pub rows-again : (cs : Store) (bs : List ℕ) (from past i : ℕ) (m₀ : List Float) (row : ℕ) (m : List Float) → RowsLeft cs bs from past i m₀ row m
     → RowsLeft cs bs row past i m row m
 rows-again cs bs from past i m₀ row m l = rows_start cs bs row past i m l.opens (rw l.long l.able)

@@ -7,6 +7,7 @@ use Rattle.grounds.specs.Statements.{sum}
 use Rattle.bodies.specs.Workable.{Based}
 use Rattle.iterations.specs.Memory.{element_total}
 use Rattle.iterations.specs.Loaded.{Loaded}
+use Rattle.records.specs.declared.storage.Store.{Store}
 
 -- where arrays begin, one after the other
 pub begins-none : (ns : List ℕ) → begins ns 0 ≡ 0
@@ -33,5 +34,5 @@ pub based-total : (bs ns : List ℕ) (a : ℕ) → Based bs ns → length ns ≤
 based-total bs ns a b l h = b a h ∙ begins-past ns a l
 
 -- so where the last array ends is how long the memory is
-pub loaded-total : {t : Table} {cs bs : List ℕ} → Loaded t cs bs → (n : ℕ) → n ≡ get_or bs 16 0 → n ≡ element_total t
+pub loaded-total : {t : Table} {cs : Store} {bs : List ℕ} → Loaded t cs bs → (n : ℕ) → n ≡ get_or bs 16 0 → n ≡ element_total t
 loaded-total {t} {cs} {bs} h n e = e ∙ based-total bs t.lengths 16 h.based h.valid.few-arrays (omega arith)

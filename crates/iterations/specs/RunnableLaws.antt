@@ -10,6 +10,7 @@ use Rattle.model.specs.declared.Reference.{Reference}
 use Rattle.model.specs.Table.{Item, read, constant, operation, Statement, Loop, Table, loop, iteration, Inside}
 use Rattle.model.specs.References.{destination, reads, references, refs}
 use Rattle.model.specs.Bodies.{begins}
+use Rattle.records.specs.declared.storage.Store.{Store}
 use Rattle.reader.specs.Store.{start_at, statements_from}
 use Rattle.reader.specs.Held.{loop-held, few-rows, opening-held}
 use Rattle.grounds.specs.Statements.{sum}
@@ -50,7 +51,7 @@ module _ (bs : List ℕ) (i n k : ℕ) where
       statements-run b (λ y h. w y (mthere h)) (λ r h. f r (Memᴰ.append_right (destination k z ∷ reads k z.items) h)) s m
 
 -- ITERATION i OF LOOP k, of a table that the store holds
-module _ {t : Table} {cs bs : List ℕ} (l : Loaded t cs bs) (k : ℕ) where
+module _ {t : Table} {cs : Store} {bs : List ℕ} (l : Loaded t cs bs) (k : ℕ) where
   module _ (i : ℕ) (here : Inside t (iteration k i)) where
     pub loaded-body : (loop t k).body ≡ statements_from cs (start_at cs k) (start_at cs (suc k) - start_at cs k)
     loaded-body = ap (λ (x : Loop). x.body) (loop-held l.holds k here.0)

@@ -32,9 +32,9 @@ impl Bases {
 // How many elements array k of so many has: none past the last.
 fn array_length(store: &Store, arrays: usize, k: usize) -> u32
     requires { k < 16 }
-    ensures { result ≡ get_or (take arrays store.now) k 0 }
+    ensures { result ≡ get_or (take arrays store.now.lengths) k 0 }
 {
-    if k < arrays { store[k] } else { 0 }
+    if k < arrays { store.lengths[k] } else { 0 }
 }
 
 // The arrays stand in order without gaps.

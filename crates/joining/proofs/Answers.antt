@@ -8,6 +8,7 @@ use lib.ListN.{length, take, drop, length-append}
 use borrow.Rule.Slice.PartMut.{put_mid}
 use lib.Dec.{ltb}
 use borrow.Author.Tests.{lt-ltb, le-ltb}
+use Rattle.records.specs.declared.storage.Store.{Store}
 use Rattle.records.specs.Encoding.{encode_all, Bytes}
 use Rattle.std.specs.Prelude.{Result, Ok, Err}
 use Rattle.refusals.specs.declared.Refusal.{Refusal}
@@ -28,7 +29,7 @@ use Rattle.joins.proofs.Copied.{bytes-length, bytes-joined}
 use Rattle.joining.proofs.Walks.{copied-both}
 
 -- an accepted table is longer than its arrays' records
-long : (s c : List ℕ) → table s ≡ accepted (table_in c) → 5 * length (table_in c).lengths < length s
+long : (s : List ℕ) (c : Store) → table s ≡ accepted (table_in c) → 5 * length (table_in c).lengths < length s
 long s c e = accepted-long s (table_in c) (accepted-parallel s (table_in c) e).0
 
 -- WRITING
@@ -61,12 +62,12 @@ module _ (left right out : List ℕ) where
   unfolding joining
   left-refused r e = after-refuses (table left) _ out r e
 
-  module _ (ours : List ℕ) (l : table left ≡ accepted (table_in ours)) (h : Held ours) where
+  module _ (ours : Store) (l : table left ≡ accepted (table_in ours)) (h : Held ours) where
     pub right-refused : (r : Refusal) → table right ≡ refused r → Told (Err r) out
     unfolding joining
     right-refused r e = after-gives (table left) _ out (table_in ours) l out (Err r) (after-refuses (table right) _ out r e)
 
-    module _ (theirs : List ℕ) (r : table right ≡ accepted (table_in theirs)) (k : Held theirs) where
+    module _ (theirs : Store) (r : table right ≡ accepted (table_in theirs)) (k : Held theirs) where
       abbrev same : Bool
       same = alike (table_in ours).lengths (table_in theirs).lengths
 

@@ -9,7 +9,7 @@ ghost use Rattle.joins.specs.Copied.{bytes};
 ghost use Rattle.reader.specs.Store.{table_in};
 ghost use Rattle.reader.specs.Held.{Held};
 
-use records::{STORE, Store};
+use records::Store;
 use refusals::{Ground, Refusal};
 
 const MOST_LOOPS: usize = 16;
@@ -20,7 +20,7 @@ fn same_lengths(ours: &Store, theirs: &Store) -> bool
     requires { Held ours.now × Held theirs.now }
     ensures { result ≡ alike (table_in ours.now).lengths (table_in theirs.now).lengths }
 {
-    ours[..reader::arrays_in(ours)] == theirs[..reader::arrays_in(theirs)]
+    ours.lengths[..reader::arrays_in(ours)] == theirs.lengths[..reader::arrays_in(theirs)]
 }
 
 // Writes left without its end, and right without its arrays; or 13, with nothing written.
@@ -43,9 +43,9 @@ fn write(left: &[u8], right: &[u8], arrays: usize, out: &mut [u8]) -> Result<usi
 pub fn join(left: &[u8], right: &[u8], out: &mut [u8]) -> Result<usize, Refusal>
     ensures { Gives (joining left.now right.now (length out.old)) out.old out.new result }
 {
-    let mut ours = [0u32; STORE];
+    let mut ours = Store::new();
     serial::read_through(left, &mut ours)?;
-    let mut theirs = [0u32; STORE];
+    let mut theirs = Store::new();
     serial::read_through(right, &mut theirs)?;
     if !same_lengths(&ours, &theirs) {
         return Err(Refusal::met(Ground::Unlike, 0));

@@ -3,9 +3,10 @@ use Prim.Native.Nat.{ℕ, suc, ◌+◌, ◌*◌, ◌≤◌, ◌<◌}
 use native.Mathlib.Omega.{arith}
 use native.Mathlib.Decide.{ℕ_discrete}
 use mathlib.Core.Path.{◌≡◌, ◌∙◌}
-use mathlib.Core.Logic.{inl}
 use mathlib.Core.List.{List}
-use lib.ListN.{length, set, length-set}
+use lib.ListN.{length, get_or, set, length-set}
+use lib.Seq.{get_or-set_same, get_or-set_other}
+use Rattle.records.specs.declared.storage.Store.{Store}
 use Rattle.reader.specs.Store.{table_in}
 use Rattle.blocks.specs.declared.Axis.{Axis}
 use Rattle.blocks.specs.Sums.{column}
@@ -13,13 +14,13 @@ use Rattle.lists.specs.Fusion.{fusion_in, work}
 use Rattle.turns.specs.Turn.{before}
 use Rattle.barriers.specs.Code.{Ended, EndsFit}
 use Rattle.plans.specs.Code.{Laid}
-use Rattle.ranges.specs.Code.{Apart}
 use Rattle.ranges.specs.Listed.{few-blocks, list-short}
-use Rattle.layouts.specs.Layout.{work_in, Stands, Standing, with_ends, stands-apart}
+use Rattle.layouts.specs.Layout.{work_in, no_lists, Stands, Standing, with_ends}
+use Rattle.layouts.specs.declared.Lists.{Lists}
 use Rattle.layouts.specs.Ends.{ends-here, ends-other, ends-small}
 
 -- ONE PROCESSOR
-pub ends-put : (a : Axis) (c : List ℕ) (b : ℕ) (xs : List ℕ) (own x y s : ℕ) → own ≡ b → x ≡ length (work (table_in c) (fusion_in a) 0 b)
+pub ends-put : (a : Axis) (c : Store) (b : ℕ) (xs : List ℕ) (own x y s : ℕ) → own ≡ b → x ≡ length (work (table_in c) (fusion_in a) 0 b)
     → y ≡ length (work (table_in c) (fusion_in a) 1 b) → s ≡ x + y → set (set xs own x) (64 + own) s ≡ with_ends a c b xs
 ends-put a c b xs own x y s e f g q =
     let one : x ≡ before (work_in a c) 1 b = omega arith in
@@ -27,13 +28,13 @@ ends-put a c b xs own x y s e f g q =
     rw (e, one, two)
 
 -- ALL: it is written where the phases of the first b processors end
-pub record Ending (a : Axis) (c : List ℕ) (ends : List ℕ) (b : ℕ) : Type 0 where
+pub record Ending (a : Axis) (c : Store) (ends : List ℕ) (b : ℕ) : Type 0 where
   pub below : b ≤ a.blocks
   pub size : length ends ≡ 192
   pub small : EndsFit ends
   pub are : (n d : ℕ) → n < 2 → d < b → column ends (64 * n + d) ≡ before (work_in a c) (suc n) d
 
-module _ (a : Axis) (c : List ℕ) (h : Laid a c) where
+module _ (a : Axis) (c : Store) (h : Laid a c) where
   pub ending-none : (ends : List ℕ) → length ends ≡ 192 → EndsFit ends → Ending a c ends 0
   ending-none ends e s = record { below = omega arith; size = e; small = s; are = λ n d l i. absurd (omega arith) }
 
@@ -60,11 +61,13 @@ module _ (a : Axis) (c : List ℕ) (h : Laid a c) where
     few = omega arith;
   }
 
-  -- and the lists of the first b stand
-  pub standing-next : (old xs ys : List ℕ) (b at : ℕ) → Standing a c old xs b → at ≡ 96 * b → Stands a c ys at b → Apart xs ys at (at + 96)
-      → Standing a c old ys (b + 1)
-  standing-next old xs ys b at y e s p = record { long = p.long ∙ y.long; each = λ d i. kept d i (ℕ_discrete d b) }
+  -- and the lists of the first b are kept
+  pub standing-next : (xs ys : List Lists) (b : ℕ) (x : Lists) → Standing a c xs b → b < a.blocks → ys ≡ set xs b x → Stands a c x b → Standing a c ys (b + 1)
+  standing-next xs ys b x y more e s = rw e (record { long = simp length-set y.long; each = λ d i. kept d i (ℕ_discrete d b) })
     where
-      kept : (d : ℕ) → d < b + 1 → Dec (d ≡ b) → Stands a c ys (96 * d) d
-      kept d i (yes q) = rw (q, ← e) s
-      kept d i (no q) = stands-apart a c h xs ys (96 * d) d at (at + 96) (y.each d (omega arith)) p (inl (omega arith))
+      room : b < length xs
+      room = omega (arith, y.long, few-blocks a c h)
+
+      kept : (d : ℕ) → d < b + 1 → Dec (d ≡ b) → Stands a c (get_or (set xs b x) d no_lists) d
+      kept d i (yes q) = rw (q, get_or-set_same xs b x no_lists room) s
+      kept d i (no q) = rw (get_or-set_other xs b d x no_lists q) (y.each d (omega arith))

@@ -2,6 +2,7 @@
 use Rattle.std.specs.Prelude.{ℕ, zero, suc, ◌+◌, ◌*◌, ◌≤◌, ◌<◌, ◌≡◌, List, length, set}
 use Rattle.std.proofs.Common.{arith, ap, ◌∙◌, length-set, get_or-set_same, get_or-set_other}
 use Rattle.std.proofs.Math.Decide.{ℕ_discrete}
+use Rattle.records.specs.declared.storage.Store.{Store}
 use Rattle.reader.specs.Store.{table_in}
 use Rattle.blocks.specs.declared.Axis.{Axis}
 use Rattle.blocks.specs.Sums.{column}
@@ -10,7 +11,7 @@ use Rattle.turns.specs.Turn.{before}
 use Rattle.barriers.specs.Code.{EndsFit}
 use Rattle.layouts.specs.Layout.{work_in, with_ends}
 
-module _ (a : Axis) (c : List ℕ) (b : ℕ) where
+module _ (a : Axis) (c : Store) (b : ℕ) where
   module _ (xs : List ℕ) (size : length xs ≡ 192) (few : b < 64) where
     pub ends-here : (n : ℕ) → n < 2 → column (with_ends a c b xs) (64 * n + b) ≡ before (work_in a c) (suc n) b
     ends-here zero l =

@@ -1,20 +1,46 @@
-// A plan laid out in lent numbers: for each processor where its phases end, and its lists.
+// A plan laid out: for each processor where its phases end, and its lists.
 #![tactic(auto)]
 
-ghost use Rattle.std.specs.Prelude.{◌≡◌, ◌+◌, ◌^◌, ◌≤◌, ◌<◌, length};
+ghost use Rattle.std.specs.Prelude.{◌≡◌, ◌<◌, length};
 ghost use Rattle.barriers.specs.Code.{Ended, EndsFit};
 ghost use Rattle.plans.specs.Code.{Laid};
-ghost use Rattle.ranges.specs.Code.{Apart};
-ghost use Rattle.layouts.specs.Layout.{work_in, Stands, Standing, with_ends};
+ghost use Rattle.layouts.specs.Layout.{work_in, ranges_of, Stands, Standing, with_ends};
 
 use barriers::Ends;
 use blocks::Axis;
+use ranges::PhaseRanges;
 use records::Store;
 
-// How many numbers the lists of one processor have, and those of all.
-pub const LISTS: usize = 96;
+// The most processors that a plan has.
+pub const PROCESSORS: usize = 64;
 
-pub const ALL_LISTS: usize = 6144;
+// The lists of a processor, by the ranges that give them.
+#[derive(Clone, Copy)]
+pub struct Lists {
+    pub fused: PhaseRanges,
+    pub peeled: PhaseRanges,
+}
+
+impl Lists {
+    // With no range in them.
+    pub fn new() -> Self {
+        Lists {
+            fused: PhaseRanges::new(),
+            peeled: PhaseRanges::new(),
+        }
+    }
+
+    // The ranges of a phase.
+    pub fn of(&self, phase: u32) -> &PhaseRanges
+        ensures { result.now ≡ ranges_of self.now phase }
+    {
+        if phase == 0 {
+            &self.fused
+        } else {
+            &self.peeled
+        }
+    }
+}
 
 // Where the phases of processor b end.
 fn put_end(a: &Axis, b: u32, store: &Store, ends: &mut Ends)
@@ -37,22 +63,21 @@ pub fn put_ends(a: Axis, store: &Store, ends: &mut Ends)
     }
 }
 
-// Processor b's lists, kept from `at` on.
-pub fn put_lists(a: Axis, b: u32, store: &Store, lists: &mut [u32], at: usize)
-    requires { Laid a store.now × (b < a.blocks) × (at + 96 ≤ length lists.old) × (at < 2 ^ 31) }
-    ensures { Stands a store.now lists.new at b × Apart lists.old lists.new at (at + 96) }
+// Processor b's lists.
+pub fn put_lists(a: Axis, b: u32, store: &Store, lists: &mut Lists)
+    requires { Laid a store.now × (b < a.blocks) }
+    ensures { Stands a store.now lists.new b }
 {
-    let later = at + ranges::PHASE;
-    ranges::put_list(0, &a, b, store, lists, at);
-    ranges::put_list(1, &a, b, store, lists, later);
+    ranges::put_list(0, &a, b, store, &mut lists.fused);
+    ranges::put_list(1, &a, b, store, &mut lists.peeled);
 }
 
-// The lists of all processors, each processor's from its own place on.
-pub fn put_all_lists(a: Axis, store: &Store, lists: &mut [u32])
-    requires { Laid a store.now × (6144 ≤ length lists.old) }
-    ensures { Standing a store.now lists.old lists.new a.blocks }
+// The lists of all processors.
+pub fn put_all_lists(a: Axis, store: &Store, lists: &mut [Lists; PROCESSORS])
+    requires { Laid a store.now × (length lists.old ≡ 64) }
+    ensures { Standing a store.now lists.new a.blocks }
 {
     for b in 0..a.blocks {
-        put_lists(a, b, store, lists, LISTS * b as usize);
+        put_lists(a, b, store, &mut lists[b as usize]);
     }
 }

@@ -12,12 +12,14 @@ use lib.Dec.{ltb}
 use Rattle.std.specs.Prelude.{Some, None, Result, Ok, Err}
 use Rattle.std.specs.List.{list_any}
 use Rattle.std.proofs.Math.Bool.{or_assoc}
-use lib.ListN.{length, get_or}
+use lib.ListN.{length, get_or, set, length-set}
+use lib.Seq.{get_or-set_same, get_or-set_other}
 use borrow.Author.Tests.{lt-ltb, le-ltb, eq-eqb, ne_eqb}
 use Rattle.overlap.specs.Booleans.{both_true, either_true, not-true, same_test}
 use Rattle.model.specs.declared.Reference.{Reference}
 use Rattle.model.specs.Table.{Table, count}
 use Rattle.model.specs.References.{refs, touch}
+use Rattle.records.specs.declared.storage.Store.{Store}
 use Rattle.reader.specs.Store.{start_at, kind_at, array_at, table_in}
 use Rattle.reader.specs.Held.{Held}
 use Rattle.reader.specs.Rows.{ref_in, row_refs, refs_from, refs_in, LastDestination}
@@ -82,18 +84,18 @@ module _ (t : Table) (amounts : Amounts) where
       sym (rw (u, v))
 
 -- of loop k, whether some reference passes a test is whether some of those in the rows from r on does
-abbrev pub LeftOf : (c : List ℕ) → (Reference → Bool) → ℕ → ℕ → Type 0
+abbrev pub LeftOf : (c : Store) → (Reference → Bool) → ℕ → ℕ → Type 0
 LeftOf c f k r = some_of f (refs (table_in c) k) ≡ some_of f (refs_in c k r (start_at c (k + 1)))
 
 -- no dependence from loop j to a loop below k is left unmet; none from a loop below j
-abbrev pub NoneToOf : (c : List ℕ) (amounts : Amounts) → ℕ → ℕ → Type 0
+abbrev pub NoneToOf : (c : Store) (amounts : Amounts) → ℕ → ℕ → Type 0
 NoneToOf c amounts j k = (i : ℕ) → i < k → unmet_in (table_in c) amounts j i ≡ false
 
-abbrev pub NoneFromOf : (c : List ℕ) (amounts : Amounts) → ℕ → Type 0
+abbrev pub NoneFromOf : (c : Store) (amounts : Amounts) → ℕ → Type 0
 NoneFromOf c amounts j = (i m : ℕ) → i < j → unmet_in (table_in c) amounts i m ≡ false
 
 -- ROWS OF A STORE, by any test of a reference: one that has a reference, one that has none, and several of which none passes
-module _ (c : List ℕ) (f : Reference → Bool) (k : ℕ) where
+module _ (c : Store) (f : Reference → Bool) (k : ℕ) where
   pub row_here : (r : ℕ) (b : Bool) → kind_at c r < 2 → b ≡ f (ref_in c k r) → b ≡ some_of f (row_refs c k r)
   row_here r b l q = q ∙ sym (rw (row-reference c k r l) (or-false (f (ref_in c k r))))
 
@@ -109,7 +111,7 @@ module _ (c : List ℕ) (f : Reference → Bool) (k : ℕ) where
       ∙ none_from n (suc r) (λ i a b. none i (omega arith) (omega arith))
 
 -- ONE ROW, with a destination of another loop, and as a destination
-module _ (c : List ℕ) (amounts : Amounts) where
+module _ (c : Store) (amounts : Amounts) where
   pub row_apart : (x : Reference) (k r : ℕ) → (x.array ≡ array_at c r → ⊥) → false ≡ with_row c amounts x k r
   row_apart x k r n = go (dec_lt (kind_at c r) 2)
     where
@@ -137,11 +139,18 @@ module _ (c : List ℕ) (amounts : Amounts) where
   past-last j k last r d u i a b = row_other j i k (d.none i (omega arith) (rw (add-one j) at b))
 
 -- THE LAST DESTINATIONS of the loops below k, and of one loop more
-abbrev pub LastsTo : (c lasts : List ℕ) → ℕ → Type 0
+abbrev pub LastsTo : (c : Store) (lasts : List ℕ) → ℕ → Type 0
 LastsTo c lasts k = (length lasts ≡ 16) × ((i : ℕ) → i < k → LastDestination c i (get_or lasts i 0))
 
+pub lasts-next : (c : Store) (lasts : List ℕ) (k r : ℕ) → k < 16 → LastsTo c lasts k → LastDestination c k r → LastsTo c (set lasts k r) (k + 1)
+lasts-next c lasts k r l (long, f) d = (length-set lasts k r ∙ long, λ i u. go i u (ℕ_discrete i k))
+  where
+    go : (i : ℕ) → i < k + 1 → Dec (i ≡ k) → LastDestination c i (get_or (set lasts k r) i 0)
+    go i u (yes q) = rw (q, get_or-set_same lasts k r 0 (omega arith)) d
+    go i u (no q) = rw (get_or-set_other lasts k i r 0 q) (f i (omega arith))
+
 -- the rows up to it are the loop's
-pub up-to-last : (c : List ℕ) (j last r : ℕ) → LastDestination c j last → r ≤ last → r < start_at c (j + 1)
+pub up-to-last : (c : Store) (j last r : ℕ) → LastDestination c j last → r ≤ last → r < start_at c (j + 1)
 up-to-last c j last r d l = rw (add-one j) (omega (arith, d.before))
 
 -- A LOOP BY ITS NUMBER, AND A PAIR
@@ -194,7 +203,7 @@ none-pair n e = go (dec_lt n 256)
     go (no l) = omega arith
 
 -- A STORE THAT HOLDS A TABLE
-module _ {c : List ℕ} (h : Held c) where
+module _ {c : Store} (h : Held c) where
   pub reference-fits : (k : ℕ) → k < count (table_in c) → (r : ℕ) → r < start_at c (k + 1) → kind_at c r < 2 → ReferenceFits (table_in c) (ref_in c k r)
   reference-fits k l r i q = record { number = l; few = omega (arith, count-few h); offset = (row_in h k l r i).offset q }
 

@@ -3,6 +3,7 @@ use Rattle.std.specs.Prelude.{ℕ, ◌+◌, ◌/◌, ◌%◌, ◌≤◌, ◌<◌
 use Rattle.model.specs.declared.Reference.{Reference}
 use Rattle.model.specs.Table.{Table, count}
 use Rattle.model.specs.References.{refs}
+use Rattle.records.specs.declared.storage.Store.{Store}
 use Rattle.reader.specs.Store.{table_in}
 use Rattle.reader.specs.Rows.{row_refs, LastDestination}
 use Rattle.chains.specs.Dependence.{backward, forward}
@@ -71,11 +72,11 @@ pub record Storing (t : Table) (x : Reference) (k : ℕ) : Type 0 where
   pub there : k < count t
 
 -- for each loop of the table in a store the row of its last destination
-pub record Lasts (c lasts : List ℕ) : Type 0 where
+pub record Lasts (c : Store) (lasts : List ℕ) : Type 0 where
   pub long : length lasts ≡ 16
   pub each : (k : ℕ) → k < count (table_in c) → LastDestination c k (get_or lasts k 0)
 
-module _ (c : List ℕ) (amounts : Amounts) where
+module _ (c : Store) (amounts : Amounts) where
   -- x and the reference in row r of loop k, if there is one in it
   abbrev pub with_row : Reference → ℕ → ℕ → Bool
   with_row x k r = some_of (between (table_in c) amounts x) (row_refs c k r)

@@ -6,6 +6,7 @@ use native.Mathlib.Nat.{mul-suc}
 use native.Mathlib.Numerals.{add-one}
 use native.Mathlib.Omega.{arith}
 use borrow.Author.Tests.{lt-ltb, le-ltb}
+use Rattle.records.specs.declared.storage.Store.{Store}
 use Rattle.reader.specs.Store.{loops_in, table_in}
 use Rattle.text.specs.Line.{line}
 use Rattle.text.specs.declared.Writer.{Writer}
@@ -65,7 +66,7 @@ module _ (a : Axis) (before after : ℕ) where
       let peeled = ranges-same (phase_name 1) a.blocks n (f 1) (g 1) (e 1) in
       rw (fused, peeled)
 
-  pub listed : (c : List ℕ) → Laid a c → lines (loops_in c) (λ p. range_of p a c) ≡ listing (table_in c) (fusion_in a) before after
+  pub listed : (c : Store) → Laid a c → lines (loops_in c) (λ p. range_of p a c) ≡ listing (table_in c) (fusion_in a) before after
   unfolding listing
   listed c h =
       lines_same (loops_in c) (λ p. range_of p a c) (range_in a c h) (λ p b k l. range-in a c h p b k l)

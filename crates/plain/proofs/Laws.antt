@@ -15,6 +15,7 @@ use Rattle.model.specs.PlainRunLaws.{upward-turn, upward-ended}
 use Rattle.refusals.specs.declared.Refusal.{Refusal}
 use Rattle.refusals.specs.Refusals.{met}
 use Rattle.refusals.specs.Answers.{AnswerOf, accepted, refused, result_of}
+use Rattle.records.specs.declared.storage.Store.{Store}
 use Rattle.reader.specs.Store.{first_at, last_at, start_at, loops_in, statements_from, table_in}
 use Rattle.reader.specs.Held.{Held, count_held, loop-held, first-held, last-held}
 use Rattle.serial.specs.Serial.{table}
@@ -46,7 +47,7 @@ module _ {X : Type 0} (g : X → ℕ → List Float → List Float) (from past :
     left_end h x = upward-ended (g x) i past m _ (l.rest x) h
 
 -- THE ITERATIONS first TO last OF THE STATEMENTS IN ROWS, whatever the arrays' lengths, if they begin at bs
-module _ (cs bs : List ℕ) (from past first last : ℕ) (m₀ : List Float) where
+module _ (cs : Store) (bs : List ℕ) (from past first last : ℕ) (m₀ : List Float) where
   abbrev statements : List Statement
   statements = statements_from cs from (past - from)
 
@@ -70,7 +71,7 @@ module _ (cs bs : List ℕ) (from past first last : ℕ) (m₀ : List Float) whe
     range-end h ns b = left_end turn first (suc last) m₀ i m l h (ns, b)
 
 -- ONE LOOP of a table in a store
-module _ (cs bs : List ℕ) (m : List Float) (k : ℕ) (r : Running cs bs m) (there : k < count (table_in cs)) where
+module _ (cs : Store) (bs : List ℕ) (m : List Float) (k : ℕ) (r : Running cs bs m) (there : k < count (table_in cs)) where
   within : (i : ℕ) → first_at cs k ≤ i → i ≤ last_at cs k → Inside (table_in cs) (iteration k i)
   within i a b =
       (there, omega (arith, first-held r.loaded.holds k there), omega (arith, last-held r.loaded.holds k there))
@@ -97,7 +98,7 @@ module _ (cs bs : List ℕ) (m : List Float) (k : ℕ) (r : Running cs bs m) (th
       rw (first-held h k there, last-held h k there, loop-held h k there) (f (table_in cs).lengths r.loaded.based)
 
 -- THE LOOPS, n of them, from the memory m₀
-module _ (cs bs : List ℕ) (m₀ : List Float) (n : ℕ) where
+module _ (cs : Store) (bs : List ℕ) (m₀ : List Float) (n : ℕ) where
   abbrev t : Table
   t = table_in cs
 
@@ -118,7 +119,7 @@ module _ (cs bs : List ℕ) (m₀ : List Float) (n : ℕ) where
         left_end (λ (x : Unit {0}). looped t) 0 n m₀ k m l h tt ∙ ap (λ (j : ℕ). upward (looped t) 0 j m₀) z
 
 -- A TABLE IN A STORE, ON A MEMORY
-module _ (c : List ℕ) (h : Held c × Valid (table_in c)) (bs : List ℕ) (b : Based bs (table_in c).lengths) (m : List Float) where
+module _ (c : Store) (h : Held c × Valid (table_in c)) (bs : List ℕ) (b : Based bs (table_in c).lengths) (m : List Float) where
   abbrev answer : AnswerOf Table
   answer = remembered element_total (length m) (accepted (table_in c))
 

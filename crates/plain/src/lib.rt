@@ -17,7 +17,7 @@ ghost use Rattle.iterations.specs.Runnable.{Runnable};
 ghost use Rattle.plain.specs.Plain.{plain_answer, run_of, plain_memory};
 ghost use Rattle.plain.specs.Running.{Running};
 
-use records::{STORE, Store};
+use records::Store;
 use refusals::{Ground, Refusal};
 
 // Iterations `first` to `last` of the statements in the rows from `from` up to `past`.
@@ -81,7 +81,7 @@ pub fn plain_run(s: &[u8], memory: &mut [f64]) -> Result<(), Refusal>
     ensures value { result ≡ result_of (λ _. tt) (plain_answer s.now (length memory.old)) }
     ensures memory_after { memory.new ≡ plain_memory s.now memory.old }
 {
-    let mut store = [0u32; STORE];
+    let mut store = Store::new();
     serial::read_through(s, &mut store)?;
     run_table(&store, memory)
 }

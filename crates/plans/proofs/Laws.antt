@@ -10,6 +10,7 @@ use Rattle.model.specs.Table.{Table, count, first, last}
 use Rattle.refusals.specs.declared.Refusal.{Refusal}
 use Rattle.refusals.specs.Refusals.{met}
 use Rattle.refusals.specs.Answers.{AnswerOf, accepted, refused, ◌if◌else◌, after, result_of}
+use Rattle.records.specs.declared.storage.Store.{Store}
 use Rattle.reader.specs.Store.{first_at, last_at, loops_in, table_in}
 use Rattle.reader.specs.Held.{Held, count_held, first-held, last-held}
 use Rattle.serial.specs.Serial.{table}
@@ -33,7 +34,7 @@ use Rattle.plans.specs.Checking.{plan_threshold}
 use Rattle.plans.specs.Code.{Offered, Made, Plans}
 
 -- THE SPAN, over the loops of a store
-module _ (c : List ℕ) (h : Held c) (v : Valid (table_in c)) where
+module _ (c : Store) (h : Held c) (v : Valid (table_in c)) where
   pub some-loops : 0 < loops_in c
   some-loops = omega (arith, v.some-loops, count_held h)
 
@@ -58,7 +59,7 @@ unfolding amounts_for
 own-chosen-is w t e a p q = let z = eq-eqb w.given 0 e in rw (z, ← p, ← q)
 
 -- THE PLAN of the table in a store, with the shifts and peels a
-module _ (w : Settings) (c : List ℕ) (h : Held c) (v : Valid (table_in c)) (a : Amounts) (amounts-are : amounts_for w (table_in c) ≡ accepted a) where
+module _ (w : Settings) (c : Store) (h : Held c) (v : Valid (table_in c)) (a : Amounts) (amounts-are : amounts_for w (table_in c) ≡ accepted a) where
   good : Chosen (table_in c) a
   good = amounts-chosen (table_in c) v w a amounts-are
 
@@ -135,11 +136,11 @@ module _ (s : List ℕ) (wrong : Bool) (w : Settings) where
       pub plans-seventeen : wrong ≡ false → bad_line w ≡ true → answer ≡ refused (met 17 0)
       plans-seventeen e m = found e m
 
-      pub plans-chosen : wrong ≡ false → bad_line w ≡ false → (r : Result Axis Refusal) (c : List ℕ) → Plans (after (amounts_for w t) (fits w t)) r c → Plans answer r c
+      pub plans-chosen : wrong ≡ false → bad_line w ≡ false → (r : Result Axis Refusal) (c : Store) → Plans (after (amounts_for w t) (fits w t)) r c → Plans answer r c
       plans-chosen e m r c h = subst (λ (a : AnswerOf Planned). Plans a r c) (sym (found e m)) h
 
 -- WHAT ASKING FOR A PLAN TELLS
-pub asked-accepted : (a : AnswerOf Planned) (x : Axis) (c : List ℕ) → Made a x c → (u : ℕ) → u ≡ threshold x.shifts x.peels
+pub asked-accepted : (a : AnswerOf Planned) (x : Axis) (c : Store) → Made a x c → (u : ℕ) → u ≡ threshold x.shifts x.peels
     → ◌≡◌ {A = Result ℕ Refusal} (Ok u) (result_of (λ q. plan_threshold q.plan) a)
 unfolding threshold
 asked-accepted a x c h u e = let d = h.is in rw (e, d)

@@ -1,7 +1,8 @@
 -- What the planner's code leaves: what it tells of an answer, and the plan along one index beside the table in the store.
-use Rattle.std.specs.Prelude.{ℕ, ◌≤◌, ◌<◌, ◌≡◌, List, length, Option, Result, MatchOption, MatchResult}
+use Rattle.std.specs.Prelude.{◌≤◌, ◌<◌, ◌≡◌, length, Option, Result, MatchOption, MatchResult}
 use Rattle.refusals.specs.declared.Refusal.{Refusal}
 use Rattle.refusals.specs.Answers.{AnswerOf, accepted, refused}
+use Rattle.records.specs.declared.storage.Store.{Store}
 use Rattle.reader.specs.Store.{table_in}
 use Rattle.reader.specs.Held.{Held}
 use Rattle.blocks.specs.declared.Axis.{Axis}
@@ -12,7 +13,7 @@ use Rattle.plans.specs.Plans.{Settings, Planned, amounts_for}
 use Rattle.plans.specs.Accepted.{Fit}
 
 -- the table in the store c, with the plan that code keeps in a
-abbrev pub planned_in : Axis → List ℕ → Planned
+abbrev pub planned_in : Axis → Store → Planned
 planned_in a c = record { table = table_in c; plan = fusion_in a }
 
 -- the plan by hand, if one is given: its numbers, which are accepted
@@ -27,13 +28,13 @@ pub record Kept (a : Axis) : Type 0 where
   pub short-line : a.line ≤ 64
 
 -- a plan that is accepted, of the table in the store
-pub record Made (a : AnswerOf Planned) (x : Axis) (c : List ℕ) : Type 0 where
+pub record Made (a : AnswerOf Planned) (x : Axis) (c : Store) : Type 0 where
   pub is : a ≡ accepted (planned_in x c)
   pub held : Held c
   pub kept : Kept x
 
 -- code answers a plan, or the refusal as an error
-abbrev pub Plans : AnswerOf Planned → Result Axis Refusal → List ℕ → Type 0
+abbrev pub Plans : AnswerOf Planned → Result Axis Refusal → Store → Type 0
 Plans a r c = MatchResult r (λ x. Made a x c) (λ e. a ≡ refused e)
 
 -- code answers the plan by hand, if one is given, or what it is refused with
@@ -41,7 +42,7 @@ abbrev pub Gives : Settings → Table → Result (Option Amounts) Refusal → Ty
 Gives w t r = MatchResult r (Offered w t) (λ e. amounts_for w t ≡ refused e)
 
 -- WHAT CODE IS LENT of an accepted plan: the plan along an index, and the table in the store
-pub record Laid (a : Axis) (c : List ℕ) : Type 0 where
+pub record Laid (a : Axis) (c : Store) : Type 0 where
   pub held : Held c
   pub fit : Fit (table_in c) (fusion_in a)
   pub kept : Kept a

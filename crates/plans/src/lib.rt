@@ -3,7 +3,7 @@
 #![tactic(auto)]
 
 ghost use Rattle.std.specs.Prelude.{◌≡◌, false, ◌<◌};
-ghost use Rattle.reader.specs.Store.{Sized, table_in};
+ghost use Rattle.reader.specs.Store.{table_in};
 ghost use Rattle.reader.specs.Held.{Held};
 ghost use Rattle.serial.specs.Serial.{table};
 ghost use Rattle.grounds.specs.Accepted.{Valid};
@@ -16,7 +16,7 @@ ghost use Rattle.plans.specs.Checking.{plan_threshold};
 
 use amounts::Amounts;
 use blocks::{Axis, Span};
-use records::{STORE, Store};
+use records::Store;
 use refusals::{Ground, Refusal};
 
 const MOST_PROCESSORS: u32 = 64;
@@ -127,7 +127,6 @@ fn plan_read(w: Settings, hand: Option<Amounts>, store: &Store) -> Result<Axis, 
 
 // The plan of a table for what settles the lists, if the processors are not wrong; the store is lent.
 fn plan_unless(s: &[u8], wrong: bool, w: Settings, store: &mut Store) -> Result<Axis, Refusal>
-    requires { Sized store.old }
     ensures { Plans (fitting wrong w (table s.now)) result store.new }
 {
     serial::read_through(s, store)?;
@@ -143,7 +142,6 @@ fn plan_unless(s: &[u8], wrong: bool, w: Settings, store: &mut Store) -> Result<
 
 // The plan of a table for what settles the lists; the store is lent.
 pub fn plan_table(s: &[u8], w: Settings, store: &mut Store) -> Result<Axis, Refusal>
-    requires { Sized store.old }
     ensures { Plans (planned s.now w) result store.new }
 {
     let wrong = bad_processors(w);
@@ -152,7 +150,6 @@ pub fn plan_table(s: &[u8], w: Settings, store: &mut Store) -> Result<Axis, Refu
 
 // The same for a call that names a processor.
 pub fn plan_for(s: &[u8], w: Settings, processor: u32, store: &mut Store) -> Result<Axis, Refusal>
-    requires { Sized store.old }
     ensures { Plans (planned_for s.now w processor) result store.new }
 {
     let wrong = bad_number(w, processor);
@@ -163,7 +160,7 @@ pub fn plan_for(s: &[u8], w: Settings, processor: u32, store: &mut Store) -> Res
 pub fn check_plan(s: &[u8], w: Settings) -> Result<usize, Refusal>
     ensures { result ≡ result_of (λ q. plan_threshold q.plan) (planned s.now w) }
 {
-    let mut store = [0u32; STORE];
+    let mut store = Store::new();
     let Axis { shifts, peels, .. } = plan_table(s, w, &mut store)?;
     Ok(amounts::threshold_of(Amounts { shifts, peels }))
 }

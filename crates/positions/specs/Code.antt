@@ -7,6 +7,7 @@ use Rattle.lists.specs.Below.{weighted}
 use Rattle.positions.specs.Search.{below_columns, bound_columns, Bracket, Located}
 use Rattle.positions.specs.Lines.{Linear}
 use Rattle.positions.specs.declared.list.Columns.{Columns}
+use Rattle.positions.specs.declared.list.Weighted.{Weighted}
 use Rattle.positions.specs.declared.Position.{Position}
 use Rattle.positions.specs.declared.Search.{Search}
 use Rattle.positions.specs.declared.Line.{Line}
@@ -20,26 +21,26 @@ range_in c = ranges c.froms.now c.pasts.now
 abbrev pub shift_in : Columns → ℕ → ℕ
 shift_in c = column c.shifts.now
 
-abbrev pub weight_in : Columns → ℕ → ℕ
-weight_in c = column c.weights.now
-
--- what loop k adds to the count below t, and the count
-abbrev pub weighted_in : Columns → ℕ → ℕ → ℕ
-weighted_in c t k = weighted (range_in c) (shift_in c) (weight_in c) t k
-
-abbrev pub below_in : Columns → ℕ → ℕ
-below_in c t = below_columns c.froms.now c.pasts.now c.shifts.now c.weights.now t
-
 -- a bound of all sums
 abbrev pub bound_in : Columns → ℕ
 bound_in c = bound_columns c.froms.now c.pasts.now c.shifts.now
 
+abbrev pub weight_in : Weighted → ℕ → ℕ
+weight_in w = column w.weights.now
+
+-- what loop k adds to the count below t, and the count
+abbrev pub weighted_in : Weighted → ℕ → ℕ → ℕ
+weighted_in w t k = weighted (range_in w.columns) (shift_in w.columns) (weight_in w) t k
+
+abbrev pub below_in : Weighted → ℕ → ℕ
+below_in w t = below_columns w.columns.froms.now w.columns.pasts.now w.columns.shifts.now w.weights.now t
+
 -- what the search keeps and finds, and the line
-abbrev pub BracketIn : Columns → ℕ → Search → Type 0
-BracketIn c n s = Bracket c.froms.now c.pasts.now c.shifts.now c.weights.now n s
+abbrev pub BracketIn : Weighted → ℕ → Search → Type 0
+BracketIn w n s = Bracket w.columns.froms.now w.columns.pasts.now w.columns.shifts.now w.weights.now n s
 
-abbrev pub LocatedIn : Columns → ℕ → ℕ → Position → Type 0
-LocatedIn c most n p = Located c.froms.now c.pasts.now c.shifts.now c.weights.now most n p
+abbrev pub LocatedIn : Weighted → ℕ → ℕ → Position → Type 0
+LocatedIn w most n p = Located w.columns.froms.now w.columns.pasts.now w.columns.shifts.now w.weights.now most n p
 
-abbrev pub LinearIn : Columns → Line → Type 0
-LinearIn c l = Linear c.froms.now c.pasts.now c.shifts.now c.weights.now l
+abbrev pub LinearIn : Weighted → Line → Type 0
+LinearIn w l = Linear w.columns.froms.now w.columns.pasts.now w.columns.shifts.now w.weights.now l

@@ -12,7 +12,7 @@ ghost use Rattle.positions.specs.Code.{loops_in, range_in, shift_in, weighted_in
 mod list;
 
 use blocks::Range;
-use list::Columns;
+pub use list::{Columns, Weighted};
 use model::Iteration;
 
 // Every sum of an index and a shift is below it.
@@ -137,28 +137,8 @@ impl Columns<'_> {
         }
     }
 
-    // What loop k adds to the count below t.
-    #[tactic(auto, unfolding(lists::specs::Below::weighted))]
-    fn weighted_at(&self, t: usize, k: usize) -> usize
-        requires { k < loops_in self.now }
-        ensures { (result ≡ weighted_in self.now t k) × (result ≤ 2 ^ 48) }
-    {
-        self.weights[k] as usize * clipped(self.range(k), self.shifts[k], t)
-    }
-
-    // How many iterations have a sum below t, each counted with its loop's weight.
-    fn below_sum(&self, t: usize) -> usize
-        ensures { (result ≡ below_in self.now t) × (result ≤ 2 ^ 52) }
-    {
-        let mut sum = 0;
-        for k in 0..self.froms.len() {
-            sum += self.weighted_at(t, k);
-        }
-        sum
-    }
-
     // A bound of all sums.
-    fn sum_bound(&self) -> usize
+    pub fn sum_bound(&self) -> usize
         ensures { (result ≡ bound_in self.now) × (result < 2 ^ 33) }
     {
         let mut most: usize = 0;
@@ -166,6 +146,50 @@ impl Columns<'_> {
             most = most.max(self.pasts[k] as usize + self.shifts[k] as usize);
         }
         most
+    }
+
+    // The n-th iteration of the sum t; (0, 0) past the last.
+    pub fn nth_at_sum(&self, t: usize, n: usize) -> Iteration
+        ensures { result ≡ get_or (sum_at (loops_in self.now) (range_in self.now) (shift_in self.now) t) n (iteration 0 0) }
+    {
+        let mut left = n;
+        for k in 0..self.froms.len() {
+            let shift = self.shifts[k];
+            let h = held(self.range(k), shift, t);
+            if left < h {
+                return Iteration {
+                    number: k,
+                    index: t - shift as usize,
+                };
+            }
+            left -= h;
+        }
+        Iteration {
+            number: 0,
+            index: 0,
+        }
+    }
+}
+
+impl Weighted<'_, '_> {
+    // What loop k adds to the count below t.
+    #[tactic(auto, unfolding(lists::specs::Below::weighted))]
+    fn weighted_at(&self, t: usize, k: usize) -> usize
+        requires { k < loops_in self.now.columns }
+        ensures { (result ≡ weighted_in self.now t k) × (result ≤ 2 ^ 48) }
+    {
+        self.weights[k] as usize * clipped(self.columns.range(k), self.columns.shifts[k], t)
+    }
+
+    // How many iterations have a sum below t, each counted with its loop's weight.
+    pub fn below_sum(&self, t: usize) -> usize
+        ensures { (result ≡ below_in self.now t) × (result ≤ 2 ^ 52) }
+    {
+        let mut sum = 0;
+        for k in 0..self.columns.froms.len() {
+            sum += self.weighted_at(t, k);
+        }
+        sum
     }
 
     // One turn of the search. Whatever the guess, the turn is right; with a good one the search is short.
@@ -230,17 +254,21 @@ impl Columns<'_> {
             slope: 0,
             offset: 0,
         };
-        for k in 0..self.froms.len() {
-            l = l.with(self.range(k), self.shifts[k], self.weights[k]);
+        for k in 0..self.columns.froms.len() {
+            l = l.with(
+                self.columns.range(k),
+                self.columns.shifts[k],
+                self.weights[k],
+            );
         }
         l
     }
 
     // Where the n-th iteration stands, counted by weights. Most stand on the line, where a division finds them; the others, at sums
     // where some loop has not begun or is done, are searched for.
-    fn position_of(&self, n: usize) -> Position
-        requires { n < below_in self.now (bound_in self.now) }
-        ensures { LocatedIn self.now (bound_in self.now) n result }
+    pub fn position_of(&self, n: usize) -> Position
+        requires { n < below_in self.now (bound_in self.now.columns) }
+        ensures { LocatedIn self.now (bound_in self.now.columns) n result }
     {
         let line = self.line();
         let at = line.at(n);
@@ -250,29 +278,7 @@ impl Columns<'_> {
         {
             return p;
         }
-        self.find(self.sum_bound(), at.map(|p| p.sum), n)
-    }
-
-    // The n-th iteration of the sum t; (0, 0) past the last.
-    fn nth_at_sum(&self, t: usize, n: usize) -> Iteration
-        ensures { result ≡ get_or (sum_at (loops_in self.now) (range_in self.now) (shift_in self.now) t) n (iteration 0 0) }
-    {
-        let mut left = n;
-        for k in 0..self.froms.len() {
-            let shift = self.shifts[k];
-            let h = held(self.range(k), shift, t);
-            if left < h {
-                return Iteration {
-                    number: k,
-                    index: t - shift as usize,
-                };
-            }
-            left -= h;
-        }
-        Iteration {
-            number: 0,
-            index: 0,
-        }
+        self.find(self.columns.sum_bound(), at.map(|p| p.sum), n)
     }
 }
 
@@ -282,14 +288,16 @@ pub fn fused_nth(froms: &[u32], pasts: &[u32], shifts: &[u32], n: usize) -> Iter
     requires n_in_bounds { n < length (fused_columns froms.now pasts.now shifts.now) }
     ensures { result ≡ get_or (fused_columns froms.now pasts.now shifts.now) n (iteration 0 0) }
 {
-    let loops = Columns {
-        froms,
-        pasts,
-        shifts,
+    let loops = Weighted {
+        columns: Columns {
+            froms,
+            pasts,
+            shifts,
+        },
         weights: &[1; 16],
     };
     let at = loops.position_of(n);
-    loops.nth_at_sum(at.sum, at.before)
+    loops.columns.nth_at_sum(at.sum, at.before)
 }
 
 // The n-th iteration of the peeled list; (0, 0) past the last.

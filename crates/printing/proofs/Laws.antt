@@ -10,6 +10,7 @@ use lib.ListN.{length, drop, length-append}
 use Rattle.refusals.specs.Refusals.{met}
 use Rattle.refusals.specs.declared.Refusal.{Refusal}
 use Rattle.refusals.specs.Answers.{accepted, refused, ◌if◌else◌, result_of}
+use Rattle.records.specs.declared.storage.Store.{Store}
 use Rattle.reader.specs.Store.{table_in}
 use Rattle.lists.specs.Fusion.{fusion_in}
 use Rattle.blocks.specs.declared.Axis.{Axis}
@@ -37,7 +38,7 @@ module _ (text out : List ℕ) {none : List ℕ} {most size : ℕ} (asked : Whol
       gives-written text out left n (omega (arith, asked.size)) w.size (w.bytes ∙ written-front out text (omega (arith, asked.size)))
 
 -- the lines are those of the plan in the axis
-pub lines_are : (a : Axis) (c : List ℕ) (z : Sweeps) → z ≡ sweeps (table_in c)
+pub lines_are : (a : Axis) (c : Store) (z : Sweeps) → z ≡ sweeps (table_in c)
     → listing (table_in c) (fusion_in a) z.before z.after ≡ listing_of (planned_in a c)
 unfolding sweeps
 lines_are a c z e = rw e
@@ -66,7 +67,7 @@ module _ (s : List ℕ) (w : Settings) (out : List ℕ) where
   unfolding text text_of
   refused-printed r e g l = rw e (record { gives = g; few = omega (arith, l); fits = written-fits _ out _ _ g })
 
-  module _ (x : Axis) (c : List ℕ) (m : Made (planned s w) x c) {left : List ℕ} {o : Result ℕ Refusal}
+  module _ (x : Axis) (c : Store) (m : Made (planned s w) x c) {left : List ℕ} {o : Result ℕ Refusal}
       (g : Gives (fitted (length out) (listing_of (planned_in x c))) out left o) where
     pub made-given : Gives (listing_given s w (length out)) out left o
     made-given =

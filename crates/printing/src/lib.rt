@@ -11,7 +11,7 @@ ghost use Rattle.printing.specs.Printing.{listing_of, listing_given, text, Print
 
 use blocks::Axis;
 use plans::Settings;
-use records::{STORE, Store};
+use records::Store;
 use refusals::Refusal;
 
 // The lines of a plan. The first call, with no bytes, tells how many are needed.
@@ -31,7 +31,7 @@ fn print_lines(out: &mut [u8], a: &Axis, store: &Store) -> Result<usize, Refusal
 pub fn print_listing(s: &[u8], w: Settings, out: &mut [u8]) -> Result<usize, Refusal>
     ensures { Gives (listing_given s.now w (length out.old)) out.old out.new result }
 {
-    let mut store = [0u32; STORE];
+    let mut store = Store::new();
     let axis = plans::plan_table(s, w, &mut store)?;
     print_lines(out, &axis, &store)
 }
@@ -53,7 +53,7 @@ fn print_refusal(out: &mut [u8], r: Refusal) -> Result<usize, Refusal>
 fn print_text(s: &[u8], w: Settings, out: &mut [u8]) -> Result<usize, Refusal>
     ensures { Prints (text s.now w) out.old out.new result }
 {
-    let mut store = [0u32; STORE];
+    let mut store = Store::new();
     match plans::plan_table(s, w, &mut store) {
         Ok(axis) => print_lines(out, &axis, &store),
         Err(r) => print_refusal(out, r),

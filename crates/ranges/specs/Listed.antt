@@ -1,13 +1,14 @@
 -- What is known of the ranges of an accepted plan: the bounds that the code's sums need, and the lists that they give.
 use Prim.Native.Nat.{ℕ, zero, suc, ◌+◌, ◌-◌, ◌*◌, ◌≤◌, ◌<◌, ◌^◌, min, max}
 use native.Mathlib.Omega.{arith}
-use Rattle.std.specs.Prelude.{◌≡◌, Bool, ◌⊎◌, List, eqb, length, get_or, drop}
-use Rattle.std.proofs.Common.{sym, ap, ◌∙◌, inl, inr, length-take, length-drop, get_or-take, get_or-drop}
+use Rattle.std.specs.Prelude.{◌≡◌, Bool, eqb, length, get_or, take}
+use Rattle.std.proofs.Common.{sym, ap, ◌∙◌, length-take, get_or-take}
 use Rattle.std.proofs.Math.Bool.{true, false, cond}
 use mathlib.Core.List.{Memᴰ as Mem}
 use Rattle.order.specs.Lists.{nth-mem}
 use Rattle.model.specs.Table.{count, first, last, iteration, Inside}
 use Rattle.model.specs.declared.Iteration.{Iteration}
+use Rattle.records.specs.declared.storage.Store.{Store}
 use Rattle.reader.specs.Store.{first_at, last_at, loops_in, table_in}
 use Rattle.reader.specs.Held.{count_held, first-held, last-held}
 use Rattle.reader.specs.Held.{few-loops as few-held}
@@ -27,9 +28,10 @@ use Rattle.lists.specs.Fusion.{fusion_in, fused_range, peeled_range, work}
 use Rattle.lists.proofs.FusionLaws.{fused-list, peeled-list, fused-columns, peeled-columns}
 use Rattle.positions.specs.Search.{Aligned}
 use Rattle.plans.specs.Code.{Laid}
-use Rattle.ranges.specs.Code.{part_in, range_of, cut, list_of, RangesKept, Apart}
+use Rattle.ranges.specs.declared.phase_ranges.PhaseRanges.{PhaseRanges}
+use Rattle.ranges.specs.Code.{part_in, range_of, list_of, RangesKept}
 
-module _ (a : Axis) (c : List ℕ) (h : Laid a c) where
+module _ (a : Axis) (c : Store) (h : Laid a c) where
   -- WHAT THE CODE ASKS
   pub few-loops : loops_in c ≤ 16
   few-loops = few-held h.held
@@ -134,70 +136,46 @@ module _ (a : Axis) (c : List ℕ) (h : Laid a c) where
       small : (y : Iteration) → Inside (table_in c) y → (y.number < 16) × (y.index ≤ 65790)
       small y (d, f, g) = (omega (arith, few-loops, loops-are), omega (arith, valid-last (table_in c) h.fit.valid y.number d))
 
--- NUMBERS CUT OUT of a run
-module _ (xs : List ℕ) (at l : ℕ) (room : at + l ≤ length xs) where
-  pub cut-long : length (cut xs at l) ≡ l
-  cut-long = omega (arith, length-take l (drop at xs), length-drop at xs)
-
-  pub cut_at : (k : ℕ) → k < l → get_or (cut xs at l) k 0 ≡ get_or xs (at + k) 0
-  cut_at k i = get_or-take l (drop at xs) k 0 i ∙ get_or-drop at xs k 0
-
 -- KEPT RANGES give the list of the plan
-module _ (xs : List ℕ) (at l : ℕ) (few : l ≤ 16) (room : at + 48 ≤ length xs) where
-  pub kept-aligned : (length (cut xs at l) ≤ 16) × Aligned (cut xs at l) (cut xs (at + 16) l) (cut xs (at + 32) l)
-  kept-aligned =
-      let e = cut-long xs at l (omega arith) in
-      (omega arith, record { pasts = omega (arith, cut-long xs (at + 16) l (omega arith)); shifts = omega (arith, cut-long xs (at + 32) l (omega arith)) })
+module _ (x : PhaseRanges) (l : ℕ) (few : l ≤ 16) where
+  pub froms-long : length (take l x.froms) ≡ l
+  froms-long = omega (arith, length-take l x.froms, x.sized.froms_sized)
 
-  module _ (f : ℕ → Range) (s : ℕ → ℕ) (kept : RangesKept xs at l f s) where
-    pub kept-range : (k : ℕ) → k < l → ranges (cut xs at l) (cut xs (at + 16) l) k ≡ f k
+  pub kept-aligned : (length (take l x.froms) ≤ 16) × Aligned (take l x.froms) (take l x.pasts) (take l x.shifts)
+  kept-aligned = (
+    omega (arith, froms-long),
+    record {
+      pasts = omega (arith, froms-long, length-take l x.pasts, x.sized.pasts_sized);
+      shifts = omega (arith, froms-long, length-take l x.shifts, x.sized.shifts_sized);
+    },
+  )
+
+  module _ (f : ℕ → Range) (s : ℕ → ℕ) (kept : RangesKept x l f s) where
+    pub kept-range : (k : ℕ) → k < l → ranges (take l x.froms) (take l x.pasts) k ≡ f k
     kept-range k i =
-        let e : at + 16 + k ≡ at + k + 16 = omega arith in
-        let p = cut_at xs at l (omega arith) k i ∙ kept.from k i in
-        let q = cut_at xs (at + 16) l (omega arith) k i ∙ ap (λ (j : ℕ). get_or xs j 0) e ∙ kept.past k i in
+        let p = get_or-take l x.froms k 0 i ∙ kept.from k i in
+        let q = get_or-take l x.pasts k 0 i ∙ kept.past k i in
         rw (p, q)
 
-    pub kept-shift : (k : ℕ) → k < l → column (cut xs (at + 32) l) k ≡ s k
-    kept-shift k i =
-        let e : at + 32 + k ≡ at + k + 32 = omega arith in
-        cut_at xs (at + 32) l (omega arith) k i ∙ ap (λ (j : ℕ). get_or xs j 0) e ∙ kept.shift k i
+    pub kept-shift : (k : ℕ) → k < l → column (take l x.shifts) k ≡ s k
+    kept-shift k i = get_or-take l x.shifts k 0 i ∙ kept.shift k i
 
-pub list-in : (a : Axis) (c : List ℕ) (h : Laid a c) (n b : ℕ) (xs : List ℕ) (at : ℕ) → RangesKept xs at (loops_in c) (range_of n a c b) (column a.shifts)
-    → list_of xs at (loops_in c) n ≡ work (table_in c) (fusion_in a) n b
-list-in a c h n b xs at kept = go n (λ k l. rng k l ∙ range-in a c h n b k (omega (arith, loops-are a c h)))
+pub list-in : (a : Axis) (c : Store) (h : Laid a c) (n b : ℕ) (x : PhaseRanges) → RangesKept x (loops_in c) (range_of n a c b) (column a.shifts)
+    → list_of x (loops_in c) n ≡ work (table_in c) (fusion_in a) n b
+list-in a c h n b x kept = go n (λ k l. rng k l ∙ range-in a c h n b k (omega (arith, loops-are a c h)))
   where
-    rng : (k : ℕ) → k < count (table_in c) → ranges (cut xs at (loops_in c)) (cut xs (at + 16) (loops_in c)) k ≡ range_of n a c b k
-    rng k i = kept-range xs at (loops_in c) (few-loops a c h) kept.room (range_of n a c b) (column a.shifts) kept k (omega (arith, loops-are a c h))
+    few : loops_in c ≤ 16
+    few = few-loops a c h
 
-    long : length (cut xs at (loops_in c)) ≡ count (table_in c)
-    long = cut-long xs at (loops_in c) (omega (arith, kept.room, few-loops a c h)) ∙ loops-are a c h
+    rng : (k : ℕ) → k < count (table_in c) → ranges (take (loops_in c) x.froms) (take (loops_in c) x.pasts) k ≡ range_of n a c b k
+    rng k i = kept-range x (loops_in c) few (range_of n a c b) (column a.shifts) kept k (omega (arith, loops-are a c h))
 
-    go : (m : ℕ) → ((k : ℕ) → k < count (table_in c) → ranges (cut xs at (loops_in c)) (cut xs (at + 16) (loops_in c)) k ≡ range_in a c h m b k)
-        → list_of xs at (loops_in c) m ≡ work (table_in c) (fusion_in a) m b
+    long : length (take (loops_in c) x.froms) ≡ count (table_in c)
+    long = froms-long x (loops_in c) few ∙ loops-are a c h
+
+    go : (m : ℕ) → ((k : ℕ) → k < count (table_in c) → ranges (take (loops_in c) x.froms) (take (loops_in c) x.pasts) k ≡ range_in a c h m b k)
+        → list_of x (loops_in c) m ≡ work (table_in c) (fusion_in a) m b
     go zero e =
-        fused-columns (table_in c) (fusion_in a) (cut xs at (loops_in c)) (cut xs (at + 16) (loops_in c)) (cut xs (at + 32) (loops_in c)) b long e
-        (λ k i. kept-shift xs at (loops_in c) (few-loops a c h) kept.room (range_of n a c b) (column a.shifts) kept k (omega (arith, loops-are a c h)))
-    go (suc m) e = peeled-columns (table_in c) (fusion_in a) (cut xs at (loops_in c)) (cut xs (at + 16) (loops_in c)) b long e
-
--- WHAT IS WRITTEN ELSEWHERE does not touch them
-pub kept-apart : {f : ℕ → Range} {s : ℕ → ℕ} (xs ys : List ℕ) (at l from past : ℕ) → l ≤ 16 → RangesKept xs at l f s → Apart xs ys from past
-    → (at + 48 ≤ from) ⊎ (past ≤ at) → RangesKept ys at l f s
-kept-apart xs ys at l from past few kept apart away = record {
-  room = omega (arith, kept.room, apart.long);
-  from = λ k i. left away (at + k) (omega arith) (omega arith) ∙ kept.from k i;
-  past = λ k i. left away (at + k + 16) (omega arith) (omega arith) ∙ kept.past k i;
-  shift = λ k i. left away (at + k + 32) (omega arith) (omega arith) ∙ kept.shift k i;
-}
-  where
-    left : (at + 48 ≤ from) ⊎ (past ≤ at) → (i : ℕ) → at ≤ i → i < at + 48 → get_or ys i 0 ≡ get_or xs i 0
-    left (inl q) i l m = apart.below i (omega arith)
-    left (inr q) i l m = apart.above i (omega arith)
-
--- two writes one after the other
-pub apart-twice : (xs ys zs : List ℕ) (from past from' past' low high : ℕ) → Apart xs ys from past → Apart ys zs from' past'
-    → low ≤ from → low ≤ from' → past ≤ high → past' ≤ high → Apart xs zs low high
-apart-twice xs ys zs from past from' past' low high a b i j k l = record {
-  long = b.long ∙ a.long;
-  below = λ n m. b.below n (omega arith) ∙ a.below n (omega arith);
-  above = λ n m. b.above n (omega arith) ∙ a.above n (omega arith);
-}
+        fused-columns (table_in c) (fusion_in a) (take (loops_in c) x.froms) (take (loops_in c) x.pasts) (take (loops_in c) x.shifts) b long e
+        (λ k i. kept-shift x (loops_in c) few (range_of n a c b) (column a.shifts) kept k (omega (arith, loops-are a c h)))
+    go (suc m) e = peeled-columns (table_in c) (fusion_in a) (take (loops_in c) x.froms) (take (loops_in c) x.pasts) b long e

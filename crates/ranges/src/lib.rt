@@ -1,4 +1,4 @@
-// The ranges of a plan's loops in a block, kept in a lent run of numbers, and the lists that they give: how long, and their n-th iteration.
+// The ranges of a plan's loops in a block, kept for a phase, and the lists that they give: how long, and their n-th iteration.
 #![tactic(auto)]
 
 ghost use Rattle.std.specs.Prelude.{◌≡◌, ℕ, ◌+◌, ◌≤◌, ◌<◌, ◌^◌, length, get_or, set};
@@ -7,20 +7,16 @@ ghost use Rattle.reader.specs.Store.{last_at, loops_in, table_in};
 ghost use Rattle.blocks.specs.Sums.{column};
 ghost use Rattle.lists.specs.Fusion.{fusion_in, work};
 ghost use Rattle.plans.specs.Code.{Laid};
-ghost use Rattle.ranges.specs.Code.{part_in, part_at, range_of, Measures, list_of, RangesKept, Apart};
+ghost use Rattle.ranges.specs.Code.{part_in, part_at, range_of, Measures, list_of, RangesKept};
+
+mod phase_ranges;
 
 use blocks::{Axis, Part, Range};
 use model::Iteration;
+pub use phase_ranges::PhaseRanges;
 use records::Store;
 
-// Past a phase's first indices stand the indices past its last ones, then the shifts.
-const PASTS: usize = 16;
-
-const SHIFTS: usize = 32;
-
-// How many numbers a phase has of a processor, and how many phases there are.
-pub const PHASE: usize = 48;
-
+// How many phases there are.
 pub const PHASES: u32 = 2;
 
 // How many iterations a processor's two lists have.
@@ -53,13 +49,25 @@ pub fn range_at(part: Part, a: &Axis, blk: Range, b: u32, k: usize, store: &Stor
     a.part(part, own, blk, b, k)
 }
 
-fn put_range(lists: &mut [u32], at: usize, r: Range, shift: u32)
-    requires { at + 32 < length lists.old }
-    ensures { lists.new ≡ set (set (set lists.old at r.from) (at + 16) r.past) (at + 32) shift }
-{
-    lists[at] = r.from;
-    lists[at + PASTS] = r.past;
-    lists[at + SHIFTS] = shift;
+impl PhaseRanges {
+    // With no range in it.
+    pub fn new() -> Self {
+        PhaseRanges {
+            froms: [0; 16],
+            pasts: [0; 16],
+            shifts: [0; 16],
+        }
+    }
+
+    // The range and the shift of loop k put in their places.
+    fn put(&mut self, k: usize, r: Range, shift: u32)
+        requires { k < 16 }
+        ensures { (self.new.froms ≡ set self.old.froms k r.from) × (self.new.pasts ≡ set self.old.pasts k r.past) × (self.new.shifts ≡ set self.old.shifts k shift) }
+    {
+        self.froms[k] = r.from;
+        self.pasts[k] = r.past;
+        self.shifts[k] = shift;
+    }
 }
 
 // How many iterations the fused and the peeled list have in block b.
@@ -78,36 +86,32 @@ pub fn lengths_of(a: &Axis, b: u32, store: &Store) -> Lengths
     Lengths { fused, peeled }
 }
 
-// The ranges of a phase in block b, kept from `at` on; answers how many iterations the list has that they give.
-pub fn put_list(phase: u32, a: &Axis, b: u32, store: &Store, lists: &mut [u32], at: usize) -> usize
-    requires { Laid a.now store.now × (b < a.now.blocks) × (at + 48 ≤ length lists.old) × (at < 2 ^ 32) }
+// The ranges of a phase in block b, kept; answers how many iterations the list has that they give.
+pub fn put_list(phase: u32, a: &Axis, b: u32, store: &Store, ranges: &mut PhaseRanges) -> usize
+    requires { Laid a.now store.now × (b < a.now.blocks) }
     ensures value { (result ≡ length (work (table_in store.now) (fusion_in a.now) phase b)) × (result ≤ 1052656) }
-    ensures ranges_kept { RangesKept lists.new at (loops_in store.now) (range_of phase a.now store.now b) (column a.now.shifts) }
-    ensures apart { Apart lists.old lists.new at (at + 48) }
+    ensures ranges_kept { RangesKept ranges.new (loops_in store.now) (range_of phase a.now store.now b) (column a.now.shifts) }
 {
     let blk = a.block(b);
     let part = part_in(phase);
     let mut sum = 0;
     for k in 0..reader::loops_in(store) {
         let r = range_at(part, a, blk, b, k, store);
-        put_range(lists, at + k, r, a.shifts[k]);
+        ranges.put(k, r, a.shifts[k]);
         sum += r.length() as usize;
     }
     sum
 }
 
-// The n-th iteration of the list of a phase that ranges kept from `at` on give.
-pub fn nth_of(phase: u32, loops: usize, lists: &[u32], at: usize, n: usize) -> Iteration
-    requires { (loops ≤ 16) × (at + 48 ≤ length lists.now) × (n < length (list_of lists.now at loops phase)) }
-    ensures { result ≡ get_or (list_of lists.now at loops phase) n (iteration 0 0) }
+// The n-th iteration of the list that the first loops' kept ranges give in a phase.
+pub fn nth_of(phase: u32, loops: usize, ranges: &PhaseRanges, n: usize) -> Iteration
+    requires { (loops ≤ 16) × (n < length (list_of ranges.now loops phase)) }
+    ensures { result ≡ get_or (list_of ranges.now loops phase) n (iteration 0 0) }
 {
-    let froms = &lists[at..at + loops];
-    let pasts = &lists[at + PASTS..at + PASTS + loops];
+    let froms = &ranges.froms[..loops];
+    let pasts = &ranges.pasts[..loops];
     match part_in(phase) {
-        Part::Fused => {
-            let shifts = &lists[at + SHIFTS..at + SHIFTS + loops];
-            positions::fused_nth(froms, pasts, shifts, n)
-        }
+        Part::Fused => positions::fused_nth(froms, pasts, &ranges.shifts[..loops], n),
         Part::Peeled => positions::peeled_nth(froms, pasts, n),
     }
 }

@@ -8,6 +8,7 @@ use lib.Seq.{get_or-take}
 use borrow.Author.Tests.{lt-ltb, le-ltb}
 use Rattle.records.specs.declared.Record.{Record}
 use Rattle.records.specs.declared.Record.TheVariants as rec
+use Rattle.records.specs.declared.storage.Store.{Store}
 use Rattle.records.specs.declared.Summary.{Summary}
 use Rattle.records.specs.declared.Tested.{Tested}
 use Rattle.records.specs.declared.Tested.TheVariants as found
@@ -21,13 +22,13 @@ use Rattle.std.specs.Prelude.{Ok, Err}
 use Rattle.refusals.specs.Refusals.{met}
 use Rattle.refusals.specs.Answers.{accepted}
 use Rattle.reader.specs.Reading.{follow, read_from, reading, table_of}
-use Rattle.reader.specs.Store.{Sized, start_at, kept, rows_after, table_at, with_counts, Places, ArrayFits}
+use Rattle.reader.specs.Store.{start_at, kept, rows_after, table_at, with_counts, Places, ArrayFits}
 use Rattle.reader.specs.ReadInto.{ReadInto}
 use Rattle.reader.specs.Stored.{Stored, InPlace}
 use Rattle.reader.specs.StoredLaws.{stored-all, stored-start, kept_small, kept-stored, counted-table, counted-holds}
 
 -- the records before `at` have been read, and the rest from there gives the whole reading
-pub record Inv (s : List ℕ) (c : List ℕ) (t : Summary) (at rows : ℕ) : Type 0 where
+pub record Inv (s : List ℕ) (c : Store) (t : Summary) (at rows : ℕ) : Type 0 where
   pub rs : List Record
   pub left : ℕ
   pub summed : t ≡ summary rs
@@ -36,32 +37,32 @@ pub record Inv (s : List ℕ) (c : List ℕ) (t : Summary) (at rows : ℕ) : Typ
   pub fuel : length s < at + left
   pub stored : Stored c rs rows
 
-pub start : (s : List ℕ) (c : List ℕ) (t : Summary) → t ≡ blank → Sized c → start_at c 0 ≡ 0 → Inv s c t 0 0
+pub start : (s : List ℕ) (c : Store) (t : Summary) → t ≡ blank → start_at c 0 ≡ 0 → Inv s c t 0 0
 unfolding reading summary
-start s c t e z f = record {
+start s c t e f = record {
   rs = [];
   left = suc (length s);
   summed = e;
   rest = refl;
   here = omega arith;
   fuel = omega arith;
-  stored = stored-start c z f;
+  stored = stored-start c f;
 }
 
-module _ (s : List ℕ) (c : List ℕ) (t : Summary) (at rows : ℕ) (inv : Inv s c t at rows) where
+module _ (s : List ℕ) (c : Store) (t : Summary) (at rows : ℕ) (inv : Inv s c t at rows) where
   open inv use {rs, left, summed, rest, here, fuel, stored}
 
   pub places : Places t rows
   places = rw summed (record { arrays = stored.kept.few-arrays; loops = stored.kept.few-loops; rows = stored.kept.few-rows })
 
-  lens_same : (q : ℕ) → q < (summary rs).arrays → get_or c q 0 ≡ get_or (lengths rs) q 0
-  lens_same q l = sym (get_or-take (summary rs).arrays c q 0 l) ∙ ap (λ (ns : List ℕ). get_or ns q 0) stored.lens
+  lens_same : (q : ℕ) → q < (summary rs).arrays → get_or c.lengths q 0 ≡ get_or (lengths rs) q 0
+  lens_same q l = sym (get_or-take (summary rs).arrays c.lengths q 0 l) ∙ ap (λ (ns : List ℕ). get_or ns q 0) stored.lens
 
   -- what the code found is what the definition finds
-  module _ (x : Tested) (answered : x ≡ tested s at t c) where
+  module _ (x : Tested) (answered : x ≡ tested s at t c.lengths) where
     find : tested s at (summary rs) (lengths rs) ≡ x
     find =
-        sym (answered ∙ ap (λ (u : Summary). tested s at u c) summed ∙ tested-same (summary rs) c (lengths rs) lens_same s at)
+        sym (answered ∙ ap (λ (u : Summary). tested s at u c.lengths) summed ∙ tested-same (summary rs) c.lengths (lengths rs) lens_same s at)
 
     -- a turn of the definition
     turn : (y : Tested) → x ≡ y → follow s rs (λ r n. read_from (left - 1) s n (r ∷ rs)) y ≡ reading s
@@ -77,12 +78,12 @@ module _ (s : List ℕ) (c : List ℕ) (t : Summary) (at rows : ℕ) (inv : Inv 
     unfolding follow
     turn-tail n e l = sym (rw (lt-ltb _ _ l) at (turn (found.Ended n) e))
 
-    pub turn-ended : (n : ℕ) (d : List ℕ) → x ≡ found.Ended n → length s ≤ n → d ≡ with_counts t.arrays t.loops c → ReadInto (reading s) (Ok tt) d
+    pub turn-ended : (n : ℕ) (d : Store) → x ≡ found.Ended n → length s ≤ n → d ≡ with_counts t.arrays t.loops c → ReadInto (reading s) (Ok tt) d
     unfolding follow
     turn-ended n d e h f =
         rw f (
-          sym (rw (le-ltb _ _ h) at (turn (found.Ended n) e)) ∙ ap accepted (sym (counted-table c t.arrays t.loops rows stored.sized here-kept ∙ table)),
-          counted-holds c t.arrays t.loops rows stored.sized here-kept,
+          sym (rw (le-ltb _ _ h) at (turn (found.Ended n) e)) ∙ ap accepted (sym (counted-table c t.arrays t.loops rows here-kept ∙ table)),
+          counted-holds c t.arrays t.loops rows here-kept,
         )
       where
         here-kept : InPlace c t.arrays t.loops rows
@@ -107,7 +108,7 @@ module _ (s : List ℕ) (c : List ℕ) (t : Summary) (at rows : ℕ) (inv : Inv 
           let clear = whole.0.clear in
           (places, (kept-stored c rs rows stored r clear whole.1).kept.few-rows, kept_small c rs rows stored r clear)
 
-      pub turn-passed : (d : List ℕ) (u : Summary) (m : ℕ) → d ≡ kept r t rows c → u ≡ advanced r t → m ≡ rows_after r rows → Inv s d u n m
+      pub turn-passed : (d : Store) (u : Summary) (m : ℕ) → d ≡ kept r t rows c → u ≡ advanced r t → m ≡ rows_after r rows → Inv s d u n m
       unfolding summary follow
       turn-passed d u m f g h = record {
         rs = r ∷ rs;

@@ -1,28 +1,29 @@
 -- What is known of a store that holds a table: one law for each field.
-use Rattle.std.specs.Prelude.{ℕ, suc, ◌≤◌, ◌<◌, ◌≡◌, refl, List, length, take}
+use Rattle.std.specs.Prelude.{ℕ, suc, ◌≤◌, ◌<◌, ◌≡◌, refl, length, take}
 use Rattle.std.proofs.Common.{arith, sym, ap, ◌∙◌, length-take-le}
 use Rattle.model.specs.Table.{Loop, Table, count, loop, first, last}
+use Rattle.records.specs.declared.storage.Store.{Store}
 use Rattle.reader.specs.Store.{first_at, last_at, start_at, kind_at, arrays_in, loops_in, loop_at, table_in}
 use Rattle.reader.specs.StoreLaws.{count-table, loop-table}
 use Rattle.reader.specs.Stored.{Row, Holds}
 use Rattle.reader.specs.StoredLaws.{starts-up}
 
 -- the table that a store holds, if its rows are in order
-abbrev pub Held : List ℕ → Type 0
+abbrev pub Held : Store → Type 0
 Held c = Holds c (table_in c)
 
-module _ {c : List ℕ} {t : Table} (h : Holds c t) where
+module _ {c : Store} {t : Table} (h : Holds c t) where
   pub held : Held c
-  held = record { is = refl; sized = h.sized; kept = h.kept }
+  held = record { is = refl; kept = h.kept }
 
-  pub lengths-held : t.lengths ≡ take (arrays_in c) c
+  pub lengths-held : t.lengths ≡ take (arrays_in c) c.lengths
   lengths-held = sym (ap (λ (u : Table). u.lengths) h.is)
 
   pub few-arrays : arrays_in c ≤ 16
   few-arrays = h.kept.few-arrays
 
   pub arrays-held : length t.lengths ≡ arrays_in c
-  arrays-held = ap length lengths-held ∙ length-take-le (arrays_in c) c (omega (arith, h.sized, few-arrays))
+  arrays-held = ap length lengths-held ∙ length-take-le (arrays_in c) c.lengths (omega (arith, c.sized.lengths_sized, few-arrays))
 
   pub count_held : count t ≡ loops_in c
   count_held = sym (ap count h.is) ∙ count-table c (arrays_in c) (loops_in c)

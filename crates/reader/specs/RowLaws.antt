@@ -1,9 +1,9 @@
 -- Laws of a loop's references as its rows have them: they are the references of the loop, row by row.
-use Prim.Native.Nat.{ℕ, zero, suc, ◌+◌, ◌-◌, ◌/◌, ◌%◌, ◌≤◌, ◌<◌}
+use Prim.Native.Nat.{ℕ, zero, suc, ◌+◌, ◌-◌, ◌≤◌, ◌<◌}
 use native.Mathlib.Omega.{arith}
 use Rattle.std.proofs.Math.Decide.{ℕ_discrete, dec_lt}
 use Rattle.std.proofs.Math.Numerals.{add-one}
-use Rattle.std.specs.Prelude.{◌≡◌, ◌&&◌, eqb, ltb, length}
+use Rattle.std.specs.Prelude.{◌≡◌, eqb, ltb, length}
 use Rattle.std.proofs.Math.Path.{refl, ap}
 use Rattle.std.proofs.Common.{sym, subst, ◌∙◌}
 use Rattle.std.proofs.Math.Logic.{⊎_elim}
@@ -19,26 +19,14 @@ use borrow.Author.Tests.{lt-ltb, le-ltb, eq-eqb, ne_eqb}
 use Rattle.model.specs.declared.Reference.{Reference}
 use Rattle.model.specs.Table.{Item, count}
 use Rattle.model.specs.References.{reads, references, refs}
+use Rattle.records.specs.declared.storage.Store.{Store}
 use Rattle.reader.specs.Store.{start_at, kind_at, array_at, value_at, item_of, item_at, lead_from, body_from, table_in}
 use Rattle.reader.specs.Stored.{Row}
 use Rattle.reader.specs.Held.{Held, loop-held, rows-rise, few-rows, row-held, opening-held}
 use Rattle.reader.specs.Rows.{ref_in, row_refs, refers_to, refs_from, refs_in, NoneBehind, LastDestination}
 
--- A HEAD: a reference's is its array, for a destination with 16 added
-module _ (h q : ℕ) (few : q < 16) where
-  pub head_read : h ≡ q → true ≡ (ltb (h / 16) 2 && eqb (h % 16) q)
-  head_read e = sym (rw (lt-ltb (h / 16) 2 (omega arith), eq-eqb (h % 16) q (omega arith)))
-
-  pub head-stored : (h ≡ q → ⊥) → eqb h (q + 16) ≡ (ltb (h / 16) 2 && eqb (h % 16) q)
-  head-stored n = go (ℕ_discrete h (q + 16)) (dec_lt (h / 16) 2)
-    where
-      go : Dec (h ≡ q + 16) → Dec (h / 16 < 2) → eqb h (q + 16) ≡ (ltb (h / 16) 2 && eqb (h % 16) q)
-      go (yes e) d = rw (eq-eqb h (q + 16) e, lt-ltb (h / 16) 2 (omega arith), eq-eqb (h % 16) q (omega arith))
-      go (no e) (yes d) = rw (ne_eqb h (q + 16) e, lt-ltb (h / 16) 2 d, ne_eqb (h % 16) q (λ z. omega arith))
-      go (no e) (no d) = rw (ne_eqb h (q + 16) e, le-ltb (h / 16) 2 (omega arith))
-
 -- A ROW THAT REFERS TO AN ARRAY, as a test and as it is said
-module _ (c : List ℕ) (r q : ℕ) where
+module _ (c : Store) (r q : ℕ) where
   pub is-refers : kind_at c r < 2 → array_at c r ≡ q → refers_to c r q ≡ true
   is-refers k e = rw (lt-ltb (kind_at c r) 2 k, eq-eqb (array_at c r) q e)
 
@@ -50,7 +38,7 @@ module _ (c : List ℕ) (r q : ℕ) where
       go (yes k) (no e) = absurd (false≢true (rw (lt-ltb (kind_at c r) 2 k, ne_eqb (array_at c r) q e) at t))
       go (no k) e = absurd (false≢true (rw (le-ltb (kind_at c r) 2 (omega arith)) at t))
 
-module _ (c : List ℕ) (k : ℕ) where
+module _ (c : Store) (k : ℕ) where
   -- ONE ROW
   pub row-reference : (r : ℕ) → kind_at c r < 2 → row_refs c k r ≡ ref_in c k r ∷ []
   unfolding row_refs
@@ -156,7 +144,7 @@ module _ (c : List ℕ) (k : ℕ) where
       (Memᴰ.append_cases (row_refs c k r) m)
 
 -- A LOOP OF THE TABLE IN A STORE
-module _ {c : List ℕ} (h : Held c) (k : ℕ) (l : k < count (table_in c)) where
+module _ {c : Store} (h : Held c) (k : ℕ) (l : k < count (table_in c)) where
   pub refs-held : refs (table_in c) k ≡ refs_in c k (start_at c k) (start_at c (suc k))
   refs-held =
       rw (loop-held h k l) (body-refers c k (start_at c k) (start_at c (suc k) - start_at c k) (omega (arith, rows-rise h k l)) (opening-held h k l))
@@ -167,10 +155,10 @@ module _ {c : List ℕ} (h : Held c) (k : ℕ) (l : k < count (table_in c)) wher
       (λ i a. row-held h (suc k) i l (omega (arith, rows-rise h k l))) x (rw refs-held at m)
 
 -- THE LAST DESTINATION, looked for from the last row back
-pub last_found : (c : List ℕ) (k r : ℕ) → NoneBehind c k r → kind_at c r ≡ 1 → LastDestination c k r
+pub last_found : (c : Store) (k r : ℕ) → NoneBehind c k r → kind_at c r ≡ 1 → LastDestination c k r
 last_found c k r d e = record { is = e; from = d.from; before = d.before; none = d.none }
 
-pub behind-before : (c : List ℕ) (k r : ℕ) → NoneBehind c k r → start_at c k < r → (kind_at c r ≡ 1 → ⊥) → NoneBehind c k (r - 1)
+pub behind-before : (c : Store) (k r : ℕ) → NoneBehind c k r → start_at c k < r → (kind_at c r ≡ 1 → ⊥) → NoneBehind c k (r - 1)
 behind-before c k r d up n = record {
   from = omega arith;
   before = omega (arith, d.before);
@@ -181,7 +169,7 @@ behind-before c k r d up n = record {
     go i a b e (yes z) = n (rw (← z) e)
     go i a b e (no z) = d.none i (omega arith) b e
 
-module _ {c : List ℕ} (h : Held c) (k : ℕ) (l : k < count (table_in c)) where
+module _ {c : Store} (h : Held c) (k : ℕ) (l : k < count (table_in c)) where
   pub behind-last : (past : ℕ) → past ≡ start_at c (k + 1) → NoneBehind c k (past - 1)
   behind-last past e =
       let f = ap (start_at c) (add-one k) in

@@ -1,13 +1,14 @@
 -- The references of a loop as its rows have them: a destination's row and a read's are one, other rows none.
 use Rattle.std.specs.Prelude.{ℕ, zero, suc, ◌-◌, ◌≤◌, ◌<◌, ◌≡◌, Bool, cond, ◌&&◌, List, [], ◌∷◌, ◌++◌, eqb, ltb}
 use Rattle.model.specs.declared.Reference.{Reference}
+use Rattle.records.specs.declared.storage.Store.{Store}
 use Rattle.reader.specs.Store.{start_at, kind_at, array_at, value_at}
 
 -- row r is a reference to array q
-abbrev pub refers_to : List ℕ → ℕ → ℕ → Bool
+abbrev pub refers_to : Store → ℕ → ℕ → Bool
 refers_to c r q = ltb (kind_at c r) 2 && eqb (array_at c r) q
 
-module _ (c : List ℕ) (k : ℕ) where
+module _ (c : Store) (k : ℕ) where
   -- the reference in row r of loop k
   abbrev pub ref_in : ℕ → Reference
   ref_in r = record { number = k; array = array_at c r; offset = value_at c r; stores = eqb (kind_at c r) 1 }

@@ -1,42 +1,17 @@
--- A table as it is kept: one run of numbers, with a row for each destination and each item, in byte order.
-use Rattle.std.specs.Prelude.{ℕ, zero, suc, ◌+◌, ◌-◌, ◌*◌, ◌/◌, ◌%◌, ◌≤◌, ◌<◌, cond, List, [], ◌∷◌, ◌≡◌, get_or, set, take, length, eqb}
+-- A table as it is kept: a row for each destination and each item, in byte order.
+use Rattle.std.specs.Prelude.{ℕ, zero, suc, ◌+◌, ◌-◌, ◌%◌, ◌≤◌, ◌<◌, cond, List, [], ◌∷◌, get_or, set, take, eqb}
+use Rattle.std.proofs.Common.{◌∙◌}
+use Rattle.std.proofs.Math.ListN.{length-set}
+use Rattle.std.proofs.Math.Nat.{mod-lt, zero-lt-suc}
 use Rattle.records.specs.declared.Record.{Record}
 use Rattle.records.specs.declared.Record.TheVariants as rec
 use Rattle.records.specs.declared.Summary.{Summary}
-use Rattle.reader.specs.declared.RowKind.{RowKind}
-use Rattle.reader.specs.declared.RowKind.TheVariants as row
+use Rattle.records.specs.declared.table_rows.Row.{Row}
+use Rattle.records.specs.declared.table_rows.RowKind.{RowKind}
+use Rattle.records.specs.declared.table_rows.RowKind.TheVariants as row
+use Rattle.records.specs.declared.storage.Store.{Store}
+use Rattle.records.specs.NoRow.{no_row}
 use Rattle.model.specs.Table.{Item, read, constant, operation, Statement, Loop, Table}
-
--- THE LAYOUT: the lengths of the arrays from 0 on; loop k has its bounds at k from 16 and from 32 on, and the rows from start_at k up to
--- start_at (k + 1): of each statement its destination, then its items; a row is two numbers, its head and its value; the head is the row's kind times 16 and
--- its array, which is below 16, so that both stand in one number; past all rows stand how many arrays and how many loops there are
-module _ (c : List ℕ) where
-  abbrev pub first_at : ℕ → ℕ
-  first_at k = get_or c (16 + k) 0
-
-  abbrev pub last_at : ℕ → ℕ
-  last_at k = get_or c (32 + k) 0
-
-  abbrev pub start_at : ℕ → ℕ
-  start_at k = get_or c (48 + k) 0
-
-  abbrev pub kind_at : ℕ → ℕ
-  kind_at r = get_or c (65 + 2 * r) 0 / 16
-
-  abbrev pub array_at : ℕ → ℕ
-  array_at r = get_or c (65 + 2 * r) 0 % 16
-
-  abbrev pub value_at : ℕ → ℕ
-  value_at r = get_or c (65 + 2 * r + 1) 0
-
-  abbrev pub arrays_in : ℕ
-  arrays_in = get_or c 1217 0
-
-  abbrev pub loops_in : ℕ
-  loops_in = get_or c 1218 0
-
-abbrev pub Sized : List ℕ → Type 0
-Sized c = length c ≡ 1219
 
 -- the kind of a row by its number: 0 a read, 1 a destination, 2 a constant, 3 an operation
 abbrev pub row_kind : ℕ → RowKind
@@ -48,10 +23,40 @@ kind_number row.Destination = 1
 kind_number row.Constant = 2
 kind_number row.Operation = 3
 
+-- WHAT IS READ OFF A STORE: loop k has its bounds, and the rows from start_at k up to start_at (k + 1): of each statement its destination, then its
+-- items
+module _ (c : Store) where
+  abbrev pub row_at : ℕ → Row
+  row_at r = get_or c.rows r no_row
+
+  abbrev pub first_at : ℕ → ℕ
+  first_at k = get_or c.firsts k 0
+
+  abbrev pub last_at : ℕ → ℕ
+  last_at k = get_or c.lasts k 0
+
+  abbrev pub start_at : ℕ → ℕ
+  start_at k = get_or c.starts k 0
+
+  abbrev pub kind_at : ℕ → ℕ
+  kind_at r = kind_number (row_at r).kind
+
+  abbrev pub array_at : ℕ → ℕ
+  array_at r = (row_at r).array
+
+  abbrev pub value_at : ℕ → ℕ
+  value_at r = (row_at r).value
+
+  abbrev pub arrays_in : ℕ
+  arrays_in = c.arrays
+
+  abbrev pub loops_in : ℕ
+  loops_in = c.loops
+
 unfoldable pub item_of : ℕ → ℕ → ℕ → Item
 item_of kind q v = cond (eqb kind 0) (read q v) (cond (eqb kind 2) (constant v) (operation v))
 
-module _ (c : List ℕ) where
+module _ (c : Store) where
   abbrev pub item_at : ℕ → Item
   item_at r = item_of (kind_at c r) (array_at c r) (value_at c r)
 
@@ -86,32 +91,69 @@ module _ (c : List ℕ) where
 
   -- the table of so many arrays and loops
   abbrev pub table_at : ℕ → ℕ → Table
-  table_at arrays loops = record { lengths = take arrays c; loops = loops_from 0 loops }
+  table_at arrays loops = record { lengths = take arrays c.lengths; loops = loops_from 0 loops }
 
 -- THE TABLE IN A STORE
-abbrev pub table_in : List ℕ → Table
+abbrev pub table_in : Store → Table
 table_in c = table_at c (arrays_in c) (loops_in c)
 
+-- an array's length put in its place
+unfoldable pub with_length : ℕ → ℕ → Store → Store
+with_length q n c = record c {
+  lengths = set c.lengths q n;
+  sized = record {
+    lengths_sized = length-set c.lengths q n ∙ c.sized.lengths_sized;
+    firsts_sized = c.sized.firsts_sized;
+    lasts_sized = c.sized.lasts_sized;
+    starts_sized = c.sized.starts_sized;
+    rows_sized = c.sized.rows_sized;
+  };
+}
+
+-- a row: its array is below 16 (`ArrayFits`), and a row says so of its own
+abbrev pub row_of : RowKind → ℕ → ℕ → Row
+row_of kind q v = record { kind = kind; array = q % 16; value = v; small = mod-lt q (zero-lt-suc 15) }
+
 -- one row more
-unfoldable pub with_row : ℕ → ℕ → ℕ → ℕ → ℕ → List ℕ → List ℕ
-with_row k r kind q v c = set (set (set c (48 + k) (r + 1)) (65 + 2 * r) (kind * 16 + q)) (65 + 2 * r + 1) v
+unfoldable pub with_row : ℕ → ℕ → Row → Store → Store
+with_row k r x c = record c {
+  starts = set c.starts k (r + 1);
+  rows = set c.rows r x;
+  sized = record {
+    lengths_sized = c.sized.lengths_sized;
+    firsts_sized = c.sized.firsts_sized;
+    lasts_sized = c.sized.lasts_sized;
+    starts_sized = length-set c.starts k (r + 1) ∙ c.sized.starts_sized;
+    rows_sized = length-set c.rows r x ∙ c.sized.rows_sized;
+  };
+}
 
-unfoldable pub with_bounds : ℕ → ℕ → ℕ → List ℕ → List ℕ
-with_bounds k f l c = set (set c (16 + k) f) (32 + k) l
+unfoldable pub with_bounds : ℕ → ℕ → ℕ → Store → Store
+with_bounds k f l c = record c {
+  firsts = set c.firsts k f;
+  lasts = set c.lasts k l;
+  sized = record {
+    lengths_sized = c.sized.lengths_sized;
+    firsts_sized = length-set c.firsts k f ∙ c.sized.firsts_sized;
+    lasts_sized = length-set c.lasts k l ∙ c.sized.lasts_sized;
+    starts_sized = c.sized.starts_sized;
+    rows_sized = c.sized.rows_sized;
+  };
+}
 
-unfoldable pub with_counts : ℕ → ℕ → List ℕ → List ℕ
-with_counts arrays loops c = set (set c 1217 arrays) 1218 loops
+unfoldable pub with_counts : ℕ → ℕ → Store → Store
+with_counts arrays loops c = record c { arrays = arrays; loops = loops }
 
 -- what a record adds, after records with the summary t, in row r
-unfoldable pub kept : Record → Summary → ℕ → List ℕ → List ℕ
+unfoldable pub kept : Record → Summary → ℕ → Store → Store
 kept rec.Unknown t r c = c
-kept (rec.Array n) t r c = set c t.arrays n
-kept (rec.Loop f l q o) t r c = with_row (t.loops + 1) r 1 q o (with_bounds t.loops f l c)
-kept (rec.Read q o) t r c = with_row t.loops r 0 q o c
-kept (rec.Constant n) t r c = with_row t.loops r 2 0 n c
-kept (rec.Operation o) t r c = with_row t.loops r 3 0 o c
+kept (rec.Array n) t r c = with_length t.arrays n c
+kept (rec.Loop f l q o) t r c = with_row (t.loops + 1) r (row_of row.Destination q o) (with_bounds t.loops f l c)
+kept (rec.Read q o) t r c = with_row t.loops r (row_of row.Read q o) c
+kept (rec.Constant n) t r c = with_row t.loops r (row_of row.Constant 0 n) c
+kept (rec.Operation o) t r c = with_row t.loops r (row_of row.Operation 0 o) c
 kept rec.End t r c = c
-kept (rec.Statement q o) t r c = with_row t.loops r 1 q o c
+kept (rec.Statement q o) t r c = with_row t.loops r (row_of row.Destination q o) c
 
 -- how many rows then
 unfoldable pub rows_after : Record → ℕ → ℕ
@@ -130,7 +172,7 @@ pub record Places (t : Summary) (r : ℕ) : Type 0 where
   pub loops : t.loops ≤ 16
   pub rows : r ≤ 576
 
--- the array of a record is one of sixteen: a head has room for it
+-- the array of a record is one of sixteen: one byte of a row has room for it
 abbrev pub ArrayFits : Record → Type 0
 ArrayFits rec.Unknown = Unit {0}
 ArrayFits (rec.Array n) = Unit {0}

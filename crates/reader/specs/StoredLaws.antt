@@ -1,14 +1,15 @@
 -- The store holds what was read: before the first record, after each that meets no ground, and at the end.
-use Prim.Native.Nat.{ℕ, zero, suc, ◌+◌, ◌-◌, ◌*◌, ◌/◌, ◌%◌, ◌≤◌, ◌<◌}
+use Prim.Native.Nat.{ℕ, zero, suc, ◌+◌, ◌-◌, ◌≤◌, ◌<◌}
 use native.Mathlib.Omega.{arith}
 use Rattle.std.proofs.Math.Decide.{ℕ_discrete}
+use Rattle.std.proofs.Math.Nat.{mod-eq_of_lt}
 use Rattle.std.proofs.Math.Numerals.{add-one}
-use Rattle.std.specs.Prelude.{◌≡◌, set, take}
+use Rattle.std.specs.Prelude.{◌≡◌, set}
 use Rattle.std.proofs.Math.Path.{refl, sym, ap, subst}
 use Rattle.std.proofs.Common.{◌∙◌, eq-eqb, ne_eqb}
 use mathlib.Core.List.{List, [], ◌∷◌, ◌++◌}
 use Rattle.std.proofs.Math.ListN.{length, get_or, length-set}
-use Rattle.std.proofs.Math.Seq.{take-suc, take-set-le, get_or-set_same, get_or-set_other}
+use Rattle.std.proofs.Math.Seq.{take-suc, take-set-le, get_or-set_same}
 use Rattle.records.specs.declared.Record.{Record}
 use Rattle.records.specs.declared.Record.TheVariants as rec
 use Rattle.records.specs.declared.Summary.{Summary}
@@ -16,16 +17,20 @@ use Rattle.records.specs.History.{summary, lengths, advanced, blank, with_array,
 use Rattle.records.specs.Clear.{Clear}
 use Rattle.model.specs.Table.{Item, read, constant, operation, Statement, Loop}
 use Rattle.reader.specs.Reading.{loops_of}
-use Rattle.reader.specs.Store.{Sized, first_at, last_at, start_at, kind_at, array_at, value_at, arrays_in, loops_in, table_at, table_in, item_of}
-use Rattle.reader.specs.Store.{item_at, lead_from, body_from, loop_at, loops_from, with_row, with_bounds, with_counts, kept, rows_after}
+use Rattle.records.specs.declared.table_rows.Row.{Row as StoreRow}
+use Rattle.records.specs.declared.table_rows.RowKind.{RowKind}
+use Rattle.records.specs.declared.table_rows.RowKind.TheVariants as row
+use Rattle.records.specs.declared.storage.Store.{Store}
+use Rattle.records.specs.NoRow.{no_row}
+use Rattle.reader.specs.Store.{row_at, first_at, last_at, start_at, kind_at, array_at, value_at, kind_number, arrays_in, loops_in, table_at, table_in, item_of}
+use Rattle.reader.specs.Store.{item_at, lead_from, body_from, loop_at, loops_from, with_length, row_of, with_row, with_bounds, with_counts, kept, rows_after}
 use Rattle.reader.specs.Store.{ArrayFits}
-use Rattle.reader.specs.StoreLaws.{sized_row, row-leaves, row-lengths, row-kind, row-array, row-value, row-start, sized-bounds}
-use Rattle.reader.specs.StoreLaws.{bounds-leave, bounds-lengths, bounds-first, bounds-last}
-use Rattle.reader.specs.StoreLaws.{sized-counts, counts-leave, counts-lengths, counts-arrays, counts-loops}
+use Rattle.reader.specs.StoreLaws.{row-lengths, row-firsts, row-lasts, row-starts, row-others, row-put, row-start}
+use Rattle.reader.specs.StoreLaws.{bounds-leave, bounds-firsts, bounds-lasts, bounds-first, bounds-last}
 use Rattle.reader.specs.Stored.{Row, InPlace, Holds, loop_with, shown, Stored}
 
 -- THE STATEMENTS AND LOOPS OF A STORE, n rows and m more
-module _ (c : List ℕ) (m : ℕ) (xs : List Item) (ss : List Statement) where
+module _ (c : Store) (m : ℕ) (xs : List Item) (ss : List Statement) where
   lead-append : (r n : ℕ) → lead_from c r (n + m) xs ≡ lead_from c r n (lead_from c (r + n) m xs)
   unfolding lead_from
   lead-append r zero = let z : 0 + m ≡ m = omega arith in let e : r ≡ r + 0 = omega arith in rw (z, ← e)
@@ -42,7 +47,7 @@ module _ (c : List ℕ) (m : ℕ) (xs : List Item) (ss : List Statement) where
       let e : suc r + n ≡ r + suc n = omega arith in
       rw (z, ← e, lead-append (suc r) n, body-append (suc r) n)
 
-loops-snoc : (c : List ℕ) (k n : ℕ) → loops_from c k (suc n) ≡ loops_from c k n ++ (loop_at c (k + n) ∷ [])
+loops-snoc : (c : Store) (k n : ℕ) → loops_from c k (suc n) ≡ loops_from c k n ++ (loop_at c (k + n) ∷ [])
 unfolding loops_from
 loops-snoc c k zero = let e : k ≡ k + 0 = omega arith in ap (λ (j : ℕ). loop_at c j ∷ []) e
 loops-snoc c k (suc n) =
@@ -50,7 +55,7 @@ loops-snoc c k (suc n) =
     ap (λ (l : List Loop). loop_at c k ∷ l) (loops-snoc c (suc k) n ∙ ap (λ (j : ℕ). loops_from c (suc k) n ++ (loop_at c j ∷ [])) e)
 
 -- two stores that agree in the first n loops and the rows before `past`
-record Agree (c d : List ℕ) (n past : ℕ) : Type 0 where
+record Agree (c d : Store) (n past : ℕ) : Type 0 where
   firsts : (k : ℕ) → k < n → first_at c k ≡ first_at d k
   lasts : (k : ℕ) → k < n → last_at c k ≡ last_at d k
   starts : (k : ℕ) → k ≤ n → start_at c k ≡ start_at d k
@@ -60,7 +65,7 @@ record Agree (c d : List ℕ) (n past : ℕ) : Type 0 where
   arrays : (r : ℕ) → r < past → array_at c r ≡ array_at d r
   values : (r : ℕ) → r < past → value_at c r ≡ value_at d r
 
-module _ (c d : List ℕ) (m past : ℕ) (a : Agree c d m past) where
+module _ (c d : Store) (m past : ℕ) (a : Agree c d m past) where
   lead-agree : (xs : List Item) (r n : ℕ) → r + n ≤ past → lead_from c r n xs ≡ lead_from d r n xs
   unfolding lead_from
   lead-agree xs r zero h = refl
@@ -97,11 +102,11 @@ module _ (c d : List ℕ) (m past : ℕ) (a : Agree c d m past) where
       ∙ ap (λ (l : List Loop). loop_at d k ∷ l) (loops-agree (suc k) n (omega arith))
 
 -- at the end the table is in the store
-loops-none : (c : List ℕ) (k : ℕ) → loops_from c k 0 ≡ []
+loops-none : (c : Store) (k : ℕ) → loops_from c k 0 ≡ []
 unfolding loops_from
 loops-none c k = refl
 
-shown-all : (c : List ℕ) (n rows : ℕ) → start_at c n ≡ rows → shown c n rows [] [] ≡ loops_from c 0 n
+shown-all : (c : Store) (n rows : ℕ) → start_at c n ≡ rows → shown c n rows [] [] ≡ loops_from c 0 n
 unfolding shown
 shown-all c zero rows e = sym (loops-none c 0)
 shown-all c (suc m) rows e =
@@ -109,11 +114,11 @@ shown-all c (suc m) rows e =
     let l : loop_with c m rows [] [] ≡ loop_at c m = rw e in
     ap (λ (x : Loop). loops_from c 0 m ++ (x ∷ [])) l ∙ sym (loops-snoc c 0 m ∙ ap (λ (k : ℕ). loops_from c 0 m ++ (loop_at c k ∷ [])) z)
 
-pub stored-all : (c : List ℕ) (rs : List Record) (rows : ℕ) → Stored c rs rows → loops_of rs [] [] ≡ loops_from c 0 (summary rs).loops
+pub stored-all : (c : Store) (rs : List Record) (rows : ℕ) → Stored c rs rows → loops_of rs [] [] ≡ loops_from c 0 (summary rs).loops
 stored-all c rs rows s = s.loops [] [] ∙ shown-all c (summary rs).loops rows s.kept.end
 
 -- the rows of an earlier loop start earlier
-pub starts-up : (c : List ℕ) (a n rows : ℕ) → InPlace c a n rows → (j k : ℕ) → j ≤ k → k ≤ n → start_at c j ≤ start_at c k
+pub starts-up : (c : Store) (a n rows : ℕ) → InPlace c a n rows → (j k : ℕ) → j ≤ k → k ≤ n → start_at c j ≤ start_at c k
 starts-up c a n rows h j zero l m = let e : j ≡ 0 = omega arith in rw e (omega arith)
 starts-up c a n rows h j (suc k) l m = go (ℕ_discrete j (suc k)) (starts-up c a n rows h j k)
   where
@@ -122,16 +127,15 @@ starts-up c a n rows h j (suc k) l m = go (ℕ_discrete j (suc k)) (starts-up c 
     go (no e) ih = omega (arith, ih (omega arith) (omega arith), h.rising k m)
 
 -- d is c with one row more, the last of loop j
-record Grown (c d : List ℕ) (j rows kind q v : ℕ) : Type 0 where
-  sized : Sized d
+record Grown (c d : Store) (j rows : ℕ) (kind : RowKind) (q v : ℕ) : Type 0 where
   agree : Agree c d j rows
   past : start_at d (suc j) ≡ rows + 1
-  kind-is : kind_at d rows ≡ kind
+  kind-is : kind_at d rows ≡ kind_number kind
   array-is : array_at d rows ≡ q
   value-is : value_at d rows ≡ v
 
-module _ (c d : List ℕ) (j rows kind q v : ℕ) (g : Grown c d j rows kind q v) where
-  row-grown : (kind < 2 → v ≤ 510) → ((r : ℕ) → r < rows → Row c r) → (r : ℕ) → r < rows + 1 → Row d r
+module _ (c d : Store) (j rows : ℕ) (kind : RowKind) (q v : ℕ) (g : Grown c d j rows kind q v) where
+  row-grown : (kind_number kind < 2 → v ≤ 510) → ((r : ℕ) → r < rows → Row c r) → (r : ℕ) → r < rows + 1 → Row d r
   row-grown offset old r l = go (ℕ_discrete r rows)
     where
       go : Dec (r ≡ rows) → Row d r
@@ -141,7 +145,7 @@ module _ (c d : List ℕ) (j rows kind q v : ℕ) (g : Grown c d j rows kind q v
           let m : r < rows = omega arith in
           record { offset = λ h. rw (← (g.agree.values r m)) ((old r m).offset (rw (← (g.agree.kinds r m)) at h)) }
 
-  kept-grown : (a n : ℕ) → InPlace c a n rows → (start_at c j ≡ rows → kind ≡ 1) → j ≤ n → suc j ≤ 16 → rows < 576 → (kind < 2 → v ≤ 510)
+  kept-grown : (a n : ℕ) → InPlace c a n rows → (start_at c j ≡ rows → kind_number kind ≡ 1) → j ≤ n → suc j ≤ 16 → rows < 576 → (kind_number kind < 2 → v ≤ 510)
       → InPlace d a (suc j) (rows + 1)
   kept-grown a n h top l few room offset = record {
     few-arrays = h.few-arrays;
@@ -193,12 +197,12 @@ module _ (c d : List ℕ) (j rows kind q v : ℕ) (g : Grown c d j rows kind q v
         ap (λ (l : List Loop). l ++ (loop_with c j rows ys ts ∷ [])) (loops-agree c d j rows a 0 j (omega arith))
         ∙ ap (λ (z : Loop). loops_from d 0 j ++ (z ∷ [])) y
 
-shown-none : (c d : List ℕ) (rows : ℕ) (xs : List Item) (ss : List Statement) → shown c 0 rows xs ss ≡ shown d 0 rows xs ss
+shown-none : (c d : Store) (rows : ℕ) (xs : List Item) (ss : List Statement) → shown c 0 rows xs ss ≡ shown d 0 rows xs ss
 unfolding shown
 shown-none c d rows xs ss = refl
 
 -- what one row makes of what follows: an item goes before the items, a destination opens a statement with them
-module _ (d : List ℕ) (r : ℕ) (xs : List Item) (ss : List Statement) where
+module _ (d : Store) (r : ℕ) (xs : List Item) (ss : List Statement) where
   item-lead : (kind_at d r ≡ 1 → ⊥) → lead_from d r 1 xs ≡ item_at d r ∷ xs
   unfolding lead_from
   item-lead n = rw (ne_eqb (kind_at d r) 1 n)
@@ -217,50 +221,51 @@ module _ (d : List ℕ) (r : ℕ) (xs : List Item) (ss : List Statement) where
 
 -- THE STEPS: an item, a loop, an array
 -- a row at the end of loop j: b is c but for the bounds of loop j
-row_more : (c b : List ℕ) (a n j rows kind q v : ℕ) → Sized b → InPlace c a n rows → j ≤ n → suc j ≤ 16 → rows < 576 → q < 16
-    → ((i : ℕ) → (i ≡ 16 + j → ⊥) → (i ≡ 32 + j → ⊥) → get_or b i 0 ≡ get_or c i 0)
-    → Grown c (with_row (suc j) rows kind q v b) j rows kind q v
-row_more c b a n j rows kind q v z h l few room small same = record {
-  sized = sized_row b (suc j) rows kind q v z;
+record Beside (c b : Store) (j : ℕ) : Type 0 where
+  firsts : (k : ℕ) → (k ≡ j → ⊥) → first_at b k ≡ first_at c k
+  lasts : (k : ℕ) → (k ≡ j → ⊥) → last_at b k ≡ last_at c k
+  starts : b.starts ≡ c.starts
+  rows : b.rows ≡ c.rows
+
+row_more : (c b : Store) (a n j rows : ℕ) (kind : RowKind) (q v : ℕ) → InPlace c a n rows → j ≤ n → suc j ≤ 16 → rows < 576 → q < 16 → Beside c b j
+    → Grown c (with_row (suc j) rows (row_of kind q v) b) j rows kind q v
+row_more c b a n j rows kind q v h l few room small same = record {
   agree = record {
-    firsts = λ k m. old (16 + k) (omega arith) (λ e. omega arith) (λ e. omega arith) (λ e. omega arith);
-    lasts = λ k m. old (32 + k) (omega arith) (λ e. omega arith) (λ e. omega arith) (λ e. omega arith);
-    starts = λ k m. old (48 + k) (omega arith) (λ e. omega arith) (λ e. omega arith) (λ e. omega arith);
+    firsts = λ k m. sym (ap (λ (ns : List ℕ). get_or ns k 0) (row-firsts b (suc j) rows (row_of kind q v)) ∙ same.firsts k (λ e. omega arith));
+    lasts = λ k m. sym (ap (λ (ns : List ℕ). get_or ns k 0) (row-lasts b (suc j) rows (row_of kind q v)) ∙ same.lasts k (λ e. omega arith));
+    starts = λ k m.
+        sym (row-starts b (suc j) rows (row_of kind q v) k (λ e. omega arith) ∙ ap (λ (ns : List ℕ). get_or ns k 0) same.starts);
     inside = λ k m. omega (arith, h.rising k (omega arith), starts-up c a n rows h (suc k) n (omega arith) (omega arith), h.end);
     within = λ k m. omega (arith, starts-up c a n rows h k n (omega arith) (omega arith), h.end);
-    kinds = λ r m. ap (λ (n : ℕ). n / 16) (head r m);
-    arrays = λ r m. ap (λ (n : ℕ). n % 16) (head r m);
-    values = λ r m. old (65 + 2 * r + 1) (omega arith) (λ e. omega arith) (λ e. omega arith) (λ e. omega arith);
+    kinds = λ r m. ap (λ (y : StoreRow). kind_number y.kind) (old r m);
+    arrays = λ r m. ap (λ (y : StoreRow). y.array) (old r m);
+    values = λ r m. ap (λ (y : StoreRow). y.value) (old r m);
   };
-  past = row-start b (suc j) rows kind q v z room (omega arith);
-  kind-is = row-kind b (suc j) rows kind q v z room small;
-  array-is = row-array b (suc j) rows kind q v z room small;
-  value-is = row-value b (suc j) rows kind q v z room;
+  past = row-start b (suc j) rows (row_of kind q v) (omega arith);
+  kind-is = ap (λ (y : StoreRow). kind_number y.kind) (row-put b (suc j) rows (row_of kind q v) room);
+  array-is = ap (λ (y : StoreRow). y.array) (row-put b (suc j) rows (row_of kind q v) room) ∙ mod-eq_of_lt small;
+  value-is = ap (λ (y : StoreRow). y.value) (row-put b (suc j) rows (row_of kind q v) room);
 }
   where
-    old : (i : ℕ) → i < 65 + 2 * rows → (i ≡ 48 + suc j → ⊥) → (i ≡ 16 + j → ⊥) → (i ≡ 32 + j → ⊥)
-        → get_or c i 0 ≡ get_or (with_row (suc j) rows kind q v b) i 0
-    old i low start first last = sym (row-leaves b (suc j) rows kind q v i low start ∙ same i first last)
+    old : (r : ℕ) → r < rows → row_at c r ≡ row_at (with_row (suc j) rows (row_of kind q v) b) r
+    old r m = sym (row-others b (suc j) rows (row_of kind q v) r (λ e. omega arith) ∙ ap (λ (ns : List StoreRow). get_or ns r no_row) same.rows)
 
-    head : (r : ℕ) → r < rows → get_or c (65 + 2 * r) 0 ≡ get_or (with_row (suc j) rows kind q v b) (65 + 2 * r) 0
-    head r m = old (65 + 2 * r) (omega arith) (λ e. omega arith) (λ e. omega arith) (λ e. omega arith)
-
-module _ (c : List ℕ) (rs : List Record) (rows : ℕ) (s : Stored c rs rows) where
+module _ (c : Store) (rs : List Record) (rows : ℕ) (s : Stored c rs rows) where
   few : (summary rs).statements + (summary rs).items < 36 → rows < 576
   few i = omega (arith, s.room, s.kept.few-loops)
 
   -- a row more in the latest loop, for an item or a further statement: ys and ts are what the record makes of what follows
-  module _ (r : Record) (kind q v m : ℕ) (ys : List Item → List Item) (ts : List Item → List Statement → List Statement)
-      (lead : (d : List ℕ) (xs : List Item) → kind_at d rows ≡ kind → array_at d rows ≡ q → value_at d rows ≡ v → lead_from d rows 1 xs ≡ ys xs)
-      (body : (d : List ℕ) (xs : List Item) (ss : List Statement) → kind_at d rows ≡ kind → array_at d rows ≡ q → value_at d rows ≡ v
+  module _ (r : Record) (kind : RowKind) (q v m : ℕ) (ys : List Item → List Item) (ts : List Item → List Statement → List Statement)
+      (lead : (d : Store) (xs : List Item) → kind_at d rows ≡ kind_number kind → array_at d rows ≡ q → value_at d rows ≡ v → lead_from d rows 1 xs ≡ ys xs)
+      (body : (d : Store) (xs : List Item) (ss : List Statement) → kind_at d rows ≡ kind_number kind → array_at d rows ≡ q → value_at d rows ≡ v
       → body_from d rows 1 xs ss ≡ ts xs ss)
       (arrays : (summary (r ∷ rs)).arrays ≡ (summary rs).arrays) (loops : (summary (r ∷ rs)).loops ≡ (summary rs).loops)
       (counted : (summary (r ∷ rs)).statements + (summary (r ∷ rs)).items ≡ suc ((summary rs).statements + (summary rs).items))
       (most-statements : (summary (r ∷ rs)).statements ≤ 4) (most-items : (summary (r ∷ rs)).items ≤ 32) (same : lengths (r ∷ rs) ≡ lengths rs)
       (added : (xs : List Item) (ss : List Statement) → loops_of (r ∷ rs) xs ss ≡ loops_of rs (ys xs) (ts xs ss))
-      (open_loop : (summary rs).loops ≡ suc m) (small : q < 16) (offset : kind < 2 → v ≤ 510) where
-    d : List ℕ
-    d = with_row (suc m) rows kind q v c
+      (open_loop : (summary rs).loops ≡ suc m) (small : q < 16) (offset : kind_number kind < 2 → v ≤ 510) where
+    d : Store
+    d = with_row (suc m) rows (row_of kind q v) c
 
     free : (summary rs).statements + (summary rs).items < 36
     free = omega arith
@@ -271,16 +276,16 @@ module _ (c : List ℕ) (rs : List Record) (rows : ℕ) (s : Stored c rs rows) w
     grown : Grown c d m rows kind q v
     unfolding d
     grown =
-        row_more c c (summary rs).arrays (suc m) m rows kind q v s.sized kept_then (omega arith) kept_then.few-loops (few free)
-        small (λ k f l. refl)
+        row_more c c (summary rs).arrays (suc m) m rows kind q v kept_then (omega arith) kept_then.few-loops (few free) small
+        (record { firsts = λ k n. refl; lasts = λ k n. refl; starts = refl; rows = refl })
 
     latest : (xs : List Item) (ss : List Statement) → shown c (suc m) rows (ys xs) (ts xs ss) ≡ shown d (suc m) (rows + 1) xs ss
     unfolding d
     latest xs ss =
         shown-grown c d m rows kind q v grown xs (ys xs) ss (ts xs ss) (lead d xs grown.kind-is grown.array-is grown.value-is)
         (body d xs ss grown.kind-is grown.array-is grown.value-is)
-        (sym (row-leaves c (suc m) rows kind q v (16 + m) (omega (arith, kept_then.few-loops)) (λ e. omega (arith, kept_then.few-loops))))
-        (sym (row-leaves c (suc m) rows kind q v (32 + m) (omega (arith, kept_then.few-loops)) (λ e. omega (arith, kept_then.few-loops))))
+        (sym (ap (λ (ns : List ℕ). get_or ns m 0) (row-firsts c (suc m) rows (row_of kind q v))))
+        (sym (ap (λ (ns : List ℕ). get_or ns m 0) (row-lasts c (suc m) rows (row_of kind q v))))
         (omega (arith, kept_then.rising m (omega arith), kept_then.end))
 
     row-stored : Stored d (r ∷ rs) (rows + 1)
@@ -288,8 +293,7 @@ module _ (c : List ℕ) (rs : List Record) (rows : ℕ) (s : Stored c rs rows) w
     row-stored =
         let loops-then : (summary (r ∷ rs)).loops ≡ suc m = loops ∙ open_loop in
         record {
-          sized = grown.sized;
-          lens = rw (arrays, same, row-lengths c (suc m) rows kind q v (summary rs).arrays s.kept.few-arrays) s.lens;
+          lens = rw (arrays, same, row-lengths c (suc m) rows (row_of kind q v)) s.lens;
           loops = λ xs ss.
               rw loops-then
               (added xs ss ∙ s.loops (ys xs) (ts xs ss) ∙ ap (λ (n : ℕ). shown c n rows (ys xs) (ts xs ss)) open_loop ∙ latest xs ss);
@@ -307,20 +311,24 @@ module _ (c : List ℕ) (rs : List Record) (rows : ℕ) (s : Stored c rs rows) w
     n : ℕ
     n = (summary rs).loops
 
-    b : List ℕ
+    b : Store
     b = with_bounds n f l c
 
-    e : List ℕ
-    e = with_row (suc n) rows 1 q o b
+    e : Store
+    e = with_row (suc n) rows (row_of row.Destination q o) b
 
     low : rows < 576
     low = omega (arith, s.room, s.items, s.statements)
 
-    begun : Grown c e n rows 1 q o
+    begun : Grown c e n rows row.Destination q o
     unfolding e b n
     begun =
-        row_more c b (summary rs).arrays n n rows 1 q o (sized-bounds c n f l s.sized) s.kept (omega arith) free low
-        small (bounds-leave c n f l)
+        row_more c b (summary rs).arrays n n rows row.Destination q o s.kept (omega arith) free low small (record {
+          firsts = bounds-firsts c n f l;
+          lasts = bounds-lasts c n f l;
+          starts = (bounds-leave c n f l).1;
+          rows = (bounds-leave c n f l).2;
+        })
 
     head : (xs : List Item) (ss : List Statement)
         → loop_with e n (rows + 1) xs ss ≡ record { first = f; last = l; body = record { array = q; offset = o; items = xs } ∷ ss }
@@ -329,8 +337,8 @@ module _ (c : List ℕ) (rs : List Record) (rows : ℕ) (s : Stored c rs rows) w
         let at : start_at e n ≡ rows = sym (begun.agree.starts n (omega arith)) ∙ s.kept.end in
         let z : rows + 1 - rows ≡ 1 = omega arith in
         rw (
-          row-leaves b (suc n) rows 1 q o (16 + n) (omega arith) (λ z. omega arith) ∙ bounds-first c n f l s.sized free,
-          row-leaves b (suc n) rows 1 q o (32 + n) (omega arith) (λ z. omega arith) ∙ bounds-last c n f l s.sized free,
+          ap (λ (ns : List ℕ). get_or ns n 0) (row-firsts b (suc n) rows (row_of row.Destination q o)) ∙ bounds-first c n f l free,
+          ap (λ (ns : List ℕ). get_or ns n 0) (row-lasts b (suc n) rows (row_of row.Destination q o)) ∙ bounds-last c n f l free,
           at,
           z,
           opening-body e rows xs ss begun.kind-is,
@@ -338,10 +346,9 @@ module _ (c : List ℕ) (rs : List Record) (rows : ℕ) (s : Stored c rs rows) w
           begun.value-is,
         )
 
-    lens-begun : take (summary rs).arrays e ≡ take (summary rs).arrays c
+    lens-begun : e.lengths ≡ c.lengths
     unfolding e b
-    lens-begun =
-        row-lengths b (suc n) rows 1 q o (summary rs).arrays s.kept.few-arrays ∙ bounds-lengths c n f l (summary rs).arrays s.kept.few-arrays
+    lens-begun = row-lengths b (suc n) rows (row_of row.Destination q o) ∙ (bounds-leave c n f l).0
 
     loops-begun : (xs : List Item) (ss : List Statement)
         → loops_of rs [] [] ++ (record { first = f; last = l; body = record { array = q; offset = o; items = xs } ∷ ss } ∷ [])
@@ -355,40 +362,39 @@ module _ (c : List ℕ) (rs : List Record) (rows : ℕ) (s : Stored c rs rows) w
     loop-stored : Stored e (rec.Loop f l q o ∷ rs) (rows + 1)
     unfolding summary advanced with_loop lengths loops_of n
     loop-stored = record {
-      sized = begun.sized;
       lens = rw lens-begun s.lens;
       loops = λ xs ss. rw (add-one (summary rs).loops) (loops-begun xs ss);
       kept =
           rw (add-one (summary rs).loops)
-          (kept-grown c e n rows 1 q o begun (summary rs).arrays n s.kept (λ e. refl) (omega arith) free low (λ h. offset));
+          (kept-grown c e n rows row.Destination q o begun (summary rs).arrays n s.kept (λ e. refl) (omega arith) free low (λ h. offset));
       statements = omega arith;
       items = omega arith;
       room = omega (arith, s.room, s.items, s.statements);
     }
 
   -- arrays come before the loops
-  array-stored : (k : ℕ) → (summary rs).loops ≡ 0 → (summary rs).arrays < 16 → Stored (set c (summary rs).arrays k) (rec.Array k ∷ rs) rows
-  unfolding summary advanced with_array lengths loops_of
+  array-stored : (k : ℕ) → (summary rs).loops ≡ 0 → (summary rs).arrays < 16
+      → Stored (with_length (summary rs).arrays k c) (rec.Array k ∷ rs) rows
+  unfolding summary advanced with_array lengths loops_of with_length
   array-stored k none free = record {
-    sized = simp length-set s.sized;
     lens =
         let a = (summary rs).arrays in
-        let h : a < length (set c a k) = simp length-set (omega (arith, s.sized)) in
+        let h : a < length (set c.lengths a k) = simp length-set (omega (arith, c.sized.lengths_sized)) in
         rw (
           add-one a,
-          take-suc (set c a k) a 0 h,
-          take-set-le a c a k (omega arith),
-          get_or-set_same c a k 0 (omega (arith, s.sized)),
+          take-suc (set c.lengths a k) a 0 h,
+          take-set-le a c.lengths a k (omega arith),
+          get_or-set_same c.lengths a k 0 (omega (arith, c.sized.lengths_sized)),
           s.lens,
         );
-    loops = λ xs ss. s.loops xs ss ∙ rw none (shown-none c (set c (summary rs).arrays k) rows xs ss);
+    loops = λ xs ss. s.loops xs ss ∙ rw none (shown-none c (with_length (summary rs).arrays k c) rows xs ss);
     kept = record {
       few-arrays = omega arith;
       few-loops = s.kept.few-loops;
       few-rows = s.kept.few-rows;
-      start = left 48 (omega arith) ∙ s.kept.start;
+      start = s.kept.start;
       rising = λ j h. absurd (omega arith);
-      end = left (48 + (summary rs).loops) (omega arith) ∙ s.kept.end;
+      end = s.kept.end;
       opening = λ j h. absurd (omega arith);
       each = λ r h. absurd (omega (arith, s.room, s.items, s.statements));
     };
@@ -396,21 +402,18 @@ module _ (c : List ℕ) (rs : List Record) (rows : ℕ) (s : Stored c rs rows) w
     items = s.items;
     room = s.room;
   }
-    where
-      left : (i : ℕ) → 16 ≤ i → get_or (set c (summary rs).arrays k) i 0 ≡ get_or c i 0
-      left i h = get_or-set_other c (summary rs).arrays i k 0 (λ e. omega arith)
 
   -- an item goes to the latest statement
-  item-kept : (r : Record) (x : Item) (kind q v w : ℕ) → item_of kind q v ≡ x → (kind ≡ 1 → ⊥) → summary (r ∷ rs) ≡ with_item w (summary rs)
+  item-kept : (r : Record) (x : Item) (kind : RowKind) (q v w : ℕ) → item_of (kind_number kind) q v ≡ x → (kind_number kind ≡ 1 → ⊥) → summary (r ∷ rs) ≡ with_item w (summary rs)
       → lengths (r ∷ rs) ≡ lengths rs → ((xs : List Item) (ss : List Statement) → loops_of (r ∷ rs) xs ss ≡ loops_of rs (x ∷ xs) ss)
-      → 0 < (summary rs).loops → (summary rs).items < 32 → q < 16 → (kind < 2 → v ≤ 510)
-      → Stored (with_row (summary rs).loops rows kind q v c) (r ∷ rs) (rows + 1)
+      → 0 < (summary rs).loops → (summary rs).items < 32 → q < 16 → (kind_number kind < 2 → v ≤ 510)
+      → Stored (with_row (summary rs).loops rows (row_of kind q v) c) (r ∷ rs) (rows + 1)
   unfolding d with_item
   item-kept r x kind q v w i other counted same added some free small offset =
       let open_loop : (summary rs).loops ≡ suc ((summary rs).loops - 1) = omega arith in
       let items : (summary (r ∷ rs)).items ≡ (summary rs).items + 1 = ap (λ (t : Summary). t.items) counted in
       let statements : (summary (r ∷ rs)).statements ≡ (summary rs).statements = ap (λ (t : Summary). t.statements) counted in
-      subst (λ (k : ℕ). Stored (with_row k rows kind q v c) (r ∷ rs) (rows + 1)) (sym open_loop)
+      subst (λ (k : ℕ). Stored (with_row k rows (row_of kind q v) c) (r ∷ rs) (rows + 1)) (sym open_loop)
       (row-stored r kind q v ((summary rs).loops - 1) (λ xs. x ∷ xs) (λ xs ss. ss)
       (λ d xs a b g. item-lead d rows xs [] (λ e. other (sym a ∙ e)) ∙ ap (λ (y : Item). y ∷ xs) (rw (a, b, g) i))
       (λ d xs ss a b g. item-body d rows xs ss (λ e. other (sym a ∙ e)))
@@ -419,12 +422,12 @@ module _ (c : List ℕ) (rs : List Record) (rows : ℕ) (s : Stored c rs rows) w
 
   -- a further statement opens the latest loop's next one
   statement-kept : (q o : ℕ) → 0 < (summary rs).loops → (summary rs).statements < 4 → q < 16 → o ≤ 510
-      → Stored (with_row (summary rs).loops rows 1 q o c) (rec.Statement q o ∷ rs) (rows + 1)
+      → Stored (with_row (summary rs).loops rows (row_of row.Destination q o) c) (rec.Statement q o ∷ rs) (rows + 1)
   unfolding d summary advanced with_statement lengths loops_of
   statement-kept q o some free small offset =
       let open_loop : (summary rs).loops ≡ suc ((summary rs).loops - 1) = omega arith in
-      subst (λ (k : ℕ). Stored (with_row k rows 1 q o c) (rec.Statement q o ∷ rs) (rows + 1)) (sym open_loop)
-      (row-stored (rec.Statement q o) 1 q o ((summary rs).loops - 1) (λ xs. []) (λ xs ss. record { array = q; offset = o; items = xs } ∷ ss)
+      subst (λ (k : ℕ). Stored (with_row k rows (row_of row.Destination q o) c) (rec.Statement q o ∷ rs) (rows + 1)) (sym open_loop)
+      (row-stored (rec.Statement q o) row.Destination q o ((summary rs).loops - 1) (λ xs. []) (λ xs ss. record { array = q; offset = o; items = xs } ∷ ss)
       (λ d xs a b g. opening-lead d rows xs [] a) (λ d xs ss a b g. opening-body d rows xs ss a ∙ rw (b, g))
       refl refl (omega arith) (omega arith) s.items refl (λ xs ss. refl) open_loop small (λ h. offset))
 
@@ -446,21 +449,20 @@ module _ (c : List ℕ) (rs : List Record) (rows : ℕ) (s : Stored c rs rows) w
   kept-stored (rec.Loop f l q o) clear other =
       rw (add-one (summary rs).loops) (loop-stored f l q o clear.1 (kept_small (rec.Loop f l q o) clear) clear.5)
   kept-stored (rec.Read q o) clear other =
-      item-kept (rec.Read q o) (read q o) 0 q o _ refl (λ e. omega arith) refl refl (λ xs ss. refl) clear.0 clear.1
+      item-kept (rec.Read q o) (read q o) row.Read q o _ refl (λ e. omega arith) refl refl (λ xs ss. refl) clear.0 clear.1
       (kept_small (rec.Read q o) clear) (λ h. clear.3)
   kept-stored (rec.Constant k) clear other =
-      item-kept (rec.Constant k) (constant k) 2 0 k _ refl (λ e. omega arith) refl refl (λ xs ss. refl) clear.0 clear.1 (omega arith) (λ h. absurd (omega arith))
+      item-kept (rec.Constant k) (constant k) row.Constant 0 k _ refl (λ e. omega arith) refl refl (λ xs ss. refl) clear.0 clear.1 (omega arith) (λ h. absurd (omega arith))
   kept-stored (rec.Operation o) clear other =
-      item-kept (rec.Operation o) (operation o) 3 0 o _ refl (λ e. omega arith) refl refl (λ xs ss. refl) clear.0 clear.1 (omega arith) (λ h. absurd (omega arith))
+      item-kept (rec.Operation o) (operation o) row.Operation 0 o _ refl (λ e. omega arith) refl refl (λ xs ss. refl) clear.0 clear.1 (omega arith) (λ h. absurd (omega arith))
   kept-stored rec.End clear other = absurd (other refl)
   kept-stored (rec.Statement q o) clear other =
       statement-kept q o clear.0 clear.2 (kept_small (rec.Statement q o) clear) clear.4
 
 -- before the first record
-pub stored-start : (c : List ℕ) → Sized c → start_at c 0 ≡ 0 → Stored c [] 0
+pub stored-start : (c : Store) → start_at c 0 ≡ 0 → Stored c [] 0
 unfolding summary blank lengths loops_of shown
-stored-start c z e = record {
-  sized = z;
+stored-start c e = record {
   lens = refl;
   loops = λ xs ss. refl;
   kept = record {
@@ -479,51 +481,46 @@ stored-start c z e = record {
 }
 
 -- AT THE END the counts are put beside the table
-module _ (c : List ℕ) (a l rows : ℕ) (z : Sized c) (h : InPlace c a l rows) where
-  full : List ℕ
+module _ (c : Store) (a l rows : ℕ) (h : InPlace c a l rows) where
+  full : Store
   full = with_counts a l c
-
-  unmoved : (i : ℕ) → i < 1217 → get_or c i 0 ≡ get_or full i 0
-  unfolding full
-  unmoved i m = sym (counts-leave c a l i m)
 
   before-end : (k : ℕ) → k ≤ l → start_at c k ≤ rows
   before-end k m = omega (arith, starts-up c a l rows h k l m (omega arith), h.end)
 
   same : Agree c full l rows
+  unfolding full with_counts
   same = record {
-    firsts = λ k m. unmoved (16 + k) (omega (arith, h.few-loops));
-    lasts = λ k m. unmoved (32 + k) (omega (arith, h.few-loops));
-    starts = λ k m. unmoved (48 + k) (omega (arith, h.few-loops));
+    firsts = λ k m. refl;
+    lasts = λ k m. refl;
+    starts = λ k m. refl;
     inside = λ k m. omega (arith, h.rising k m, before-end (suc k) m);
     within = before-end;
-    kinds = λ r m. ap (λ (n : ℕ). n / 16) (unmoved (65 + 2 * r) (omega (arith, h.few-rows)));
-    arrays = λ r m. ap (λ (n : ℕ). n % 16) (unmoved (65 + 2 * r) (omega (arith, h.few-rows)));
-    values = λ r m. unmoved (65 + 2 * r + 1) (omega (arith, h.few-rows));
+    kinds = λ r m. refl;
+    arrays = λ r m. refl;
+    values = λ r m. refl;
   }
 
   pub counted-table : table_in (with_counts a l c) ≡ table_at c a l
-  unfolding full
-  counted-table =
-      rw (counts-arrays c a l z, counts-loops c a l z, counts-lengths c a l a h.few-arrays, ← (loops-agree c full l rows same 0 l (omega arith)))
+  unfolding full with_counts
+  counted-table = rw (← (loops-agree c full l rows same 0 l (omega arith)))
 
   row_same : (r : ℕ) → r < rows → Row full r
-  row_same r m = record { offset = λ k. rw (← (same.values r m)) ((h.each r m).offset (rw (← (same.kinds r m)) at k)) }
+  unfolding full with_counts
+  row_same r m = record { offset = (h.each r m).offset }
 
   counted-kept : InPlace (with_counts a l c) (arrays_in (with_counts a l c)) (loops_in (with_counts a l c)) (start_at (with_counts a l c) (loops_in (with_counts a l c)))
-  unfolding full
-  counted-kept =
-      let e : start_at full l ≡ rows = sym (same.starts l (omega arith)) ∙ h.end in
-      rw (counts-arrays c a l z, counts-loops c a l z, e) (record {
-        few-arrays = h.few-arrays;
-        few-loops = h.few-loops;
-        few-rows = h.few-rows;
-        start = sym (same.starts 0 (omega arith)) ∙ h.start;
-        rising = λ k m. rw (← (same.starts k (omega arith)), ← (same.starts (suc k) m)) (h.rising k m);
-        end = e;
-        opening = λ k m. rw (← (same.starts k (omega arith)), ← (same.kinds (start_at c k) (same.inside k m))) (h.opening k m);
-        each = row_same;
-      })
+  unfolding full with_counts
+  counted-kept = rw h.end (record {
+    few-arrays = h.few-arrays;
+    few-loops = h.few-loops;
+    few-rows = h.few-rows;
+    start = h.start;
+    rising = h.rising;
+    end = h.end;
+    opening = h.opening;
+    each = row_same;
+  })
 
   pub counted-holds : Holds (with_counts a l c) (table_in (with_counts a l c))
-  counted-holds = record { is = refl; sized = sized-counts c a l z; kept = counted-kept }
+  counted-holds = record { is = refl; kept = counted-kept }

@@ -5,62 +5,26 @@ ghost use Rattle.std.specs.Prelude.{◌≡◌, ◌+◌, ◌<◌, ◌≤◌, eqb,
 ghost use Rattle.model.specs.Table.{count};
 ghost use Rattle.records.specs.Clear.{Room};
 ghost use Rattle.reader.specs.Reading.{reading};
-ghost use Rattle.reader.specs.Store.{Sized, first_at, last_at, start_at, kind_at, array_at, value_at, row_kind, kind_number, arrays_in, loops_in, table_in, kept, rows_after, with_row, with_bounds, with_counts, Places, ArrayFits};
+ghost use Rattle.reader.specs.Store.{first_at, last_at, start_at, kind_at, array_at, value_at, row_kind, arrays_in, loops_in, table_in, kept, rows_after, with_length, row_of, with_row, with_bounds, with_counts, Places, ArrayFits};
 ghost use Rattle.reader.specs.Held.{Held};
 ghost use Rattle.reader.specs.Rows.{ref_in, refers_to, LastDestination};
 ghost use Rattle.reader.specs.ReadInto.{ReadInto};
 
 use model::Reference;
-use records::{MOST_ROWS, ROW, ROWS_AT, Record, Store, Summary, Tested};
+use records::{Record, Row, RowKind, Store, Summary, Tested};
 use refusals::{Ground, Refusal};
-
-// The places of a store's parts.
-const FIRSTS_AT: usize = 16;
-
-const LASTS_AT: usize = 32;
-
-const STARTS_AT: usize = 48;
-
-const ARRAYS_AT: usize = ROWS_AT + ROW * MOST_ROWS;
-
-const LOOPS_AT: usize = ARRAYS_AT + 1;
-
-// A row is its head and its value. A head is the row's kind times this, and its array, which is below this. So both stand in one number: a
-// row has one number less to write, and there is less to set to 0 at each call.
-const SPLIT: u32 = 16;
-
-// So a read's head is its array, and a destination's is this much more.
-const STORED: usize = 16;
-
-// The kinds of rows.
-#[derive(Clone, Copy, Debug, PartialEq, Eq)]
-pub enum RowKind {
-    Read,
-    Destination,
-    Constant,
-    Operation,
-}
-
-impl RowKind {
-    // Its number in a row's head.
-    fn number(self) -> u32
-        ensures { result ≡ kind_number self }
-    {
-        self as u32
-    }
-}
 
 // How many arrays and how many loops there are.
 pub fn arrays_in(store: &Store) -> usize
     ensures { result ≡ arrays_in store.now }
 {
-    store[ARRAYS_AT] as usize
+    store.arrays as usize
 }
 
 pub fn loops_in(store: &Store) -> usize
     ensures { result ≡ loops_in store.now }
 {
-    store[LOOPS_AT] as usize
+    store.loops as usize
 }
 
 // The bounds of loop k.
@@ -68,14 +32,14 @@ pub fn first_at(store: &Store, k: usize) -> u32
     requires { k < 16 }
     ensures { result ≡ first_at store.now k }
 {
-    store[FIRSTS_AT + k]
+    store.firsts[k]
 }
 
 pub fn last_at(store: &Store, k: usize) -> u32
     requires { k < 16 }
     ensures { result ≡ last_at store.now k }
 {
-    store[LASTS_AT + k]
+    store.lasts[k]
 }
 
 // The row at which loop k begins.
@@ -83,7 +47,7 @@ pub fn start_at(store: &Store, k: usize) -> usize
     requires { k < 17 }
     ensures { result ≡ start_at store.now k }
 {
-    store[STARTS_AT + k] as usize
+    store.starts[k] as usize
 }
 
 // The kind, the array and the value of row r.
@@ -91,26 +55,21 @@ pub fn kind_at(store: &Store, r: usize) -> RowKind
     requires { r < 576 }
     ensures { result ≡ row_kind (kind_at store.now r) }
 {
-    match store[ROWS_AT + ROW * r] / SPLIT {
-        0 => RowKind::Read,
-        1 => RowKind::Destination,
-        2 => RowKind::Constant,
-        _ => RowKind::Operation,
-    }
+    store.rows[r].kind
 }
 
 pub fn array_at(store: &Store, r: usize) -> u32
     requires { r < 576 }
     ensures { result ≡ array_at store.now r }
 {
-    store[ROWS_AT + ROW * r] % SPLIT
+    store.rows[r].array as u32
 }
 
 pub fn value_at(store: &Store, r: usize) -> u32
     requires { r < 576 }
     ensures { result ≡ value_at store.now r }
 {
-    store[ROWS_AT + ROW * r + 1]
+    store.rows[r].value
 }
 
 // Row r is a reference: a read's or a destination's.
@@ -118,7 +77,8 @@ pub fn is_reference(store: &Store, r: usize) -> bool
     requires { r < 576 }
     ensures { result ≡ ltb (kind_at store.now r) 2 }
 {
-    store[ROWS_AT + ROW * r] / SPLIT < 2
+    let kind = store.rows[r].kind;
+    kind == RowKind::Read || kind == RowKind::Destination
 }
 
 // Row r is a destination's.
@@ -126,7 +86,7 @@ pub fn is_destination(store: &Store, r: usize) -> bool
     requires { r < 576 }
     ensures { result ≡ eqb (kind_at store.now r) 1 }
 {
-    store[ROWS_AT + ROW * r] / SPLIT == 1
+    store.rows[r].kind == RowKind::Destination
 }
 
 // The reference in row r of loop k.
@@ -142,13 +102,12 @@ pub fn reference_at(store: &Store, k: usize, r: usize) -> Reference
     }
 }
 
-// Row r is a reference to array q. Its head is one of two numbers then, so no branch goes by the kinds of other rows, which alternate irregularly.
+// Row r is a reference to array q. Both tests are made, so no branch goes by the kinds of other rows, which alternate irregularly.
 pub fn refers_to(store: &Store, r: usize, q: usize) -> bool
     requires { (r < 576) × (q < 16) }
     ensures { result ≡ refers_to store.now r q }
 {
-    let head = store[ROWS_AT + ROW * r] as usize;
-    head == q || head == q + STORED
+    is_reference(store, r) & (store.rows[r].array as usize == q)
 }
 
 // The last row of loop k that is a destination's.
@@ -166,17 +125,36 @@ pub fn last_destination(store: &Store, k: usize) -> usize
     start
 }
 
+// An array's length.
+#[tactic(auto, unfolding(crate::specs::Store::with_length))]
+fn put_length(q: usize, n: u32, store: &mut Store)
+    requires { q < 16 }
+    ensures { store.new ≡ with_length q n store.old }
+{
+    store.lengths[q] = n;
+}
+
+// A row of an array, which is one of sixteen.
+fn row_of(kind: RowKind, q: u32, v: u32) -> Row
+    requires { q < 16 }
+    ensures { result ≡ row_of kind q v }
+{
+    Row {
+        kind,
+        array: q as u8,
+        value: v,
+    }
+}
+
 // One row more: loop k begins past it.
 #[tactic(auto, unfolding(crate::specs::Store::with_row))]
 fn put_row(k: usize, r: usize, kind: RowKind, q: u32, v: u32, store: &mut Store) -> usize
     requires { (k < 17) × (r < 576) × (q < 16) }
     ensures value { result ≡ r + 1 }
-    ensures store_after { store.new ≡ with_row k r (kind_number kind) q v store.old }
+    ensures store_after { store.new ≡ with_row k r (row_of kind q v) store.old }
 {
-    store[STARTS_AT + k] = (r + 1) as u32;
-    let at = ROWS_AT + ROW * r;
-    store[at] = kind.number() * SPLIT + q;
-    store[at + 1] = v;
+    store.starts[k] = (r + 1) as u32;
+    store.rows[r] = row_of(kind, q, v);
     r + 1
 }
 
@@ -185,16 +163,16 @@ fn put_bounds(k: usize, first: u32, last: u32, store: &mut Store)
     requires { k < 16 }
     ensures { store.new ≡ with_bounds k first last store.old }
 {
-    store[FIRSTS_AT + k] = first;
-    store[LASTS_AT + k] = last;
+    store.firsts[k] = first;
+    store.lasts[k] = last;
 }
 
 #[tactic(auto, unfolding(crate::specs::Store::with_counts))]
 fn put_counts(arrays: u32, loops: u32, store: &mut Store)
     ensures { store.new ≡ with_counts arrays loops store.old }
 {
-    store[ARRAYS_AT] = arrays;
-    store[LOOPS_AT] = loops;
+    store.arrays = arrays;
+    store.loops = loops;
 }
 
 // Stores a record that met no ground, in row r; answers how many rows there are then.
@@ -209,7 +187,7 @@ fn keep(x: Record, t: Summary, r: usize, store: &mut Store) -> usize
     match x {
         Record::Unknown | Record::End => r,
         Record::Array(n) => {
-            store[t.arrays as usize] = n;
+            put_length(t.arrays as usize, n, store);
             r
         }
         Record::Loop {
@@ -237,15 +215,14 @@ fn keep(x: Record, t: Summary, r: usize, store: &mut Store) -> usize
 
 // The table that the bytes are, in the lent store, or the ground that they meet and its place.
 pub fn read_table(s: &[u8], store: &mut Store) -> Result<(), Refusal>
-    requires { Sized store.old }
     ensures { ReadInto (reading s.now) result store.new }
 {
     let mut t = Summary::blank();
     let mut at: usize = 0;
     let mut rows: usize = 0;
-    store[STARTS_AT] = 0;
+    store.starts[0] = 0;
     loop {
-        let found = decoding::read_record(s, at, t, store);
+        let found = decoding::read_record(s, at, t, &store.lengths);
         match found {
             Tested::Refused(r) => return Err(r),
             Tested::Passed(x, n) => {

@@ -10,3 +10,7 @@ pub mod Clear
 pub mod Layout
 -- a record as bytes
 pub mod Encoding
+-- the sizes of a store
+pub mod Sized
+-- a row where none has been put
+pub mod NoRow

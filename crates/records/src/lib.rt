@@ -8,18 +8,19 @@ ghost use Rattle.records.specs.Clear.{Room};
 
 use refusals::Refusal;
 
+mod storage;
+mod table_rows;
+
+pub use storage::Store;
+pub use table_rows::{Row, RowKind};
+
 // How many rows all loops have: sixteen loops, each with four destinations and 32 items.
 pub const MOST_ROWS: usize = 576;
 
-// A table as it is kept (reader/specs/Store.antt): the lengths of the arrays come first, then what is known of the loops, then the rows, each
-// of so many numbers, and the counts of arrays and of loops come last.
-pub const ROWS_AT: usize = 65;
+// How many arrays and how many loops there are at most.
+pub const MOST_ARRAYS: usize = 16;
 
-pub const ROW: usize = 2;
-
-pub const STORE: usize = ROWS_AT + ROW * MOST_ROWS + 2;
-
-pub type Store = [u32; STORE];
+pub const MOST_LOOPS: usize = 16;
 
 #[derive(Clone, Copy, Debug, PartialEq, Eq)]
 pub enum Kind {
@@ -189,6 +190,27 @@ impl Summary {
             Record::Read { .. } | Record::Constant(_) => self.with_item(self.waiting + 1),
             Record::Operation(o) => self.with_item(self.waiting - operands_of(o) + 1),
             Record::Statement { .. } => self.with_statement(),
+        }
+    }
+}
+
+impl Store {
+    // With no table in it: no arrays and no loops.
+    pub fn new() -> Self
+        ensures { (result.arrays ≡ 0) × (result.loops ≡ 0) }
+    {
+        Store {
+            lengths: [0; MOST_ARRAYS],
+            firsts: [0; MOST_LOOPS],
+            lasts: [0; MOST_LOOPS],
+            starts: [0; MOST_LOOPS + 1],
+            rows: [Row {
+                kind: RowKind::Read,
+                array: 0,
+                value: 0,
+            }; MOST_ROWS],
+            arrays: 0,
+            loops: 0,
         }
     }
 }

@@ -10,6 +10,7 @@ use lib.Ieee.{Float}
 use Rattle.model.specs.declared.Iteration.{Iteration}
 use Rattle.model.specs.Table.{iteration}
 use Rattle.model.specs.Bodies.{run}
+use Rattle.records.specs.declared.storage.Store.{Store}
 use Rattle.reader.specs.Store.{table_in}
 use Rattle.iterations.specs.Memory.{element_total}
 use Rattle.iterations.specs.MemoryLaws.{run_length}
@@ -24,6 +25,7 @@ use Rattle.steps.specs.Lent.{Phased}
 use Rattle.steps.specs.Called.{called}
 use Rattle.steps.proofs.Same.{called-below, called-past}
 use Rattle.steps.specs.Leaves.{Leaves}
+use Rattle.layouts.specs.declared.Lists.{Lists}
 use Rattle.running.specs.Code.{Step, Calling}
 use Rattle.running.specs.Idle.{idling}
 
@@ -41,7 +43,7 @@ idling-small Waiting = omega arith
 idling-small Finished = omega arith
 
 -- no turn changes the memory's length
-turn-long : (w : Work Iteration) (c : List ℕ) (b : ℕ) (cs : List ℕ) (m : List Float)
+turn-long : (w : Work Iteration) (c : Store) (b : ℕ) (cs : List ℕ) (m : List Float)
     → length (turn (iteration 0 0) w (run (table_in c)) b cs m).memory ≡ length m
 unfolding turn
 turn-long w c b cs m = go (next (iteration 0 0) w b cs)
@@ -52,7 +54,7 @@ turn-long w c b cs m = go (next (iteration 0 0) w b cs)
     go waits = refl
     go ends = refl
 
-module _ {w : Work Iteration} {step : Step} {P : ℕ} {es xs c bs : List ℕ} (g : Calling w step P es xs c bs) where
+module _ {w : Work Iteration} {step : Step} {P : ℕ} {es : List ℕ} {xs : List Lists} {c : Store} {bs : List ℕ} (g : Calling w step P es xs c bs) where
   -- whatever number is named
   pub phased : Phased w P es
   phased = (g.lent 0).phased

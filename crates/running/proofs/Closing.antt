@@ -13,6 +13,7 @@ use Rattle.std.specs.Prelude.{Some, None}
 use Rattle.model.specs.declared.Iteration.{Iteration}
 use Rattle.model.specs.Table.{iteration}
 use Rattle.model.specs.Bodies.{run}
+use Rattle.records.specs.declared.storage.Store.{Store}
 use Rattle.reader.specs.Store.{table_in}
 use Rattle.iterations.specs.Memory.{element_total}
 use Rattle.turns.specs.Turn.{Work, After}
@@ -28,17 +29,18 @@ use Rattle.stepping.specs.declared.Report.{Report}
 use Rattle.steps.specs.Called.{called}
 use Rattle.steps.proofs.Same.{called-below}
 use Rattle.steps.specs.Leaves.{Leaves}
+use Rattle.layouts.specs.declared.Lists.{Lists}
 use Rattle.running.specs.Code.{Step, Calling, Ordered, Rowed}
 use Rattle.running.proofs.Calls.{phased, leaves-reachable, leaves-long, then-memory}
 
 -- no more than n calls from here give what no more than `most` gave from the counts `from` and the memory `begun`
-pub record Closing (w : Work Iteration) (step : Step) (P : ℕ) (c : List ℕ) (most : ℕ) (from : List ℕ) (begun : List Float) (cs : List ℕ) (m : List Float)
+pub record Closing (w : Work Iteration) (step : Step) (P : ℕ) (c : Store) (most : ℕ) (from : List ℕ) (begun : List Float) (cs : List ℕ) (m : List Float)
     (n : ℕ) : Type 0 where
   pub reachable : Reachable w cs
   pub long : length m ≡ element_total (table_in c)
   pub left : memory_after step (closing step P n cs m) cs m ≡ memory_after step (closing step P most from begun) from begun
 
-module _ {w : Work Iteration} {step : Step} {P : ℕ} {es xs c bs : List ℕ} (g : Calling w step P es xs c bs) where
+module _ {w : Work Iteration} {step : Step} {P : ℕ} {es : List ℕ} {xs : List Lists} {c : Store} {bs : List ℕ} (g : Calling w step P es xs c bs) where
   -- the lowest that can step
   lowest-can : (cs : List ℕ) (m : List Float) → length m ≡ element_total (table_in c) → Reachable w cs
       → lowest P (ready_by P es cs 2) ≡ lowest P (can_step step cs m)
@@ -123,7 +125,7 @@ closing-busy step P (suc n) cs m = go (dec_lt b P) (closing-busy step P n a.coun
     go (no i) ih = rw (le-ltb b P (omega arith))
 
 -- THE ROW: the order's calls, then the closing ones
-pub rowed : {w : Work Iteration} {step : Step} {P : ℕ} {es xs c bs order cs : List ℕ} {m mid left : List Float} {n : ℕ} → Calling w step P es xs c bs
+pub rowed : {w : Work Iteration} {step : Step} {P : ℕ} {es : List ℕ} {xs : List Lists} {c : Store} {bs order cs : List ℕ} {m mid left : List Float} {n : ℕ} → Calling w step P es xs c bs
     → Ordered w step c order m cs mid n → (most : ℕ) → most ≡ listed_by P es 2 → left ≡ memory_after step (closing step P most cs mid) cs mid
     → Rowed w step P order m left n
 unfolding row_of

@@ -1,5 +1,5 @@
 -- What a run of an accepted plan leaves, and what a refused one does.
-use Prim.Native.Nat.{ℕ, ◌*◌, ◌≤◌, ◌<◌}
+use Prim.Native.Nat.{ℕ}
 use native.Mathlib.Omega.{arith}
 use mathlib.Core.Path.{◌≡◌, refl, ap, ◌∙◌}
 use mathlib.Core.List.{List}
@@ -9,6 +9,7 @@ use Rattle.std.specs.Prelude.{Ok, Err}
 use Rattle.refusals.specs.declared.Refusal.{Refusal}
 use Rattle.refusals.specs.Refusals.{met}
 use Rattle.refusals.specs.Answers.{accepted, refused}
+use Rattle.records.specs.declared.storage.Store.{Store}
 use Rattle.reader.specs.Store.{table_in}
 use Rattle.blocks.specs.declared.Axis.{Axis}
 use Rattle.iterations.specs.Memory.{element_total, remembered}
@@ -21,7 +22,8 @@ use Rattle.barriers.specs.Code.{Ended}
 use Rattle.plans.specs.Plans.{Settings, Planned, planned}
 use Rattle.plans.specs.Code.{planned_in, Laid}
 use Rattle.ranges.specs.Listed.{few-blocks}
-use Rattle.layouts.specs.Layout.{work_in, Stands}
+use Rattle.layouts.specs.declared.Lists.{Lists}
+use Rattle.layouts.specs.Layout.{work_in, Standing}
 use Rattle.stepping.specs.Step.{work_of, elements, step}
 use Rattle.stepping.specs.Run.{run_answer, run_memory, run_idle}
 use Rattle.steps.specs.Laid.{lent-in}
@@ -31,12 +33,12 @@ use Rattle.running.specs.Code.{Step, Calling, Rowed}
 use Rattle.running.specs.Runs.{Runs}
 
 -- WHAT THE CODE IS LENT, where the plan is laid out
-module _ (a : Axis) (c : List ℕ) (h : Laid a c) (es xs bs : List ℕ) (loaded : Loaded (table_in c) c bs) (ended : Ended (work_in a c) es)
-    (long : length es ≡ 192) (room : 6144 ≤ length xs) (stands : (b : ℕ) → b < a.blocks → Stands a c xs (96 * b) b) where
+module _ (a : Axis) (c : Store) (h : Laid a c) (es : List ℕ) (xs : List Lists) (bs : List ℕ) (loaded : Loaded (table_in c) c bs) (ended : Ended (work_in a c) es)
+    (long : length es ≡ 192) (stands : Standing a c xs a.blocks) where
   calling-by : (step : Step) → ((b : ℕ) (cs : List ℕ) (m : List Float) → length m ≡ element_total (table_in c) → Reachable (work_in a c) cs
       → step b cs m ≡ called (work_in a c) (table_in c) b cs m) → Calling (work_in a c) step a.blocks es xs c bs
   calling-by step calls = record {
-    lent = λ b. lent-in a c h es ended long b xs (96 * b) bs (λ l. (omega (arith, few-blocks a c h), stands b l)) loaded;
+    lent = λ b. lent-in a c h es ended long b xs b bs (λ l. (omega (arith, stands.long, few-blocks a c h), stands.each b l)) loaded;
     calls = calls;
   }
 

@@ -8,6 +8,7 @@ use lib.ListN.{length, get_or, drop, drop_of_length-le}
 use lib.Seq.{drop-cons}
 use lib.Ieee.{Float}
 use Rattle.model.specs.declared.Iteration.{Iteration}
+use Rattle.records.specs.declared.storage.Store.{Store}
 use Rattle.reader.specs.Store.{table_in}
 use Rattle.iterations.specs.Memory.{element_total}
 use Rattle.turns.specs.Turn.{Work}
@@ -17,12 +18,13 @@ use Rattle.turns.proofs.Reach.{none-reachable}
 use Rattle.stepping.specs.declared.Report.{Report}
 use Rattle.steps.specs.Called.{called}
 use Rattle.steps.specs.Leaves.{Leaves}
+use Rattle.layouts.specs.declared.Lists.{Lists}
 use Rattle.running.specs.Code.{Step, Calling, Ordered}
 use Rattle.running.specs.Idle.{idling}
 use Rattle.running.proofs.Calls.{idling-small, leaves-reachable, leaves-long, then-counts, then-memory, then-idle}
 
 -- what is left of it from byte k on gives, with what is done, what the whole gives from the first memory
-pub record Going (w : Work Iteration) (step : Step) (c order : List ℕ) (begun : List Float) (cs : List ℕ) (m : List Float) (n k : ℕ) : Type 0 where
+pub record Going (w : Work Iteration) (step : Step) (c : Store) (order : List ℕ) (begun : List Float) (cs : List ℕ) (m : List Float) (n k : ℕ) : Type 0 where
   pub few : n ≤ k
   pub reachable : Reachable w cs
   pub long : length m ≡ element_total (table_in c)
@@ -30,7 +32,7 @@ pub record Going (w : Work Iteration) (step : Step) (c order : List ℕ) (begun 
   pub memory-left : memory_after step (drop k order) cs m ≡ memory_after step order none_done begun
   pub idle-left : n + idle (reports step (drop k order) cs m) ≡ idle (reports step order none_done begun)
 
-module _ (w : Work Iteration) (step : Step) (c order : List ℕ) (begun : List Float) where
+module _ (w : Work Iteration) (step : Step) (c : Store) (order : List ℕ) (begun : List Float) where
   pub going_start : length begun ≡ element_total (table_in c) → Going w step c order begun none_done begun 0 0
   going_start l = record {
     few = omega arith;
@@ -41,7 +43,7 @@ module _ (w : Work Iteration) (step : Step) (c order : List ℕ) (begun : List F
     idle-left = omega arith;
   }
 
-  pub going_next : {P : ℕ} {es xs bs : List ℕ} → Calling w step P es xs c bs → (cs ds : List ℕ) (m o : List Float) (n k : ℕ) (said : Report)
+  pub going_next : {P : ℕ} {es : List ℕ} {xs : List Lists} {bs : List ℕ} → Calling w step P es xs c bs → (cs ds : List ℕ) (m o : List Float) (n k : ℕ) (said : Report)
       → Going w step c order begun cs m n k → k < length order → Leaves (called w (table_in c) (get_or order k 0) cs m) ds o said
       → Going w step c order begun ds o (n + idling said) (k + 1)
   going_next g cs ds m o n k said y i h = rw (add-one k) (record {

@@ -17,10 +17,10 @@ ghost use Rattle.running.specs.Runs.{Runs};
 
 use barriers::{Barriers, ENDS};
 use blocks::Axis;
-use layouts::{ALL_LISTS, LISTS};
+use layouts::{Lists, PROCESSORS};
 use plans::Settings;
 use ranges::PHASES;
-use records::{STORE, Store};
+use records::Store;
 use refusals::{Ground, Refusal};
 use stepping::Report;
 use steps::{Counts, Layout};
@@ -50,7 +50,7 @@ fn take_order(order: &[u8], layout: &Layout, memory: &mut [f64]) -> Taken
     let mut counts = Counts { done: [0u32; 64] };
     let mut idle: usize = 0;
     for &b in order {
-        let r = counts.step_laid(layout, b as u32, LISTS * b as usize, memory);
+        let r = counts.step_laid(layout, b as u32, b as usize, memory);
         counts = r.counts;
         idle += idle_of(r.report);
     }
@@ -67,9 +67,7 @@ fn close(from: Counts, most: u32, layout: &Layout, memory: &mut [f64])
         let Some(b) = layout.barriers.lowest_ready(&counts.done) else {
             return;
         };
-        counts = counts
-            .step_laid(layout, b, LISTS * b as usize, memory)
-            .counts;
+        counts = counts.step_laid(layout, b, b as usize, memory).counts;
     }
 }
 
@@ -99,8 +97,8 @@ fn run_planned(a: Axis, order: &[u8], store: &Store, memory: &mut [f64]) -> Resu
         processors: a.blocks,
         phases: PHASES,
     };
-    let mut lists = [0u32; ALL_LISTS];
-    layouts::put_all_lists(a, store, &mut lists[..]);
+    let mut lists = [Lists::new(); PROCESSORS];
+    layouts::put_all_lists(a, store, &mut lists);
     let layout = Layout {
         barriers: &barriers,
         lists: &lists[..],
@@ -114,7 +112,7 @@ fn run_planned(a: Axis, order: &[u8], store: &Store, memory: &mut [f64]) -> Resu
 pub fn run(s: &[u8], w: Settings, order: &[u8], memory: &mut [f64]) -> Result<usize, Refusal>
     ensures { Runs s.now w order.now memory.old result memory.new }
 {
-    let mut store = [0u32; STORE];
+    let mut store = Store::new();
     let a = plans::plan_table(s, w, &mut store)?;
     run_planned(a, order, &store, memory)
 }

@@ -15,6 +15,8 @@ use Rattle.overlap.specs.Booleans.{not-true}
 use Rattle.overlap.specs.Overlap.{some_from}
 use Rattle.overlap.proofs.OverlapLaws.{is_some}
 use Rattle.model.specs.declared.Reference.{Reference}
+use Rattle.records.specs.declared.storage.Store.{Store}
+use Rattle.reader.specs.StoreLaws.{array_small}
 use Rattle.reader.specs.Store.{kind_at, array_at, value_at}
 use Rattle.reader.specs.Rows.{ref_in, refs_in}
 use Rattle.std.specs.Prelude.{Option, None, Some, ◌&&◌}
@@ -22,7 +24,7 @@ use Rattle.serial.specs.Serial.{collides, pair_hit}
 use Rattle.serial.specs.Rows.{StoredAt, with_offset, offset_of, differs}
 use Rattle.serial.proofs.Walks.{untouched, same-offset, apart-pairs, rows-one}
 
-module _ (c : List ℕ) where
+module _ (c : Store) where
   -- THE OFFSETS, row by row
   pub offset-put : (row : ℕ) (os : List (Option ℕ)) → kind_at c row ≡ 1 → set os (array_at c row) (Some (value_at c row)) ≡ with_offset c row os
   unfolding with_offset
@@ -70,7 +72,7 @@ module _ (c : List ℕ) where
           new = set os (array_at c row) (Some (value_at c row))
 
           same : (q : ℕ) → q ≡ array_at c row → get_or new q None ≡ Some (value_at c row)
-          same q z = rw z (get_or-set_same os (array_at c row) (Some (value_at c row)) None (omega (arith, w.long)))
+          same q z = rw z (get_or-set_same os (array_at c row) (Some (value_at c row)) None (omega (arith, w.long, array_small c row)))
 
           other : (q : ℕ) → (q ≡ array_at c row → ⊥) → get_or new q None ≡ get_or os q None
           other q z = get_or-set_other os (array_at c row) q (Some (value_at c row)) None z

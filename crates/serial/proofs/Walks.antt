@@ -23,6 +23,7 @@ use Rattle.model.specs.Table.{loop, count}
 use Rattle.refusals.specs.Refusals.{naming}
 use Rattle.refusals.specs.declared.Refusal.{Refusal}
 use Rattle.refusals.specs.Answers.{accepted, refused}
+use Rattle.records.specs.declared.storage.Store.{Store}
 use Rattle.reader.specs.Reading.{Answer, reading}
 use Rattle.reader.specs.Store.{first_at, last_at, start_at, kind_at, loops_in, loop_at, table_in}
 use Rattle.reader.specs.ReadInto.{ReadInto}
@@ -65,7 +66,7 @@ module _ (f l : ℕ) where
       rw (apart-hit n r rs (n + 1) (λ q h. a r q (mhere refl) (mthere h)), apart-pairs rs (n + 1) (λ p q h i. a p q (mthere h) (mthere i)))
 
 -- ROWS
-module _ (c : List ℕ) where
+module _ (c : Store) where
   -- each reference of some rows is that of one of them
   row_one : (r : ℕ) (q : Reference) → Mem q (row_refs c 0 r) → (kind_at c r < 2) × (q ≡ ref_in c 0 r)
   row_one r q m = go (dec_lt (kind_at c r) 2)
@@ -87,7 +88,7 @@ module _ (c : List ℕ) where
   rows-read : (n r : ℕ) → ((i : ℕ) → r ≤ i → i < r + n → kind_at c i ≡ 1 → ⊥) → (q : Reference) → Mem q (refs_from c 0 r n) → q.stores ≡ false
   rows-read n r none q m = let (i, a, b, k, e) = rows-one n r q m in rw e (ne_eqb (kind_at c i) 1 (none i a b))
 
-module _ (c : List ℕ) (f l : ℕ) where
+module _ (c : Store) (f l : ℕ) where
   abbrev R : ℕ → ℕ → List Reference
   R from past = refs_in c 0 from past
 
@@ -229,7 +230,7 @@ module _ (c : List ℕ) (f l : ℕ) where
         sym (w.rest ∙ apart-pairs f l (R row past) (length (R from row)) (λ r q h i. reads-apart f l r q (reads r h) (reads q i)))
 
 -- HOW MANY REFERENCES the rows from `from` up to `past` have: n come before `row`
-module _ (c : List ℕ) (from past : ℕ) where
+module _ (c : Store) (from past : ℕ) where
   abbrev pub Counted : ℕ → ℕ → Type 0
   Counted row n = (from ≤ row) × (length (refs_in c 0 from past) ≡ n + length (refs_in c 0 row past)) × (n + from ≤ row)
 
@@ -252,12 +253,12 @@ module _ (c : List ℕ) (from past : ℕ) where
 
 -- LOOPS
 -- of l loops, those from k on give what all give
-pub record LoopInv (c : List ℕ) (l k : ℕ) : Type 0 where
+pub record LoopInv (c : Store) (l k : ℕ) : Type 0 where
   pub all : l ≡ count (table_in c)
   pub within : k ≤ l
   pub rest : serial_from (table_in c) k (l - k) ≡ through (accepted (table_in c))
 
-module _ (c : List ℕ) (h : Held c) where
+module _ (c : Store) (h : Held c) where
   -- the rows of a loop that there is
   pub rows-known : (k : ℕ) → k < count (table_in c) → (k < 16) × (start_at c k < start_at c (k + 1)) × (start_at c (k + 1) ≤ 576)
   rows-known k m = (omega (arith, count_held h, few-loops h), rw (add-one k) (rows-rise h k m), rw (add-one k) (few-rows h (suc k) m))
@@ -340,7 +341,7 @@ module _ (c : List ℕ) (h : Held c) where
       loops-done m = let e : l - k ≡ 0 = omega arith in (sym (rw e at inv.rest), h)
 
 -- A WHOLE TABLE, by what its reading answers
-module _ (c s : List ℕ) where
+module _ (c : Store) (s : List ℕ) where
   pub refused-reading : (r : Refusal) → reading s ≡ refused r → table s ≡ refused r
   unfolding table through
   refused-reading r e = ap through e

@@ -1,6 +1,7 @@
 -- What the code of ground 9 asks of a loop's rows.
 use Rattle.std.specs.Prelude.{ℕ, ◌+◌, ◌≤◌, ◌<◌, ◌≡◌, ◌⊎◌, Bool, false, not, cond, ◌&&◌, List, Option, None, Some, eqb, ltb, length, get_or, set}
 use Rattle.model.specs.declared.Reference.{Reference}
+use Rattle.records.specs.declared.storage.Store.{Store}
 use Rattle.reader.specs.Store.{first_at, last_at, start_at, kind_at, array_at, value_at}
 use Rattle.reader.specs.Stored.{Row}
 use Rattle.reader.specs.Rows.{ref_in, row_refs, refs_in}
@@ -8,16 +9,16 @@ use Rattle.serial.specs.declared.LoopRows.{LoopRows}
 use Rattle.serial.specs.Serial.{pair, collides, pair_hit}
 
 -- the rows of loop k
-abbrev pub rows_of : List ℕ → ℕ → LoopRows
+abbrev pub rows_of : Store → ℕ → LoopRows
 rows_of c k = record { from = start_at c k; past = start_at c (k + 1); first = first_at c k; last = last_at c k }
 
 -- what is known of a loop's rows: there is one, they end before the last row, and each is in order
-pub record Known (c : List ℕ) (rows : LoopRows) : Type 0 where
+pub record Known (c : Store) (rows : LoopRows) : Type 0 where
   pub some : rows.from < rows.past
   pub few : rows.past ≤ 576
   pub each : (r : ℕ) → r < rows.past → Row c r
 
-module _ (c : List ℕ) (f l : ℕ) where
+module _ (c : Store) (f l : ℕ) where
   -- x and the reference of row r, if it has one
   abbrev pub collides_row : Reference → ℕ → Bool
   collides_row x r = cond (ltb (kind_at c r) 2) (collides f l x (ref_in c 0 r)) false
@@ -40,7 +41,7 @@ module _ (c : List ℕ) (f l : ℕ) where
   PartnerOrDestination row past None = OnlyReads row past × Partner row past None
   PartnerOrDestination row past (Some o) = Behind row past o × OnlyReads row o × ((kind_at c o ≡ 1 → ⊥) → Partner row past (Some o))
 
-module _ (c : List ℕ) where
+module _ (c : Store) where
   -- for each array an offset at which it is stored, if it is: a destination's row sets that of its array
   unfoldable pub with_offset : ℕ → List (Option ℕ) → List (Option ℕ)
   with_offset row os = cond (eqb (kind_at c row) 1) (set os (array_at c row) (Some (value_at c row))) os

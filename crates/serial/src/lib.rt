@@ -5,7 +5,7 @@ ghost use Rattle.std.specs.Prelude.{◌≡◌, ℕ, ◌-◌, ◌<◌, ◌≤◌,
 ghost use Rattle.overlap.specs.Overlap.{some_from};
 ghost use Rattle.refusals.specs.Answers.{accepted, result_of};
 ghost use Rattle.model.specs.Table.{count};
-ghost use Rattle.reader.specs.Store.{Sized, kind_at, loop_at, table_in};
+ghost use Rattle.reader.specs.Store.{kind_at, loop_at, table_in};
 ghost use Rattle.reader.specs.Stored.{Row};
 ghost use Rattle.reader.specs.Rows.{refs_in};
 ghost use Rattle.reader.specs.Held.{Held};
@@ -15,7 +15,7 @@ ghost use Rattle.serial.specs.Rows.{rows_of, Known, collides_row, Partner, Partn
 
 use model::Reference;
 use overlap::overlaps;
-use records::{STORE, Store};
+use records::Store;
 use refusals::{Ground, Refusal};
 
 // The rows of a loop, from `from` up to `past`, and its bounds.
@@ -115,7 +115,7 @@ fn partner_or_destination(store: &Store, rows: LoopRows) -> Option<usize>
 }
 
 // The offsets with one row more: a destination's sets that of its array.
-#[tactic(auto, unfolding(crate::specs::Rows::with_offset))]
+#[tactic(auto, using(reader::specs::StoreLaws::array_small), unfolding(crate::specs::Rows::with_offset))]
 fn put_offset(store: &Store, row: usize, offsets: &mut [Option<u32>; 16])
     requires { row < 576 }
     ensures { offsets.new ≡ with_offset store.now row offsets.old }
@@ -140,7 +140,7 @@ fn stored_offsets(store: &Store, from: usize, past: usize) -> [Option<u32>; 16]
 }
 
 // Row `row` is a reference to an array that is stored, at another offset than that.
-#[tactic(auto, unfolding(crate::specs::Rows::differs))]
+#[tactic(auto, using(reader::specs::StoreLaws::array_small), unfolding(crate::specs::Rows::differs))]
 fn row_differs(store: &Store, offsets: &[Option<u32>; 16], row: usize) -> bool
     requires { row < 576 }
     ensures { result ≡ differs store.now offsets.now row }
@@ -221,7 +221,6 @@ fn check_loops(store: &Store) -> Result<(), Refusal>
 
 // The table that the bytes are, read through 9 into the lent store, or the ground that they meet.
 pub fn read_through(s: &[u8], store: &mut Store) -> Result<(), Refusal>
-    requires { Sized store.old }
     ensures { ReadInto (table s.now) result store.new }
 {
     reader::read_table(s, store)?;
@@ -232,6 +231,6 @@ pub fn read_through(s: &[u8], store: &mut Store) -> Result<(), Refusal>
 pub fn check(s: &[u8]) -> Result<(), Refusal>
     ensures { result ≡ result_of (λ _. tt) (table s.now) }
 {
-    let mut store = [0u32; STORE];
+    let mut store = Store::new();
     read_through(s, &mut store)
 }

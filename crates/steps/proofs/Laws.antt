@@ -9,6 +9,7 @@ use Rattle.model.specs.declared.Iteration.{Iteration}
 use Rattle.refusals.specs.Refusals.{met}
 use Rattle.refusals.specs.Answers.{accepted, refused}
 use Rattle.refusals.specs.declared.Refusal.{Refusal}
+use Rattle.records.specs.declared.storage.Store.{Store}
 use Rattle.reader.specs.Store.{table_in}
 use Rattle.blocks.specs.declared.Axis.{Axis}
 use Rattle.iterations.specs.Memory.{element_total, remembered}
@@ -31,7 +32,7 @@ use Rattle.steps.proofs.Same.{called-below}
 use Rattle.steps.specs.Leaves.{Leaves}
 
 -- A STEP OF A PLAN
-module _ (a : Axis) (c : List ℕ) (b : ℕ) (cs : List ℕ) (m : List Float) where
+module _ (a : Axis) (c : Store) (b : ℕ) (cs : List ℕ) (m : List Float) where
   abbrev pub outcome : After Iteration (List Float)
   outcome = stepped_by b cs m (remembered elements (length m) (accepted (planned_in a c)))
 
@@ -64,7 +65,7 @@ module _ (s : List ℕ) (w : Settings) (b : ℕ) (k : Counts) (m : List Float) w
   unfolding step stepped_by remembered
   steps-refused r e = rw e (record { counts-are = refl; memory-is = refl; report-is = refl })
 
-  module _ (a : Axis) (c : List ℕ) (made : Made (planned_for s w b) a c) where
+  module _ (a : Axis) (c : Store) (made : Made (planned_for s w b) a c) where
     pub laid-named : Laid a c × (b < a.blocks)
     laid-named =
         let (e, l) = named-accepts s w b (planned_in a c) made.is in

@@ -1,5 +1,5 @@
 -- What the next call of a processor reports, from where its phases end and its lists.
-use Prim.Native.Nat.{ℕ, zero, suc, ◌+◌, ◌-◌, ◌*◌, ◌≤◌, ◌<◌}
+use Prim.Native.Nat.{ℕ, zero, suc, ◌+◌, ◌-◌, ◌≤◌, ◌<◌}
 use native.Mathlib.Omega.{arith}
 use native.Mathlib.Numerals.{add-one}
 use mathlib.Core.Path.{◌≡◌, refl, sym, ap, subst, ◌∙◌}
@@ -10,12 +10,17 @@ use lib.ListN.{length, get_or}
 use borrow.Author.Tests.{leb-true, lt-ltb, le-ltb}
 use Rattle.model.specs.declared.Iteration.{Iteration}
 use Rattle.model.specs.Table.{iteration}
+use Rattle.records.specs.declared.storage.Store.{Store}
 use Rattle.reader.specs.Store.{loops_in}
 use Rattle.blocks.specs.Sums.{column}
 use Rattle.turns.specs.Turn.{Work, before, closed, phase_of, next}
 use Rattle.barriers.specs.Code.{before_by, come_by, phase_by, closed_by}
 use Rattle.barriers.proofs.Same.{before-is, phase-is, closed_is}
+use Rattle.std.proofs.lemmas.List.{get_or_default}
+use Rattle.ranges.specs.declared.phase_ranges.PhaseRanges.{PhaseRanges}
 use Rattle.ranges.specs.Code.{list_of}
+use Rattle.layouts.specs.declared.Lists.{Lists}
+use Rattle.layouts.specs.Layout.{ranges_of, no_lists}
 use Rattle.stepping.specs.declared.Report.TheVariants.{Performed, Waiting, Finished}
 use Rattle.stepping.specs.Step.{report_of}
 use Rattle.steps.specs.Lent.{Phased, Listed}
@@ -30,7 +35,7 @@ come-used es b done (suc m) = go (leb (before_by es (suc m) b) done) refl (come-
     go true e ih = leb-true (before_by es (suc m) b) done e
     go false e ih = ih
 
-module _ {w : Work Iteration} {P b : ℕ} {es xs : List ℕ} {at : ℕ} {c : List ℕ} (p : Phased w P es) (h : Listed w b xs at c) (below : b < P)
+module _ {w : Work Iteration} {P b : ℕ} {es : List ℕ} {xs : List Lists} {at : ℕ} {c : Store} (p : Phased w P es) (h : Listed w b xs at c) (below : b < P)
     (cs : List ℕ) (n : ℕ) (found : n ≡ phase_by es 2 b (column cs b)) (small : n < 2) where
   abbrev done : ℕ
   done = column cs b
@@ -62,11 +67,11 @@ module _ {w : Work Iteration} {P b : ℕ} {es xs : List ℕ} {at : ℕ} {c : Lis
   says-ends e l = rw (← come, opens false e, le-ltb done (before w (suc n) b) (omega (arith, late)))
 
   -- the place in its list
-  asks : done < before_by es (n + 1) b → done - before_by es n b < length (list_of xs (at + 48 * n) (loops_in c) n)
+  asks : done < before_by es (n + 1) b → done - before_by es n b < length (list_of (ranges_of (get_or xs at no_lists) n) (loops_in c) n)
   asks l = rw (h.is n small) (omega (arith, early, late, used))
 
   says-performs : false ≡ closed_by P es cs n → done < before_by es (n + 1) b → (x : Iteration)
-      → x ≡ get_or (list_of xs (at + 48 * n) (loops_in c) n) (done - before_by es n b) (iteration 0 0)
+      → x ≡ get_or (list_of (ranges_of (get_or xs at no_lists) n) (loops_in c) n) (done - before_by es n b) (iteration 0 0)
       → Performed x.number x.index ≡ report_of (next (iteration 0 0) w b cs)
   unfolding next
   says-performs e l x q =
@@ -76,10 +81,14 @@ module _ {w : Work Iteration} {P b : ℕ} {es xs : List ℕ} {at : ℕ} {c : Lis
       rw (← come, opens false e, lt-ltb done (before w (suc n) b) (omega (arith, late)), z)
 
   -- as the code finds it
-  module _ (loops m : ℕ) (loops-are : loops ≡ loops_in c) (m-is : m ≡ done - before_by es n b) (more : done < before_by es (n + 1) b) where
-    pub nth-asks : (loops ≤ 16) × (at + 48 * n + 48 ≤ length xs) × (m < length (list_of xs (at + 48 * n) loops n))
-    nth-asks = (omega (arith, h.few-loops), omega (arith, h.room), rw (loops-are, m-is) (asks more))
+  module _ (loops m : ℕ) (x : PhaseRanges) (d : Lists) (loops-are : loops ≡ loops_in c) (m-is : m ≡ done - before_by es n b)
+      (ranges-are : x ≡ ranges_of (get_or xs at d) n) (more : done < before_by es (n + 1) b) where
+    same : x ≡ ranges_of (get_or xs at no_lists) n
+    same = ranges-are ∙ ap (λ (y : Lists). ranges_of y n) (get_or_default xs at d no_lists h.room)
 
-    pub nth-says : false ≡ closed_by P es cs n → (x : Iteration) → x ≡ get_or (list_of xs (at + 48 * n) loops n) m (iteration 0 0)
-        → Performed x.number x.index ≡ report_of (next (iteration 0 0) w b cs)
-    nth-says e x q = says-performs e more x (rw (loops-are, m-is) at q)
+    pub nth-asks : (loops ≤ 16) × (m < length (list_of x loops n))
+    nth-asks = (omega (arith, h.few-loops), rw (loops-are, m-is, same) (asks more))
+
+    pub nth-says : false ≡ closed_by P es cs n → (y : Iteration) → y ≡ get_or (list_of x loops n) m (iteration 0 0)
+        → Performed y.number y.index ≡ report_of (next (iteration 0 0) w b cs)
+    nth-says e y q = says-performs e more y (rw (loops-are, m-is, same) at q)

@@ -11,6 +11,7 @@ use Rattle.refusals.specs.Refusals.{met}
 use Rattle.model.specs.declared.Iteration.{Iteration}
 use Rattle.model.specs.Table.{iteration, Inside}
 use Rattle.model.specs.Bodies.{run}
+use Rattle.records.specs.declared.storage.Store.{Store}
 use Rattle.reader.specs.Store.{table_in}
 use Rattle.blocks.specs.Sums.{column}
 use Rattle.turns.specs.Turn.{Work, Said, refuses, performs, waits, ends, before, After, next, after, turn}
@@ -20,19 +21,20 @@ use Rattle.stepping.specs.declared.Report.{Report}
 use Rattle.stepping.specs.declared.Report.TheVariants.{Refused, Performed}
 use Rattle.stepping.specs.Step.{report_of}
 use Rattle.stepping.proofs.Meaning.{said-performs}
+use Rattle.layouts.specs.declared.Lists.{Lists}
 use Rattle.steps.specs.Lent.{Phased, Lent}
 use Rattle.steps.specs.Called.{called}
 use Rattle.steps.proofs.Same.{called-below, called-past}
 use Rattle.steps.specs.Leaves.{Leaves}
 
 -- a number not below P
-pub leaves-past : {w : Work Iteration} {P b : ℕ} {es : List ℕ} → Phased w P es → (c cs : List ℕ) (m : List Float) → P ≤ b
+pub leaves-past : {w : Work Iteration} {P b : ℕ} {es : List ℕ} → Phased w P es → (c : Store) (cs : List ℕ) (m : List Float) → P ≤ b
     → Leaves (called w (table_in c) b cs m) cs m (Refused (met 10 0))
 leaves-past {w} {P} {b} p c cs m past =
     rw (called-past w (table_in c) b cs m (omega (arith, p.counted))) (record { counts-are = refl; memory-is = refl; report-is = refl })
 
 -- ONE BELOW P
-module _ {w : Work Iteration} {P b : ℕ} {es xs : List ℕ} {at : ℕ} {c bs : List ℕ} (h : Lent w P b es xs at c bs) (below : b < P) (cs : List ℕ) where
+module _ {w : Work Iteration} {P b : ℕ} {es : List ℕ} {xs : List Lists} {at : ℕ} {c : Store} {bs : List ℕ} (h : Lent w P b es xs at c bs) (below : b < P) (cs : List ℕ) where
   proper : b < w.processors
   proper = omega (arith, h.phased.counted)
 

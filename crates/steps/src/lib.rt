@@ -17,10 +17,10 @@ ghost use Rattle.steps.specs.Refusing.{refusing};
 
 use barriers::{Barriers, ENDS};
 use blocks::Axis;
-use layouts::LISTS;
+use layouts::Lists;
 use plans::Settings;
-use ranges::{PHASE, PHASES};
-use records::{STORE, Store};
+use ranges::PHASES;
+use records::Store;
 use refusals::{Ground, Refusal};
 use stepping::Report;
 
@@ -41,7 +41,7 @@ pub struct Stepped {
 #[derive(Clone, Copy)]
 pub struct Layout<'a> {
     pub barriers: &'a Barriers<'a>,
-    pub lists: &'a [u32],
+    pub lists: &'a [Lists],
     pub store: &'a Store,
     pub bases: &'a [u32; 17],
     ghost in_two_phases: { barriers.now.phases ≡ 2 },
@@ -50,7 +50,7 @@ pub struct Layout<'a> {
 impl Layout<'_> {
     ghost use Rattle.steps.specs.Lent.{PhasedIn, ListedIn};
 
-    // What processor b's next call reports. Its lists stand from `at` on.
+    // What processor b's next call reports. Its lists stand at `at`.
     fn next_of(&self, counts: &[u32; 64], b: u32, at: usize) -> Report
         requires { ((w : Work Iteration) × PhasedIn w self.now × ListedIn w b self.now at) × (b < self.now.barriers.now.processors) }
         ensures { (w : Work Iteration) → PhasedIn w self.now → ListedIn w b self.now at → result ≡ report_of (turns.next (iteration 0 0) w b counts.now) }
@@ -65,9 +65,9 @@ impl Layout<'_> {
             return Report::Finished;
         }
         let loops = reader::loops_in(self.store);
-        let place = at + PHASE * phase as usize;
+        let ranges = self.lists[at].of(phase);
         let n = done - barriers.before(phase, b);
-        let x = ranges::nth_of(phase, loops, self.lists, place, n as usize);
+        let x = ranges::nth_of(phase, loops, ranges, n as usize);
         Report::Performed {
             number: x.number,
             index: x.index,
@@ -127,8 +127,8 @@ impl Counts {
         if barriers.wrong_state(&self.done) {
             return self.refused(Refusal::met(Ground::State, 0));
         }
-        let mut lists = [0u32; LISTS];
-        layouts::put_lists(a, b, store, &mut lists[..], 0);
+        let mut lists = [Lists::new(); 1];
+        layouts::put_lists(a, b, store, &mut lists[0]);
         let layout = Layout {
             barriers: &barriers,
             lists: &lists[..],
@@ -142,7 +142,7 @@ impl Counts {
     pub fn step(self, s: &[u8], w: Settings, processor: u32, memory: &mut [f64]) -> Stepped
         ensures { Leaves (step s.now w processor self.done memory.old) result.counts.done memory.new result.report }
     {
-        let mut store = [0u32; STORE];
+        let mut store = Store::new();
         match plans::plan_for(s, w, processor, &mut store) {
             Ok(a) => self.step_planned(a, processor, &store, memory),
             Err(r) => self.refused(r),

@@ -10,6 +10,7 @@ use Rattle.marks.specs.MarkLaws.{none-marked}
 use Rattle.model.specs.declared.Reference.{Reference}
 use Rattle.model.specs.Table.{count}
 use Rattle.model.specs.References.{refs}
+use Rattle.records.specs.declared.storage.Store.{Store}
 use Rattle.reader.specs.Store.{start_at, kind_at, array_at, table_in}
 use Rattle.reader.specs.Held.{Held}
 use Rattle.reader.specs.Rows.{ref_in, row_refs, refs_in}
@@ -25,7 +26,7 @@ some-append f [] ys = refl
 some-append f (x ∷ xs) ys =
     ap (λ (b : Bool). f x || b) (some-append f xs ys) ∙ sym (or_assoc (f x) (some f xs) (some f ys))
 
-some-row : (f : Reference → Bool) (c : List ℕ) (k r : ℕ) → some f (row_refs c k r) ≡ (ltb (kind_at c r) 2 && f (ref_in c k r))
+some-row : (f : Reference → Bool) (c : Store) (k r : ℕ) → some f (row_refs c k r) ≡ (ltb (kind_at c r) 2 && f (ref_in c k r))
 unfolding some row_refs
 some-row f c k r = go (ltb (kind_at c r) 2)
   where
@@ -42,7 +43,7 @@ stored kind b = go (ℕ_discrete kind 1)
     go (no n) = rw (ne_eqb kind 1 n, and-false b, and-false (ltb kind 2))
 
 -- THE WALK over the rows of loop k, for one of its sets: the arrays of the references that pass the test f
-module _ (c : List ℕ) (k : ℕ) (f : ℕ → Reference → Bool) where
+module _ (c : Store) (k : ℕ) (f : ℕ → Reference → Bool) where
   pub rest-start : Held c → k < count (table_in c) → Rest c k f 0 (start_at c k)
   rest-start h there q = rw (none-marked q, refs-held h k there)
 
@@ -59,7 +60,7 @@ module _ (c : List ℕ) (k : ℕ) (f : ℕ → Reference → Bool) where
     rest-done l q = sym (or-false (marked m q)) ∙ rw (refs_end c k row (start_at c (suc k)) l) at (rest q)
 
 -- for both
-module _ (c : List ℕ) (k : ℕ) where
+module _ (c : Store) (k : ℕ) where
   pub sets-start : Held c → k < count (table_in c) → SetsLeft c k (start_at c k) (record { touched = 0; written = 0 })
   sets-start h there = record { touches = rest-start c k _ h there; writes = rest-start c k _ h there }
 

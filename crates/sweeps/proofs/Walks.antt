@@ -4,11 +4,11 @@ use native.Mathlib.Omega.{arith}
 use native.Mathlib.Numerals.{add-one}
 use mathlib.Core.Path.{◌≡◌, ap, ap₂, ◌∙◌, fun_ext}
 use mathlib.Core.Bool.{Bool, false, ◌||◌}
-use mathlib.Core.List.{List}
 use Rattle.marks.specs.Marks.{marked, size}
 use Rattle.marks.specs.MarkLaws.{size-most, size_same, none-marked}
 use Rattle.model.specs.Table.{Table, count}
 use Rattle.model.specs.PlainRunLaws.{upward-turn, upward-ended}
+use Rattle.records.specs.declared.storage.Store.{Store}
 use Rattle.reader.specs.Store.{start_at, loops_in, table_in}
 use Rattle.reader.specs.Held.{Held, count_held, few-loops, few-rows}
 use Rattle.sweeps.specs.declared.Sets.{Sets}
@@ -18,7 +18,7 @@ use Rattle.sweeps.specs.Sweeps.{touched, written, sum_over, union_over, union, s
 use Rattle.sweeps.specs.Rows.{SetsOf, Added}
 
 -- the rows of loop k
-module _ {c : List ℕ} (h : Held c) (k : ℕ) (there : k < count (table_in c)) where
+module _ {c : Store} (h : Held c) (k : ℕ) (there : k < count (table_in c)) where
   pub loop-few : k < 16
   loop-few = omega (arith, count_held h, few-loops h)
 
@@ -41,13 +41,13 @@ abbrev sizes : Table → ℕ → ℕ
 sizes t k = size (touched t k) + size (written t k)
 
 -- of so many loops those from loop k on, with what came before, give all of them
-pub record LoopInv (c : List ℕ) (loops k : ℕ) (s : Totals) : Type 0 where
+pub record LoopInv (c : Store) (loops k : ℕ) (s : Totals) : Type 0 where
   pub small : s.before ≤ 32 * k
   pub sums : sum_over (sizes (table_in c)) k (loops - k) s.before ≡ Sweeps.before (table_in c)
   pub touches : union_over (touched (table_in c)) k (loops - k) (marked s.sets.touched) ≡ union (table_in c) (touched (table_in c))
   pub writes : union_over (written (table_in c)) k (loops - k) (marked s.sets.written) ≡ union (table_in c) (written (table_in c))
 
-module _ (c : List ℕ) (h : Held c) (loops : ℕ) (all : loops ≡ loops_in c) where
+module _ (c : Store) (h : Held c) (loops : ℕ) (all : loops ≡ loops_in c) where
   abbrev t : Table
   t = table_in c
 

@@ -22,7 +22,7 @@ write_list-requires c =
     let p = c.requires in
     let q = c.put_list-size.ensures in
     let n = c.loops_in.ensures in
-    let e = list-in a.a.now st p.0 a.phase a.b _ 0 q.ranges_kept in
+    let e = list-in a.a.now st p.0 a.phase a.b _ q.ranges_kept in
     (omega (arith, n, few-loops p.0.held), rw n (list-fits a.a.now st p.0 a.phase a.b p.1 _ _ e q.value))
 
 pub returns : goal.returns
@@ -31,6 +31,6 @@ returns c =
     let q = c.put_list-size.ensures in
     let l = work (table_in a.store.now) (fusion_in a.a.now) a.phase a.b in
     let size = list-size _ l q.value.0 in
-    let e = list-in a.a.now a.store.now c.requires.0 a.phase a.b _ 0 q.ranges_kept in
+    let e = list-in a.a.now a.store.now c.requires.0 a.phase a.b _ q.ranges_kept in
     let w = rw e at (rw c.loops_in.ensures at c.write_list.ensures) in
     numbers-put (pairs_of l) a.out.now _ size c.if-out-size.false w

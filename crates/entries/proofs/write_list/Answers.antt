@@ -10,7 +10,7 @@ pub loop-n-init : goal.loop-n-init
 loop-n-init c = rowed-none
 
 pub nth_of-x-requires : goal.nth_of-x-requires
-nth_of-x-requires c = (c.requires.0, search rules, omega (arith, c.requires.1.sized, c.loop-n-test.true))
+nth_of-x-requires c = (c.requires.0, omega (arith, c.requires.1.sized, c.loop-n-test.true))
 
 pub loop-n-preserved : goal.loop-n-preserved
 loop-n-preserved c = rowed-next c.loop-n.invariant c.loop-n-test.true (rw c.nth_of-x.ensures at c.put_pair.ensures)
@@ -19,5 +19,5 @@ pub returns : goal.returns
 returns c =
     let a = c.args in
     let w = puts-first c.new-row.ensures.bytes c.new-row.ensures.place
-    (list_put a.size (list_of a.lists.now 0 a.loops a.phase) c.requires.1.sized (rowed-end c.loop-n.invariant c.loop-n-test.false)) in
+    (list_put a.size (list_of a.ranges.now a.loops a.phase) c.requires.1.sized (rowed-end c.loop-n.invariant c.loop-n-test.false)) in
     search rules

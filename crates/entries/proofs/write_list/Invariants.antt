@@ -5,4 +5,4 @@ use Rattle.entries.proofs.write_list.Given as goal
 
 abbrev pub invariant-loop-n : goal.invariant-loop-n
 invariant-loop-n l =
-    Rowed (loop_at (list_of l.lists 0 l.loops l.phase)) (index_at (list_of l.lists 0 l.loops l.phase)) l.size l.initial.row l.n l.row
+    Rowed (loop_at (list_of l.ranges l.loops l.phase)) (index_at (list_of l.ranges l.loops l.phase)) l.size l.initial.row l.n l.row

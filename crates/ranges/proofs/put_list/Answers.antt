@@ -26,9 +26,8 @@ loop-k-preserved c =
     let w = range_small a.a.now st h a.phase a.b l.k (omega arith) in
     let f = ap (λ (r : Range). r.from) e in
     let g = ap (λ (r : Range). r.past) e in
-    rw c.put_range.ensures
-    (filled_next a.lists.now l.lists a.at l.k (range_of a.phase a.a.now st a.b) (column a.a.now.shifts) l.sum
-    l.invariant i _ _ _ c.length.result f g refl c.length.ensures (omega (arith, c.length.ensures, f, g)))
+    filled_next l.ranges _ l.k (range_of a.phase a.a.now st a.b) (column a.a.now.shifts) l.sum l.invariant i _ _ _ c.length.result
+    c.put.ensures f g refl c.length.ensures (omega (arith, c.length.ensures, f, g))
 
 pub returns-clause-value : goal.returns-clause-value
 returns-clause-value c =

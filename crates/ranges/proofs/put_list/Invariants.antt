@@ -4,4 +4,4 @@ use Rattle.ranges.proofs.Laws.{Filled}
 use Rattle.ranges.proofs.put_list.Given as goal
 
 abbrev pub invariant-loop-k : goal.invariant-loop-k
-invariant-loop-k l = Filled l.initial.lists l.lists l.at l.k (range_of l.phase l.a l.store l.b) (column l.a.shifts) l.sum
+invariant-loop-k l = Filled l.ranges l.k (range_of l.phase l.a l.store l.b) (column l.a.shifts) l.sum

@@ -2,7 +2,7 @@ use native.Mathlib.Omega.{arith}
 use mathlib.Core.Path.{◌≡◌, subst}
 use Prim.Native.Nat.{◌-◌}
 use Rattle.reader.specs.Rows.{LastDestination}
-use Rattle.reader.specs.Held.{count_held, few-loops}
+use Rattle.reader.specs.Held.{count_held, few-loops, few-rows}
 use Rattle.reader.specs.RowLaws.{behind-last, behind-few, first_found}
 use Rattle.reader.proofs.last_destination.Goals as goal
 
@@ -30,3 +30,8 @@ returns c =
     let e : l.r - 1 ≡ c.start_at-start.result = omega (arith, c.start_at-start.ensures, l.invariant.from, c.loop-r-test.false) in
     subst (LastDestination c.args.store.now c.args.k) e
     (first_found c.requires.0 c.args.k c.requires.1 _ (l.r - 1) c.start_at-start.ensures l.invariant (omega (arith, c.loop-r-test.false)))
+
+pub overflow_add-r-start : goal.overflow_add-r-start
+overflow_add-r-start c =
+    let p = c.requires in
+    omega (arith, c.start_at-start.ensures, few-rows p.0 c.args.k (omega (arith, p.1)))

@@ -1,5 +1,4 @@
 use native.Mathlib.Omega.{arith}
-use lib.ListN.{set, length-set}
 use lib.Seq.{get_or-set_same}
 use Rattle.reader.proofs.Turns.{start, turn-refused, turn-tail, turn-ended, passed-room, further, passed-places, turn-passed}
 use Rattle.reader.proofs.read_table.Goals as goal
@@ -7,8 +6,8 @@ use Rattle.reader.proofs.read_table.Goals as goal
 pub loop-r-init : goal.loop-r-init
 loop-r-init c =
     let a = c.args in
-    start a.s.now (set a.store.now 48 0) c.blank-t.result c.blank-t.ensures (simp length-set c.requires)
-    (get_or-set_same a.store.now 48 0 0 (omega (arith, c.requires)))
+    start a.s.now _ c.blank-t.result c.blank-t.ensures
+    (get_or-set_same a.store.now.starts 0 0 0 (omega (arith, a.store.now.sized.starts_sized)))
 
 pub returns-in-Refused : goal.returns-in-Refused
 returns-in-Refused c =

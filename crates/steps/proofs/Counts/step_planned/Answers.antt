@@ -1,7 +1,5 @@
-use Prim.Native.Nat.{◌+◌, ◌≤◌}
 use native.Mathlib.Omega.{arith}
 use mathlib.Core.Path.{refl, sym, ◌∙◌}
-use lib.ListN.{length}
 use Rattle.barriers.proofs.Same.{zeros-small}
 use Rattle.iterations.specs.LoadedLaws.{loaded-total}
 use Rattle.layouts.specs.Layout.{work_in}
@@ -36,9 +34,8 @@ step_laid-requires c =
     let st = a.store.now in
     let ld = loaded-in p.0 c.bases_of-bases.result.firsts c.bases_of-bases.ensures in
     let l = c.put_ends.ensures in
-    let y = c.put_lists.ensures in
-    let room : 0 + 96 ≤ length c.put_lists.new.lists = omega (arith, y.1.long) in (
-      (work_in a.a st, lent-in a.a st p.0 _ l.0 l.1 a.b _ 0 _ (λ i. (room, y.0)) ld),
+    let y = c.put_lists.ensures in (
+      (work_in a.a st, lent-in a.a st p.0 _ l.0 l.1 a.b _ 0 _ (λ i. (omega arith, y)) ld),
       c.if-memory-total.false ∙ loaded-total ld _ c.total.ensures,
     )
 
@@ -50,7 +47,6 @@ returns c =
     let ld = loaded-in p.0 c.bases_of-bases.result.firsts c.bases_of-bases.ensures in
     let l = c.put_ends.ensures in
     let y = c.put_lists.ensures in
-    let room : 0 + 96 ≤ length c.put_lists.new.lists = omega (arith, y.1.long) in
     leaves-called a.a st a.b a.self.done a.memory.now (c.if-memory-total.false ∙ loaded-total ld _ c.total.ensures) _ l.0 c.wrong_state.result
     c.wrong_state.ensures c.if-wrong_state.false p.1 _ _ _
-    (c.step_laid.ensures (work_in a.a st) (lent-in a.a st p.0 _ l.0 l.1 a.b _ 0 _ (λ i. (room, y.0)) ld))
+    (c.step_laid.ensures (work_in a.a st) (lent-in a.a st p.0 _ l.0 l.1 a.b _ 0 _ (λ i. (omega arith, y)) ld))

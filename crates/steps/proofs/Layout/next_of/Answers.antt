@@ -37,13 +37,13 @@ pub nth_of-x-requires : goal.nth_of-x-requires
 nth_of-x-requires c =
     let a = c.args in
     let k = (goal.at.nth_of-x-requires c).After-phase_of-phase in
-    nth-asks c.requires.0.1 c.requires.0.2 c.requires.1 a.counts.now k.phase_of-phase.result (come k) (within k) _ _ c.loops_in-loops.ensures
-    (ap (λ (n : ℕ). column a.counts.now a.b - n) c.before-3.ensures) (omega (arith, c.if-before-done.false, c.before-2.ensures))
+    nth-asks c.requires.0.1 c.requires.0.2 c.requires.1 a.counts.now k.phase_of-phase.result (come k) (within k) _ _ _ _ c.loops_in-loops.ensures
+    (ap (λ (n : ℕ). column a.counts.now a.b - n) c.before-3.ensures) c.of-ranges.ensures (omega (arith, c.if-before-done.false, c.before-2.ensures))
 
 pub returns : goal.returns
 returns c =
     let a = c.args in
     let k = (goal.at.returns c).After-phase_of-phase in
-    λ w p h. nth-says p h c.requires.1 a.counts.now k.phase_of-phase.result (come k) (within k) _ _ c.loops_in-loops.ensures
-    (ap (λ (n : ℕ). column a.counts.now a.b - n) c.before-3.ensures) (omega (arith, c.if-before-done.false, c.before-2.ensures))
+    λ w p h. nth-says p h c.requires.1 a.counts.now k.phase_of-phase.result (come k) (within k) _ _ _ _ c.loops_in-loops.ensures
+    (ap (λ (n : ℕ). column a.counts.now a.b - n) c.before-3.ensures) c.of-ranges.ensures (omega (arith, c.if-before-done.false, c.before-2.ensures))
     (sym c.if-is_closed.false ∙ c.is_closed.ensures) c.nth_of-x.result c.nth_of-x.ensures

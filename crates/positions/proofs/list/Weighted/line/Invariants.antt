@@ -2,7 +2,7 @@ use Rattle.std.proofs.Common.{ℕ, ◌≤◌, ◌*◌, ◌^◌}
 use Rattle.blocks.specs.Sums.{total}
 use Rattle.positions.specs.Lines.{Counted}
 use Rattle.positions.specs.Code.{weighted_in}
-use Rattle.positions.proofs.list.Columns.line.Given as goal
+use Rattle.positions.proofs.list.Weighted.line.Given as goal
 
 -- the line counts the first k loops
 abbrev pub invariant-loop-k : goal.invariant-loop-k

@@ -1,6 +1,6 @@
 use Rattle.std.proofs.Common.{◌≤◌, ◌-◌}
 use Rattle.positions.specs.Code.{BracketIn}
-use Rattle.positions.proofs.list.Columns.find.Given as goal
+use Rattle.positions.proofs.list.Weighted.find.Given as goal
 
 -- the bracket closes until it holds one sum
 abbrev pub invariant-loop-s : goal.invariant-loop-s
