@@ -1,6 +1,7 @@
 #!/usr/bin/env python3
 """Lists the places in crates/*/src that docs/DESIGN-PASS.md counts, a line for each: point, kind of place, file:line, text.
-usage: tools/forms.py [COMMIT] [-c | -o]     (the checkout, or the sources at a commit; -c: the numbers alone; -o: counted in another way,
+usage: tools/forms.py [COMMIT] [-c | -f | -o]     (the checkout, or the sources at a commit; -c: the numbers alone; -f: the facts that the clauses
+`requires` of three functions or more have, with how many; -o: counted in another way,
 by what a line says and not by names: steps of a count, comments that name a value for nothing, functions that answer a number beside such a comment,
 numbers compared with numbers that name a case, and pairs of parameters that stand together in three functions of a crate or more)"""
 import re
@@ -54,6 +55,38 @@ def parameters(text):
         yield text.count('\n', 0, m.start()) + 1 + (1 if m.group(0).startswith('\n') else 0), m.group(1), re.findall(r'(?:^|,)\s*(?:mut )?(\w+):', m.group(2))
 
 
+def facts(clause):
+    """The facts of a clause: what stands between the products, without brackets around it, and without `now` and `old`."""
+    parts, depth, start = [], 0, 0
+    for i, letter in enumerate(clause):
+        depth += letter in '([{'
+        depth -= letter in ')]}'
+        if letter == '×' and depth == 0:
+            parts.append(clause[start:i])
+            start = i + 1
+    parts.append(clause[start:])
+    for part in parts:
+        part = re.sub(r'\.(now|old)\b', '', part).strip()
+        if part.startswith('(') and part.endswith(')') and part.count('(') == part.count(')'):
+            inner = part[1:-1]
+            if '×' in inner:
+                yield from facts(inner)
+                continue
+            part = inner
+        yield part
+
+
+def repeated_facts(files):
+    found = {}
+    for name, text in files:
+        for m in re.finditer(r'^\s*requires (?:\w+ )?\{ (.*) \}$', text, re.M):
+            for fact in facts(m.group(1)):
+                found.setdefault(fact, []).append(name.split('/')[1])
+    for fact, crates in sorted(found.items(), key=lambda f: (-len(f[1]), f[0])):
+        if len(crates) >= 3:
+            print(f'5\t{len(crates)}\t{fact}\t{" ".join(sorted(set(crates)))}')
+
+
 def another_way(files):
     """What the lines above might pass over, found by the form of a line alone."""
     for name, text in files:
@@ -79,8 +112,11 @@ def another_way(files):
 
 
 def main():
-    arguments = [a for a in sys.argv[1:] if a not in ('-c', '-o')]
+    arguments = [a for a in sys.argv[1:] if a not in ('-c', '-f', '-o')]
     files = sources(arguments[0] if arguments else None)
+    if '-f' in sys.argv:
+        repeated_facts(files)
+        return
     if '-o' in sys.argv:
         another_way(files)
         return
