@@ -347,6 +347,6 @@ pub fn read_record(s: &[u8], at: usize, t: Summary, lens: &[u32; MOST_ARRAYS]) -
 {
     match record_at(s, at, t, lens) {
         Ok((r, n)) => passing(r, n),
-        Err(g) => Tested::Refused(Refusal::met(g, at)),
+        Err(g) => Tested::Refused(g.met(at)),
     }
 }

@@ -187,10 +187,10 @@ fn judged(a: &Amounts, store: &Store) -> Result<(), Refusal>
     ensures { result ≡ result_of (λ _. tt) (judged_in (table_in store.now) a.now) }
 {
     if too_large(a) {
-        return Err(Refusal::met(Ground::Plan, 0));
+        return Err(Ground::Plan.met(0));
     }
     match least_unmet(store, a) {
-        Some((j, k)) => Err(Refusal::naming(Ground::Unmet, j, k, 0)),
+        Some((j, k)) => Err(Ground::Unmet.naming(j, k, 0)),
         None => Ok(()),
     }
 }
@@ -202,7 +202,7 @@ pub fn by_hand(bytes: &[u8], used: u32, store: &Store) -> Result<Amounts, Refusa
 {
     let loops = reader::loops_in(store);
     if used as usize != 8 * loops {
-        return Err(Refusal::met(Ground::Plan, 0));
+        return Err(Ground::Plan.met(0));
     }
     let a = read_amounts(bytes, 2, 0, loops);
     judged(&a, store)?;

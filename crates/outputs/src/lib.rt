@@ -10,5 +10,5 @@ use refusals::{Ground, Refusal};
 pub fn short() -> Refusal
     ensures { result ≡ met 13 0 }
 {
-    Refusal::met(Ground::Buffer, 0)
+    Ground::Buffer.met(0)
 }

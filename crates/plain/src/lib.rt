@@ -71,7 +71,7 @@ fn run_table(store: &Store, memory: &mut [f64]) -> Result<(), Refusal>
 {
     let bases = iterations::bases_of(store);
     if memory.len() != bases.total() {
-        return Err(Refusal::met(Ground::Memory, 0));
+        return Err(Ground::Memory.met(0));
     }
     let table = Placed {
         store,

@@ -112,7 +112,7 @@ fn plan_read(w: Settings, hand: Option<Amounts>, store: &Store) -> Result<Axis, 
     let span = span_of(store);
     let threshold = amounts::threshold_of(found) as u32;
     if blocks::short(span.count, w.line, w.processors, threshold) {
-        return Err(Refusal::met(Ground::Short, 0));
+        return Err(Ground::Short.met(0));
     }
     let Amounts { shifts, peels } = found;
     Ok(Axis {
@@ -132,10 +132,10 @@ fn plan_unless(s: &[u8], wrong: bool, w: Settings, store: &mut Store) -> Result<
     serial::read_through(s, store)?;
     let hand = given(w, store)?;
     if wrong {
-        return Err(Refusal::met(Ground::Processors, 0));
+        return Err(Ground::Processors.met(0));
     }
     if bad_line(w) {
-        return Err(Refusal::met(Ground::Line, 0));
+        return Err(Ground::Line.met(0));
     }
     plan_read(w, hand, store)
 }

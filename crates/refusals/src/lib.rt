@@ -34,6 +34,20 @@ impl Ground {
     {
         self as u32
     }
+
+    // Met at a place, naming nothing.
+    pub fn met(self, place: usize) -> Refusal
+        ensures { result ≡ met (number_of self) place }
+    {
+        Refusal::met(self.number(), place)
+    }
+
+    // Met at a place, naming two numbers.
+    pub fn naming(self, place: usize, first: usize, second: usize) -> Refusal
+        ensures { result ≡ naming (number_of self) place first second }
+    {
+        Refusal::naming(self.number(), place, first, second)
+    }
 }
 
 // The ground's number, 0 where nothing is refused; the place; and what is named, two numbers: of 9 the read, and 0; of 20, whose
@@ -60,11 +74,11 @@ impl Refusal {
     }
 
     // A ground that names nothing, met at a place.
-    pub fn met(cause: Ground, place: usize) -> Self
-        ensures { result ≡ met (number_of cause) place }
+    pub fn met(ground: u32, place: usize) -> Self
+        ensures { result ≡ met ground place }
     {
         Refusal {
-            ground: cause.number(),
+            ground,
             place,
             first: 0,
             second: 0,
@@ -72,11 +86,11 @@ impl Refusal {
     }
 
     // A ground that names two numbers.
-    pub fn naming(cause: Ground, place: usize, first: usize, second: usize) -> Self
-        ensures { result ≡ naming (number_of cause) place first second }
+    pub fn naming(ground: u32, place: usize, first: usize, second: usize) -> Self
+        ensures { result ≡ naming ground place first second }
     {
         Refusal {
-            ground: cause.number(),
+            ground,
             place,
             first,
             second,

@@ -88,7 +88,7 @@ fn run_planned(a: Axis, order: &[u8], store: &Store, memory: &mut [f64]) -> Resu
 {
     let bases = iterations::bases_of(store);
     if memory.len() != bases.total() {
-        return Err(Refusal::met(Ground::Memory, 0));
+        return Err(Ground::Memory.met(0));
     }
     let mut ends = NO_ENDS;
     layouts::put_ends(a, store, &mut ends);

@@ -213,7 +213,7 @@ fn check_loops(store: &Store) -> Result<(), Refusal>
     let loops = reader::loops_in(store);
     for k in 0..loops {
         if let Some((m, n)) = loop_hit(k, store) {
-            return Err(Refusal::naming(Ground::Serial, k, m, n));
+            return Err(Ground::Serial.naming(k, m, n));
         }
     }
     Ok(())

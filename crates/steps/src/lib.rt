@@ -96,7 +96,7 @@ impl Counts {
         ensures { (w : Work Iteration) → LentIn w b layout.now at → Leaves (called w (table_in layout.now.store.now) b self.done memory.old) result.counts.done memory.new result.report }
     {
         if layout.barriers.processors <= b {
-            return self.refused(Refusal::met(Ground::Processors, 0));
+            return self.refused(Ground::Processors.met(0));
         }
         let report = layout.next_of(&self.done, b, at);
         if let Report::Performed { number, index } = report {
@@ -120,7 +120,7 @@ impl Counts {
     {
         let bases = iterations::bases_of(store);
         if memory.len() != bases.total() {
-            return self.refused(Refusal::met(Ground::Memory, 0));
+            return self.refused(Ground::Memory.met(0));
         }
         let mut ends = NO_ENDS;
         layouts::put_ends(a, store, &mut ends);
@@ -130,7 +130,7 @@ impl Counts {
             phases: PHASES,
         };
         if barriers.wrong_state(&self.done) {
-            return self.refused(Refusal::met(Ground::State, 0));
+            return self.refused(Ground::State.met(0));
         }
         let mut lists = [Lists::new(); 1];
         layouts::put_lists(a, b, store, &mut lists[0]);
