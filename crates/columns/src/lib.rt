@@ -13,7 +13,7 @@ pub type Column = [u16; MOST_ROWS];
 
 // References, each at its position in each of four columns: its array; its array again where it stores, and where it reads NONE; its loop; its
 // offset. What a pair needs is one number of a column: a destination's partners have its array in the first, a read's have it in the second.
-#[derive(Drop)]
+#[derive(Clone, Copy)]
 pub struct Columns {
     arrays: Column,
     stored: Column,

@@ -6,7 +6,7 @@ use crate::{MOST_ARRAYS, MOST_LOOPS, MOST_ROWS, Row};
 
 // A table as it is kept (reader/specs/Store.antt): the lengths of the arrays; of each loop its bounds and the row at which it begins, with
 // where the rows end behind them; the rows; and how many arrays and how many loops there are.
-#[derive(Drop)]
+#[derive(Clone, Copy)]
 pub struct Store {
     pub lengths: [u32; MOST_ARRAYS],
     pub firsts: [u32; MOST_LOOPS],
