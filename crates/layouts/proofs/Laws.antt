@@ -51,7 +51,7 @@ module _ (a : Axis) (c : Store) (h : Laid a c) where
 
       ended : (n d : ℕ) → n < 2 → d < b + 1 → Dec (d ≡ b) → column (get_or (with_ends a c b ends) n []) d ≡ before (work_in a c) (suc n) d
       ended n d l i (yes q) = rw q (ends-here a c b ends y.rows few n l)
-      ended n d l i (no q) = ends-other a c b ends y.rows n d q ∙ y.are n d l (omega arith)
+      ended n d l i (no q) = ends-other a c b ends y.rows n d (λ z. q) ∙ y.are n d l (omega arith)
 
   pub ending-all : (ends : List (List ℕ)) (b : ℕ) → Ending a c ends b → a.blocks ≤ b → Ended (work_in a c) ends
   ending-all ends b y l = record {
@@ -62,11 +62,12 @@ module _ (a : Axis) (c : Store) (h : Laid a c) where
   }
 
   -- and the lists of the first b are kept
-  pub standing-next : (xs ys : List Lists) (b : ℕ) (x : Lists) → Standing a c xs b → b < a.blocks → ys ≡ set xs b x → Stands a c x b → Standing a c ys (b + 1)
-  standing-next xs ys b x y more e s = rw e (record { long = simp length-set y.long; each = λ d i. kept d i (ℕ_discrete d b) })
+  pub standing-next : (old xs ys : List Lists) (b : ℕ) (x : Lists) → 64 ≤ length old → Standing a c old xs b → b < a.blocks → ys ≡ set xs b x → Stands a c x b
+      → Standing a c old ys (b + 1)
+  standing-next old xs ys b x many y more e s = rw e (record { long = simp length-set y.long; each = λ d i. kept d i (ℕ_discrete d b) })
     where
       room : b < length xs
-      room = omega (arith, y.long, few-blocks a c h)
+      room = omega (arith, many, y.long, few-blocks a c h)
 
       kept : (d : ℕ) → d < b + 1 → Dec (d ≡ b) → Stands a c (get_or (set xs b x) d no_lists) d
       kept d i (yes q) = rw (q, get_or-set_same xs b x no_lists room) s

@@ -49,10 +49,16 @@ module _ (a : Axis) (c : Store) (b : ℕ) where
     pub ends-rows : Rows (with_ends a c b xs)
     ends-rows = end-rows 1 b (before (work_in a c) 2 b) first one (omega arith)
 
-    pub ends-other : (n d : ℕ) → (d ≡ b → ⊥) → column (get_or (with_ends a c b xs) n []) d ≡ column (get_or xs n []) d
-    ends-other n d q =
-        end-other 1 b (before (work_in a c) 2 b) first one (omega arith) n d q
-        ∙ end-other 0 b (before (work_in a c) 1 b) xs rows (omega arith) n d q
+    pub ends-other : (n d : ℕ) → (n < 2 → d ≡ b → ⊥) → column (get_or (with_ends a c b xs) n []) d ≡ column (get_or xs n []) d
+    ends-other zero d q =
+        end-other 1 b (before (work_in a c) 2 b) first one (omega arith) 0 d (q (omega arith))
+        ∙ end-other 0 b (before (work_in a c) 1 b) xs rows (omega arith) 0 d (q (omega arith))
+    ends-other (suc zero) d q =
+        end-other 1 b (before (work_in a c) 2 b) first one (omega arith) 1 d (q (omega arith))
+        ∙ end-other 0 b (before (work_in a c) 1 b) xs rows (omega arith) 1 d (q (omega arith))
+    ends-other (suc (suc n)) d q =
+        end-other-row 1 b (before (work_in a c) 2 b) first (suc (suc n)) d (λ z. omega arith)
+        ∙ end-other-row 0 b (before (work_in a c) 1 b) xs (suc (suc n)) d (λ z. omega arith)
 
     module _ (few : b < 64) where
       pub ends-here : (n : ℕ) → n < 2 → column (get_or (with_ends a c b xs) n []) b ≡ before (work_in a c) (suc n) b
@@ -67,10 +73,7 @@ module _ (a : Axis) (c : Store) (b : ℕ) where
       ends-small s f g n d = go n (ℕ_discrete d b)
         where
           go : (n : ℕ) → Dec (d ≡ b) → column (get_or (with_ends a c b xs) n []) d ≤ 3200000
-          go n (no e) = omega (arith, ends-other n d e, s n d)
+          go n (no e) = omega (arith, ends-other n d (λ z. e), s n d)
           go zero (yes e) = rw e (omega (arith, ends-here 0 (omega arith)))
           go (suc zero) (yes e) = rw e (omega (arith, ends-here 1 (omega arith)))
-          go (suc (suc n)) (yes e) =
-              let p = end-other-row 1 b (before (work_in a c) 2 b) first (suc (suc n)) d (λ z. omega arith) in
-              let q = end-other-row 0 b (before (work_in a c) 1 b) xs (suc (suc n)) d (λ z. omega arith) in
-              omega (arith, p, q, s (suc (suc n)) d)
+          go (suc (suc n)) (yes e) = omega (arith, ends-other (suc (suc n)) d (λ z. absurd (omega arith)), s (suc (suc n)) d)

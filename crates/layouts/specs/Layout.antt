@@ -49,8 +49,8 @@ module _ (a : Axis) (c : Store) where
     pub peeled : RangesKept x.peeled (loops_in c) (range_of 1 a c b) (column a.shifts)
 
   -- so are those of the first n processors, each in its own place
-  pub record Standing (xs : List Lists) (n : ℕ) : Type 0 where
-    pub long : 64 ≤ length xs
+  pub record Standing (old xs : List Lists) (n : ℕ) : Type 0 where
+    pub long : length xs ≡ length old
     pub each : (b : ℕ) → b < n → Stands (get_or xs b no_lists) b
 
   -- the rows with where processor b's phases end

@@ -78,7 +78,7 @@ pub fn put_lists(a: Axis, b: u32, store: &Store, lists: &mut Lists)
 // The lists of all processors.
 pub fn put_all_lists(a: Axis, store: &Store, lists: &mut [Lists])
     requires { Laid a store.now × (64 ≤ length lists.old) }
-    ensures { Standing a store.now lists.new a.blocks }
+    ensures { Standing a store.now lists.old lists.new a.blocks }
 {
     for b in 0..a.blocks {
         put_lists(a, b, store, &mut lists[b as usize]);

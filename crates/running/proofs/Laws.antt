@@ -1,5 +1,5 @@
 -- What a run of an accepted plan leaves, and what a refused one does.
-use Prim.Native.Nat.{ℕ}
+use Prim.Native.Nat.{ℕ, ◌≤◌}
 use native.Mathlib.Omega.{arith}
 use mathlib.Core.Path.{◌≡◌, refl, ap, ◌∙◌}
 use mathlib.Core.List.{List}
@@ -34,11 +34,11 @@ use Rattle.running.specs.Runs.{Runs}
 
 -- WHAT THE CODE IS LENT, where the plan is laid out
 module _ (a : Axis) (c : Store) (h : Laid a c) (es : List (List ℕ)) (xs : List Lists) (bs : List ℕ) (loaded : Loaded (table_in c) c bs) (ended : Ended (work_in a c) es)
-    (rows : Rows es) (stands : Standing a c xs a.blocks) where
+    (rows : Rows es) (old : List Lists) (many : 64 ≤ length old) (stands : Standing a c old xs a.blocks) where
   calling-by : (step : Step) → ((b : ℕ) (cs : List ℕ) (m : List Float) → length m ≡ element_total (table_in c) → Reachable (work_in a c) cs
       → step b cs m ≡ called (work_in a c) (table_in c) b cs m) → Calling (work_in a c) step a.blocks es xs c bs
   calling-by step calls = record {
-    lent = λ b. lent-in a c h es ended rows b xs b bs (λ l. (omega (arith, stands.long, few-blocks a c h), stands.each b l)) loaded;
+    lent = λ b. lent-in a c h es ended rows b xs b bs (λ l. (omega (arith, many, stands.long, few-blocks a c h), stands.each b l)) loaded;
     calls = calls;
   }
 

@@ -1,3 +1,4 @@
+use native.Mathlib.Omega.{arith}
 use mathlib.Core.Path.{refl, sym, ◌∙◌}
 use Rattle.barriers.proofs.Same.{zeros-small, zeros-rows}
 use Rattle.iterations.specs.LoadedLaws.{loaded-total}
@@ -31,7 +32,7 @@ run_row-requires c =
     let ld = loaded-in p bs.result.firsts bs.ensures in
     let n = loaded-total ld _ c.total.ensures in
     let l = c.put_ends.ensures in (
-      calling-some a.a st p _ _ bs.result.firsts ld l.0 l.1 c.put_all_lists.ensures,
+      calling-some a.a st p _ _ bs.result.firsts ld l.0 l.1 _ (omega arith) c.put_all_lists.ensures,
       c.if-memory-total.false ∙ n,
     )
 
@@ -47,4 +48,4 @@ returns c =
     let x = c.run_row in
     λ s w e. runs-made s w a.order.now a.memory.now (planned_in a.a st) e (c.if-memory-total.false ∙ n) _ x.result
     (x.ensures (work_in a.a st) (step s w)
-    (calling-in a.a st p _ _ bs.result.firsts ld l.0 l.1 c.put_all_lists.ensures s w e))
+    (calling-in a.a st p _ _ bs.result.firsts ld l.0 l.1 _ (omega arith) c.put_all_lists.ensures s w e))
