@@ -84,8 +84,9 @@ module _ (c : Store) (k f l : ℕ) where
   bounds-lasts i n = get_or-set_other c.lasts k i l 0 n
 
   pub bounds-leave : ((with_bounds k f l c).lengths ≡ c.lengths) × ((with_bounds k f l c).starts ≡ c.starts) × ((with_bounds k f l c).rows ≡ c.rows)
+      × (arrays_in (with_bounds k f l c) ≡ arrays_in c) × (loops_in (with_bounds k f l c) ≡ loops_in c)
   unfolding with_bounds
-  bounds-leave = (refl, refl, refl)
+  bounds-leave = (refl, refl, refl, refl, refl)
 
   pub bounds-lengths : (n : ℕ) → take n (with_bounds k f l c).lengths ≡ take n c.lengths
   unfolding with_bounds

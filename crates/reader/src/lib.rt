@@ -118,7 +118,7 @@ pub fn last_destination(store: &Store, k: usize) -> usize
     let start = start_at(store, k);
     let past = start_at(store, k + 1);
     for r in (start + 1..past).rev() {
-        if is_destination(store, r) {
+        if kind_at(store, r) == RowKind::Destination {
             return r;
         }
     }
@@ -232,7 +232,7 @@ pub fn read_table(s: &[u8], store: &mut Store) -> Result<(), Refusal>
             }
             Tested::Ended(n) => {
                 if n < s.len() {
-                    return Err(Refusal::met(Ground::Tail, n));
+                    return Err(Ground::Tail.met(n));
                 }
                 put_counts(t.arrays, t.loops, store);
                 return Ok(());

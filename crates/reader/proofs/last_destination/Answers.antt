@@ -19,8 +19,8 @@ pub loop-r-init : goal.loop-r-init
 loop-r-init c =
     behind-last c.requires.0 c.args.k c.requires.1 c.start_at-past.result c.start_at-past.ensures
 
-pub is_destination-requires : goal.is_destination-requires
-is_destination-requires c =
+pub kind_at-requires : goal.kind_at-requires
+kind_at-requires c =
     let l = c.loop-r in
     behind-few c.requires.0 c.args.k c.requires.1 (l.r - 1) l.invariant
 
