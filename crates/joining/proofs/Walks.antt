@@ -1,9 +1,9 @@
 -- The comparison of two lists of lengths, and the copying of bytes.
-use Prim.Native.Nat.{ℕ, ◌+◌, ◌≤◌, ◌<◌}
+use Prim.Native.Nat.{ℕ, suc, ◌+◌, ◌≤◌, ◌<◌}
 use native.Mathlib.Omega.{arith}
 use native.Mathlib.Numerals.{add-one}
 use mathlib.Core.Path.{◌≡◌, refl, sym, ap, ◌∙◌}
-use mathlib.Core.Bool.{Bool, ◌&&◌}
+use mathlib.Core.Bool.{Bool, false, ◌&&◌, and-false}
 use mathlib.Core.List.{List, [], ◌∷◌, ◌++◌, append_assoc}
 use lib.ListN.{length, get_or, set, drop, length-append}
 use lib.Seq.{take_at, drop_at, drop-drop, paste, paste-zero, paste-suc, length-paste}
@@ -19,6 +19,14 @@ pointwise_alike [] [] = refl
 pointwise_alike [] (y ∷ ys) = refl
 pointwise_alike (x ∷ xs) [] = refl
 pointwise_alike (x ∷ xs) (y ∷ ys) = ap (λ (b : Bool). eqb x y && b) (pointwise_alike xs ys)
+
+-- lists of two lengths are not alike
+pub alike-long : (xs ys : List ℕ) → (length xs ≡ length ys → ⊥) → alike xs ys ≡ false
+unfolding alike
+alike-long [] [] d = absurd (d refl)
+alike-long [] (y ∷ ys) d = refl
+alike-long (x ∷ xs) [] d = refl
+alike-long (x ∷ xs) (y ∷ ys) d = ap (λ (b : Bool). eqb x y && b) (alike-long xs ys (λ e. d (ap suc e))) ∙ and-false (eqb x y)
 
 -- COPIES, byte by byte (the code copies slices whole): so far k bytes of `from` stand in `to` from `at` on
 module _ (from before : List ℕ) (at : ℕ) where

@@ -20,7 +20,8 @@ fn same_lengths(ours: &Store, theirs: &Store) -> bool
     requires { Held ours.now × Held theirs.now }
     ensures { result ≡ alike (table_in ours.now).lengths (table_in theirs.now).lengths }
 {
-    ours.lengths[..reader::arrays_in(ours)] == theirs.lengths[..reader::arrays_in(theirs)]
+    let n = reader::arrays_in(ours);
+    n == reader::arrays_in(theirs) && ours.lengths[..n] == theirs.lengths[..n]
 }
 
 // Writes left without its end, and right without its arrays; or 13, with nothing written.
@@ -48,11 +49,11 @@ pub fn join(left: &[u8], right: &[u8], out: &mut [u8]) -> Result<usize, Refusal>
     let mut theirs = Store::new();
     serial::read_through(right, &mut theirs)?;
     if !same_lengths(&ours, &theirs) {
-        return Err(Refusal::met(Ground::Unlike, 0));
+        return Err(Ground::Unlike.met(0));
     }
     let total = reader::loops_in(&ours) + reader::loops_in(&theirs);
     if MOST_LOOPS < total {
-        return Err(Refusal::met(Ground::Crowd, 0));
+        return Err(Ground::Crowd.met(0));
     }
     write(left, right, reader::arrays_in(&ours), out)
 }
