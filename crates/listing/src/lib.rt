@@ -36,7 +36,7 @@ fn put_range(out: &mut Writer, phase: u32, b: u32, k: usize, r: Range)
         return;
     }
     let word: &[u8] = if phase == 0 { b"fused" } else { b"peeled" };
-    let last = r.past - 1;
+    let last = r.past.saturating_sub(1);
     out.put_line(word, &[b as usize, k, r.from as usize, last as usize]);
 }
 

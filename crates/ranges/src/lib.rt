@@ -83,8 +83,10 @@ pub fn lengths_of(a: &Axis, b: u32, store: &Store) -> Lengths
     let mut fused = 0;
     let mut peeled = 0;
     for k in 0..reader::loops_in(store) {
-        fused += range_at(Part::Fused, a, blk, b, k, store).length();
-        peeled += range_at(Part::Peeled, a, blk, b, k, store).length();
+        let f = range_at(Part::Fused, a, blk, b, k, store);
+        let p = range_at(Part::Peeled, a, blk, b, k, store);
+        fused += f.length();
+        peeled += p.length();
     }
     Lengths { fused, peeled }
 }

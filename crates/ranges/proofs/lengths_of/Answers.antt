@@ -9,12 +9,12 @@ use Rattle.ranges.proofs.lengths_of.Goals as goal
 pub block-blk-requires : goal.block-blk-requires
 block-blk-requires c = block-asks c.args.a.now c.args.store.now c.requires.0 c.args.b c.requires.1
 
-pub range_at-requires : goal.range_at-requires
-range_at-requires c =
+pub range_at-f-requires : goal.range_at-f-requires
+range_at-f-requires c =
     part-asks c.args.a.now c.args.store.now c.requires.0 c.args.b c.loop-k.k _ c.requires.1 (omega arith) c.block-blk.ensures
 
-pub range_at-requires-in-loop-k : goal.range_at-requires-in-loop-k
-range_at-requires-in-loop-k c =
+pub range_at-p-requires : goal.range_at-p-requires
+range_at-p-requires c =
     part-asks c.args.a.now c.args.store.now c.requires.0 c.args.b c.loop-k.k _ c.requires.1 (omega arith) c.block-blk.ensures
 
 pub overflow_add-fused : goal.overflow_add-fused
@@ -22,7 +22,7 @@ overflow_add-fused c =
     let st = c.args.store.now in
     let l = c.loop-k in
     let i : l.k < loops_in st = omega arith in
-    let n = summed-next c.args.a.now st c.requires.0 0 c.args.b l.k l.fused _ c.range_at.result i l.invariant.0 (rw c.block-blk.ensures at c.range_at.ensures) c.length-fused.ensures in
+    let n = summed-next c.args.a.now st c.requires.0 0 c.args.b l.k l.fused _ c.range_at-f.result i l.invariant.0 (rw c.block-blk.ensures at c.range_at-f.ensures) c.length-fused.ensures in
     omega (arith, few-loops c.args.a.now st c.requires.0)
 
 pub overflow_add-peeled : goal.overflow_add-peeled
@@ -30,7 +30,7 @@ overflow_add-peeled c =
     let st = c.args.store.now in
     let l = c.loop-k in
     let i : l.k < loops_in st = omega arith in
-    let n = summed-next c.args.a.now st c.requires.0 1 c.args.b l.k l.peeled _ c.range_at-in-loop-k.result i l.invariant.1 (rw c.block-blk.ensures at c.range_at-in-loop-k.ensures) c.length-peeled.ensures in
+    let n = summed-next c.args.a.now st c.requires.0 1 c.args.b l.k l.peeled _ c.range_at-p.result i l.invariant.1 (rw c.block-blk.ensures at c.range_at-p.ensures) c.length-peeled.ensures in
     omega (arith, few-loops c.args.a.now st c.requires.0)
 
 pub loop-k-preserved : goal.loop-k-preserved
@@ -38,8 +38,8 @@ loop-k-preserved c =
     let st = c.args.store.now in
     let l = c.loop-k in
     let i : l.k < loops_in st = omega arith in (
-      summed-next c.args.a.now st c.requires.0 0 c.args.b l.k l.fused _ c.range_at.result i l.invariant.0 (rw c.block-blk.ensures at c.range_at.ensures) c.length-fused.ensures,
-      summed-next c.args.a.now st c.requires.0 1 c.args.b l.k l.peeled _ c.range_at-in-loop-k.result i l.invariant.1 (rw c.block-blk.ensures at c.range_at-in-loop-k.ensures) c.length-peeled.ensures,
+      summed-next c.args.a.now st c.requires.0 0 c.args.b l.k l.fused _ c.range_at-f.result i l.invariant.0 (rw c.block-blk.ensures at c.range_at-f.ensures) c.length-fused.ensures,
+      summed-next c.args.a.now st c.requires.0 1 c.args.b l.k l.peeled _ c.range_at-p.result i l.invariant.1 (rw c.block-blk.ensures at c.range_at-p.ensures) c.length-peeled.ensures,
     )
 
 pub returns-clause-measures : goal.returns-clause-measures
